@@ -1,0 +1,107 @@
+//! Byte strings, which contracts see as lists of bytes.
+ghost use Rattle.std.specs.Prelude.{◌≡◌, ◌≤◌, [], length, IfOk, IsOk};
+
+use std::alloc::{AllocError, Global};
+use std::fmt;
+use std::marker::Model;
+
+/// The greatest length, in bytes, at which no memory is taken.
+pub const SHORT: usize = 30;
+
+#[derive(Drop)]
+enum Kept {
+    Short { len: u8, block: [u8; 30] },
+    Long { list: Vec<u8> },
+}
+
+/// A byte string. Up to [`SHORT`] bytes are kept inline, and take no memory.
+#[derive(Drop)]
+pub struct Bytes {
+    kept: Kept,
+}
+
+impl Model for Bytes {
+    ghost use Rattle.std.specs.Prelude.{List, ℕ};
+    ghost use Rattle.short_bytes.specs.Kept.{listed, IsKept};
+
+    ghost Value = { List ℕ };
+
+    ghost view = { λ b. listed b.kept };
+
+    ghost invariant = { λ b. IsKept b.kept };
+}
+
+impl Bytes {
+    /// The empty string.
+    pub fn none() -> Bytes
+        ensures { result ≡ [] }
+    {
+        Bytes {
+            kept: Kept::Short {
+                len: 0,
+                block: [0; 30],
+            },
+        }
+    }
+
+    /// A copy of these bytes. It fails only for want of memory, and never where they are short.
+    #[inline]
+    pub fn of(alloc: Global, bytes: &[u8]) -> Result<Bytes, AllocError>
+        ensures made { IfOk result (λ made. made ≡ bytes.now) }
+        ensures short { length bytes.now ≤ 30 → IsOk result }
+    {
+        if bytes.len() <= SHORT {
+            Ok(Bytes::short(bytes))
+        } else {
+            Ok(Bytes {
+                kept: Kept::Long {
+                    list: Vec::from_slice(alloc, bytes)?,
+                },
+            })
+        }
+    }
+
+    /// A copy of these bytes, which takes no memory.
+    #[inline]
+    pub fn short(bytes: &[u8]) -> Bytes
+        requires { length bytes.now ≤ 30 }
+        ensures { result ≡ bytes.now }
+    {
+        let n = bytes.len();
+        let mut block = [0u8; 30];
+        block[..n].copy_from_slice(bytes);
+        Bytes {
+            kept: Kept::Short {
+                len: n as u8,
+                block,
+            },
+        }
+    }
+
+    /// The bytes.
+    #[inline]
+    pub fn list(&self) -> &[u8]
+        ensures { result.now ≡ self.now }
+    {
+        match &self.kept {
+            Kept::Short { len, block } => &block[..*len as usize],
+            Kept::Long { list } => list.as_slice(),
+        }
+    }
+
+    /// The same bytes once more. It fails only for want of memory, and never where they are short.
+    #[inline]
+    pub fn again(&self, alloc: Global) -> Result<Bytes, AllocError>
+        ensures made { IfOk result (λ made. made ≡ self.now) }
+        ensures short { length self.now ≤ 30 → IsOk result }
+    {
+        Bytes::of(alloc, self.list())
+    }
+}
+
+impl fmt::Debug for Bytes {
+    fn fmt<W: fmt::Write>(&self, f: &mut fmt::Formatter<W>) -> fmt::Result {
+        let list = self.list();
+        write!(f, "{list:?}")
+    }
+}
