@@ -1,0 +1,381 @@
+//! The job of `tsd batch START END zimsum:METRIC`, in plain Rust with `std` alone: what the speed of `tsd` is
+//! measured against. It accepts and refuses the same lines, and prints the same bytes.
+
+use std::collections::{BTreeMap, HashMap};
+use std::io::{self, BufRead, BufReader, Write};
+use std::process::ExitCode;
+
+const LONGEST_LINE: usize = 8192;
+const LONGEST_NAME: usize = 255;
+const MOST_TAGS: usize = 8;
+const LAST_SECOND: u64 = 4_294_967_295;
+const LAST_MILLISECOND: u64 = 4_294_967_295_999;
+
+const USAGE: &str =
+    "usage: tsd batch START END M | stdio | serve PORT | import | dump | fsck | fix | weave SEED N";
+
+/// Points with rising times.
+type Points = Vec<(u64, i64)>;
+
+/// The points of each series. The key is the metric and then the tags in order, between spaces.
+type Store = HashMap<Vec<u8>, Points>;
+
+/// What ends the program early: the line to print, if it isn't empty, and the exit status.
+struct Stop {
+    text: String,
+    status: u8,
+}
+
+fn refused(text: impl Into<String>) -> Stop {
+    Stop {
+        text: text.into(),
+        status: 2,
+    }
+}
+
+struct Words {
+    start: u64,
+    end: u64,
+    metric: Vec<u8>,
+}
+
+/// The parts of a line that are a point in seconds. The tags rise by key.
+struct Point<'a> {
+    metric: &'a [u8],
+    time: u64,
+    value: i64,
+    tags: Vec<(&'a [u8], &'a [u8])>,
+}
+
+fn main() -> ExitCode {
+    let (text, status) = match run() {
+        Ok(text) => (text, 0),
+        Err(stop) => (stop.text, stop.status),
+    };
+    if text.is_empty() {
+        return ExitCode::from(status);
+    }
+    let mut output = io::stdout().lock();
+    match writeln!(output, "{text}").and_then(|()| output.flush()) {
+        Ok(()) => ExitCode::from(status),
+        Err(_) => ExitCode::from(4),
+    }
+}
+
+fn run() -> Result<String, Stop> {
+    let args: Vec<String> = std::env::args().skip(1).collect();
+    let words = read_words(&args)?;
+    let store = read_lines(BufReader::with_capacity(1 << 16, io::stdin().lock()))?;
+    answer(&store, &words)
+}
+
+fn read_words(args: &[String]) -> Result<Words, Stop> {
+    let usage = || Stop {
+        text: USAGE.into(),
+        status: 1,
+    };
+    let [command, start, end, m] = args else {
+        return Err(usage());
+    };
+    let second = |text: &str| number(text.as_bytes()).filter(|second| *second <= LAST_SECOND);
+    let (Some(start), Some(end)) = (second(start), second(end)) else {
+        return Err(usage());
+    };
+    if command != "batch" || end < start {
+        return Err(usage());
+    }
+    match m.strip_prefix("zimsum:") {
+        Some(metric) if !metric.contains([':', '{']) => match name_fault(metric.as_bytes()) {
+            None => Ok(Words {
+                start,
+                end,
+                metric: metric.into(),
+            }),
+            Some(_) => Err(refused("query: bad query at byte 7")),
+        },
+        _ => Err(refused("query: not built")),
+    }
+}
+
+fn read_lines(mut input: impl BufRead) -> Result<Store, Stop> {
+    let mut store = Store::new();
+    let mut line = Vec::new();
+    let mut key = Vec::new();
+    let mut count: u64 = 0;
+    loop {
+        line.clear();
+        match input.read_until(b'\n', &mut line) {
+            Ok(0) => return Ok(store),
+            Ok(_) => count += 1,
+            Err(_) => {
+                return Err(Stop {
+                    text: String::new(),
+                    status: 3,
+                });
+            }
+        }
+        let Some(text) = line_text(&line).map_err(|fault| refused(format!("line {count}: {fault}")))? else {
+            continue;
+        };
+        let point = read_point(text).map_err(|fault| refused(format!("line {count}: {fault}")))?;
+        write_key(&mut key, &point);
+        match store.get_mut(&key) {
+            Some(points) => put(points, point.time, point.value),
+            None => {
+                store.insert(key.clone(), vec![(point.time, point.value)]);
+            }
+        }
+    }
+}
+
+/// What stands before the line's end, or nothing where the line is blank.
+fn line_text(line: &[u8]) -> Result<Option<&[u8]>, String> {
+    let (text, ended) = match line.strip_suffix(b"\n") {
+        Some(text) => (text, true),
+        None => (line, false),
+    };
+    if text.len() > LONGEST_LINE {
+        return Err("line too long".into());
+    }
+    let text = match text.strip_suffix(b"\r") {
+        Some(text) if ended => text,
+        _ => text,
+    };
+    Ok(text.iter().any(|b| *b != b' ').then_some(text))
+}
+
+fn read_point(text: &[u8]) -> Result<Point<'_>, String> {
+    let mut words = text.split(|b| *b == b' ').filter(|word| !word.is_empty());
+    let (Some(metric), Some(time), Some(value), Some(first)) =
+        (words.next(), words.next(), words.next(), words.next())
+    else {
+        let found = text.split(|b| *b == b' ').filter(|word| !word.is_empty()).count();
+        return Err(format!("not enough words (4 needed, {found} found)"));
+    };
+    if let Some(fault) = name_fault(metric) {
+        return Err(format!("metric name {fault}"));
+    }
+    let (time, fine) = read_time(time).ok_or("bad time")?;
+    let value = read_value(value)?;
+    let tags = read_tags(std::iter::once(first).chain(words))?;
+    if fine {
+        return Err("not built".into());
+    }
+    Ok(Point {
+        metric,
+        time,
+        value,
+        tags,
+    })
+}
+
+/// The number of one or more digits, which stops at the last `u64`.
+fn number(digits: &[u8]) -> Option<u64> {
+    if digits.is_empty() {
+        return None;
+    }
+    digits.iter().try_fold(0u64, |number, digit| {
+        digit
+            .is_ascii_digit()
+            .then(|| number.saturating_mul(10).saturating_add(u64::from(digit - b'0')))
+    })
+}
+
+/// The time, and whether it is in milliseconds.
+fn read_time(text: &[u8]) -> Option<(u64, bool)> {
+    if text.len() == 14 && text[10] == b'.' {
+        let second = number(&text[..10])?;
+        let millisecond = number(&text[11..])?;
+        return (second <= LAST_SECOND && 0 < second + millisecond)
+            .then_some((second * 1000 + millisecond, true));
+    }
+    match number(text)? {
+        0 => None,
+        second if second <= LAST_SECOND => Some((second, false)),
+        millisecond if millisecond <= LAST_MILLISECOND => Some((millisecond, true)),
+        _ => None,
+    }
+}
+
+fn read_value(text: &[u8]) -> Result<i64, &'static str> {
+    let (negative, text) = match text {
+        [b'-', digits @ ..] => (true, digits),
+        [b'+', digits @ ..] => (false, digits),
+        _ => (false, text),
+    };
+    let digits = text.iter().take_while(|b| b.is_ascii_digit()).count();
+    match text.get(digits) {
+        _ if digits == 0 => return Err("bad value"),
+        Some(b'.' | b'e' | b'E') => return Err("floats are not stored"),
+        Some(_) => return Err("bad value"),
+        None => {}
+    }
+    let size = number(text).unwrap_or(u64::MAX);
+    if negative {
+        0i64.checked_sub_unsigned(size).ok_or("value too large")
+    } else {
+        i64::try_from(size).map_err(|_| "value too large")
+    }
+}
+
+/// The tags in order of their keys. A pair that stands twice counts once.
+fn read_tags<'a>(words: impl Iterator<Item = &'a [u8]>) -> Result<Vec<(&'a [u8], &'a [u8])>, String> {
+    let mut tags: Vec<(&[u8], &[u8])> = Vec::with_capacity(MOST_TAGS);
+    let mut contradicted = None;
+    for (index, word) in (1..).zip(words) {
+        let Some(at) = word.iter().position(|b| *b == b'=') else {
+            return Err(format!("tag {index} has no ="));
+        };
+        let (key, value) = (&word[..at], &word[at + 1..]);
+        if let Some(fault) = name_fault(key) {
+            return Err(format!("tag {index}: tagk name {fault}"));
+        }
+        if let Some(fault) = name_fault(value) {
+            return Err(format!("tag {index}: tagv name {fault}"));
+        }
+        match tags.binary_search_by(|tag| tag.0.cmp(key)) {
+            Ok(at) if tags[at].1 == value => {}
+            Ok(_) => contradicted = contradicted.or(Some(key)),
+            Err(at) => tags.insert(at, (key, value)),
+        }
+    }
+    if let Some(key) = contradicted {
+        return Err(format!("two values for tagk {}", text_of(key)));
+    }
+    if tags.len() > MOST_TAGS {
+        return Err(format!("{} tags (8 at most)", tags.len()));
+    }
+    Ok(tags)
+}
+
+/// What is wrong with a name.
+fn name_fault(name: &[u8]) -> Option<String> {
+    if name.is_empty() {
+        return Some("is empty".into());
+    }
+    if name.len() > LONGEST_NAME {
+        return Some(format!("has {} bytes (255 at most)", name.len()));
+    }
+    let at = name.iter().position(|b| !is_name_byte(*b))?;
+    Some(format!("has byte 0x{:02x} at {at}", name[at]))
+}
+
+fn is_name_byte(b: u8) -> bool {
+    b.is_ascii_alphanumeric() || matches!(b, b'-' | b'_' | b'.' | b'/')
+}
+
+/// A name, which is ASCII.
+fn text_of(name: &[u8]) -> &str {
+    std::str::from_utf8(name).unwrap_or_default()
+}
+
+fn write_key(key: &mut Vec<u8>, point: &Point) {
+    key.clear();
+    key.extend_from_slice(point.metric);
+    for (tag, value) in &point.tags {
+        key.push(b' ');
+        key.extend_from_slice(tag);
+        key.push(b'=');
+        key.extend_from_slice(value);
+    }
+}
+
+/// Puts a point in, over one that has its time. Points mostly come in order.
+fn put(points: &mut Points, time: u64, value: i64) {
+    if points.last().is_none_or(|last| last.0 < time) {
+        points.push((time, value));
+        return;
+    }
+    match points.binary_search_by_key(&time, |point| point.0) {
+        Ok(at) => points[at].1 = value,
+        Err(at) => points.insert(at, (time, value)),
+    }
+}
+
+fn answer(store: &Store, words: &Words) -> Result<String, Stop> {
+    let metric = text_of(&words.metric);
+    let mut is_known = false;
+    let mut shared = Shared::default();
+    let mut sums: BTreeMap<u64, i128> = BTreeMap::new();
+    for (key, points) in store {
+        let mut parts = key.split(|b| *b == b' ');
+        if parts.next() != Some(&words.metric) {
+            continue;
+        }
+        is_known = true;
+        let from = points.partition_point(|point| point.0 < words.start);
+        let chosen = points[from..].iter().take_while(|point| point.0 <= words.end);
+        let mut is_empty = true;
+        for (time, value) in chosen {
+            is_empty = false;
+            *sums.entry(*time).or_default() += i128::from(*value);
+        }
+        if !is_empty {
+            shared.add(parts);
+        }
+    }
+    if !is_known {
+        return Err(refused(format!("query: unknown metric {metric}")));
+    }
+    for (time, sum) in &sums {
+        if i64::try_from(*sum).is_err() {
+            return Err(refused(format!("query: overflow at {time}")));
+        }
+    }
+    if sums.is_empty() {
+        return Ok("[]".into());
+    }
+    Ok(json(metric, &shared, &sums))
+}
+
+/// The keys that all series have, with their value where it is the same in all.
+#[derive(Default)]
+struct Shared<'a> {
+    keys: Option<BTreeMap<&'a [u8], Option<&'a [u8]>>>,
+}
+
+impl<'a> Shared<'a> {
+    fn add(&mut self, tags: impl Iterator<Item = &'a [u8]>) {
+        let tags = tags.filter_map(|tag| {
+            let at = tag.iter().position(|b| *b == b'=')?;
+            Some((&tag[..at], &tag[at + 1..]))
+        });
+        match &mut self.keys {
+            None => self.keys = Some(tags.map(|(key, value)| (key, Some(value))).collect()),
+            Some(keys) => {
+                let tags: Vec<_> = tags.collect();
+                keys.retain(|key, shared| match tags.iter().find(|tag| tag.0 == *key) {
+                    Some((_, value)) => {
+                        *shared = shared.filter(|shared| shared == value);
+                        true
+                    }
+                    None => false,
+                });
+            }
+        }
+    }
+}
+
+fn json(metric: &str, shared: &Shared, sums: &BTreeMap<u64, i128>) -> String {
+    let keys = shared.keys.iter().flatten();
+    let aggregated: Vec<String> = keys
+        .clone()
+        .filter(|(_, value)| value.is_none())
+        .map(|(key, _)| format!("\"{}\"", text_of(key)))
+        .collect();
+    let tags: Vec<String> = keys
+        .filter_map(|(key, value)| Some(format!("\"{}\":\"{}\"", text_of(key), text_of((*value)?))))
+        .collect();
+    let mut dps: Vec<String> = sums
+        .iter()
+        .map(|(time, sum)| format!("\"{time}\":{sum}"))
+        .collect();
+    // A quote stands below each digit, so this is the order of the times' texts.
+    dps.sort_unstable();
+    format!(
+        "[{{\"aggregateTags\":[{}],\"dps\":{{{}}},\"metric\":\"{metric}\",\"tags\":{{{}}}}}]",
+        aggregated.join(","),
+        dps.join(","),
+        tags.join(","),
+    )
+}

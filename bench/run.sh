@@ -1,0 +1,76 @@
+#!/usr/bin/env bash
+# Times `tsd batch` against plain.rs, the same job in plain Rust, and prints a Markdown table.
+#
+#     bench/run.sh PROGRAM [RUNS]
+#
+# PROGRAM is the built `tsd_main`. Each program reads each data set RUNS times (3 if left out), and the fastest run
+# counts. Their outputs have to be equal, byte for byte. All data goes into a temporary folder.
+set -euo pipefail
+
+if [ $# -lt 1 ]; then
+    echo "usage: $0 PROGRAM [RUNS]" >&2
+    exit 1
+fi
+here=$(cd "$(dirname "$0")" && pwd)
+program=$(realpath "$1")
+runs=${2:-3}
+folder=$(mktemp -d)
+trap 'rm -rf "$folder"' EXIT
+
+rustc --edition 2024 -O -o "$folder/plain" "$here/plain.rs"
+
+# Series, points of each, tags.
+sets=("1000 100 2" "1000 1000 2" "100000 10 2" "1000 1000 8")
+
+# The peak memory of a command, in KiB, goes into the file $folder/peak. What Python measures is never below its own.
+with_peak() {
+    if [ -x /usr/bin/time ]; then
+        /usr/bin/time -f %M -o "$folder/peak" "$@"
+    else
+        python3 -c 'import resource, subprocess, sys
+status = subprocess.call(sys.argv[2:])
+print(resource.getrusage(resource.RUSAGE_CHILDREN).ru_maxrss, file=open(sys.argv[1], "w"))
+sys.exit(status)' "$folder/peak" "$@"
+    fi
+}
+
+# measure PROGRAM LAST_TIME OUTPUT: sets `micros`, of the fastest run, and `peak`, the greatest, in KiB.
+measure() {
+    micros=
+    peak=0
+    local run begin end
+    for ((run = 0; run < runs; run++)); do
+        begin=${EPOCHREALTIME/[.,]/}
+        with_peak "$1" batch 1356998400 "$2" zimsum:sys.cpu.user <"$folder/lines" >"$3"
+        end=${EPOCHREALTIME/[.,]/}
+        if [ -z "$micros" ] || [ $((end - begin)) -lt "$micros" ]; then
+            micros=$((end - begin))
+        fi
+        if [ "$(cat "$folder/peak")" -gt "$peak" ]; then
+            peak=$(cat "$folder/peak")
+        fi
+    done
+}
+
+echo '| series | points each | tags | lines | tsd, lines/s | plain, lines/s | time, tsd / plain | tsd, peak MB | plain, peak MB | memory, tsd / plain |'
+echo '|---|---|---|---|---|---|---|---|---|---|'
+for set in "${sets[@]}"; do
+    read -r series points tags <<<"$set"
+    python3 "$here/generate.py" "$series" "$points" --tags "$tags" >"$folder/lines"
+    last=$((1356998400 + (points - 1) * 10))
+    measure "$folder/plain" "$last" "$folder/plain.json"
+    plain_micros=$micros
+    plain_peak=$peak
+    measure "$program" "$last" "$folder/tsd.json"
+    if ! cmp "$folder/tsd.json" "$folder/plain.json"; then
+        echo "$0: the outputs differ at $series series of $points points with $tags tags" >&2
+        exit 1
+    fi
+    awk -v series="$series" -v points="$points" -v tags="$tags" -v ours="$micros" -v theirs="$plain_micros" \
+        -v our_peak="$peak" -v their_peak="$plain_peak" 'BEGIN {
+        lines = series * points
+        printf "| %d | %d | %d | %d | %.0f | %.0f | %.2f | %.1f | %.1f | %.2f |\n", series, points, tags, lines,
+            lines * 1e6 / ours, lines * 1e6 / theirs, ours / theirs,
+            our_peak / 1024, their_peak / 1024, our_peak / their_peak
+    }'
+done

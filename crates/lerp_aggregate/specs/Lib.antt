@@ -1,0 +1,3 @@
+pub mod Aggregation
+pub mod Laws
+pub mod Sums

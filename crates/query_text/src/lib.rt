@@ -1,0 +1,7 @@
+//! Queries, and the readers of their texts.
+#![tactic(auto)]
+
+pub mod queries;
+pub mod subs;
+#[cfg(test)]
+mod tests;

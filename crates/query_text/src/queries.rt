@@ -1,0 +1,123 @@
+//! What queries ask.
+ghost use Rattle.std.specs.Prelude.{◌≡◌};
+
+use std::marker::Model;
+use tsd_base::kinds::{Aggregator, Down};
+use tsd_base::names::Name;
+
+/// Names in the order of a text, which contracts see as a list.
+#[derive(Debug, Drop)]
+pub struct NameList {
+    list: Vec<Name>,
+}
+
+impl Model for NameList {
+    ghost use Rattle.std.specs.Prelude.{List, ℕ};
+
+    ghost Value = { List (List ℕ) };
+
+    ghost view = { λ names. names.list.items };
+}
+
+impl NameList {
+    /// These names.
+    pub fn of(list: Vec<Name>) -> NameList
+        ensures { result ≡ list.items }
+    {
+        NameList { list }
+    }
+
+    /// The names.
+    pub fn list(&self) -> &[Name]
+        ensures { result.now ≡ self.now }
+    {
+        self.list.as_slice()
+    }
+
+    /// The names, given back.
+    pub fn into_list(self) -> Vec<Name>
+        ensures { result.items ≡ self }
+    {
+        let NameList { list } = self;
+        list
+    }
+}
+
+/// What a filter asks of the value of its key.
+#[derive(Debug, Drop)]
+pub enum Test {
+    /// Any value.
+    Any,
+    /// One of these values.
+    OneOf { names: NameList },
+    /// A value, and none of these.
+    NotOneOf { names: NameList },
+}
+
+/// A filter: the series that have this key with a value that passes the test.
+#[derive(Debug, Drop)]
+pub struct Filter {
+    pub key: Name,
+    pub test: Test,
+    /// Whether each value of the key makes a group of its own.
+    pub group: bool,
+}
+
+/// Filters in the order of a text, which contracts see as a list.
+#[derive(Debug, Drop)]
+pub struct FilterList {
+    list: Vec<Filter>,
+}
+
+impl Model for FilterList {
+    ghost use Rattle.std.specs.Prelude.{List};
+    ghost use Rattle.query_text.specs.declared.queries.Filter.{Filter};
+
+    ghost Value = { List Filter };
+
+    ghost view = { λ filters. filters.list.items };
+}
+
+impl FilterList {
+    /// These filters.
+    pub fn of(list: Vec<Filter>) -> FilterList
+        ensures { result ≡ list.items }
+    {
+        FilterList { list }
+    }
+
+    /// The filters.
+    pub fn list(&self) -> &[Filter]
+        ensures { result.now ≡ self.now }
+    {
+        self.list.as_slice()
+    }
+
+    /// The filters, given back.
+    pub fn into_list(self) -> Vec<Filter>
+        ensures { result.items ≡ self }
+    {
+        let FilterList { list } = self;
+        list
+    }
+}
+
+/// A sub query: the series of one metric that pass each filter, made into groups.
+#[derive(Debug, Drop)]
+pub struct Sub {
+    /// How the series of a group make one value at each time.
+    pub how: Aggregator,
+    /// How the points of one series are put into buckets beforehand.
+    pub down: Option<Down>,
+    pub metric: Name,
+    pub filters: FilterList,
+}
+
+/// Why a text is no query.
+#[derive(Clone, Copy, Debug, PartialEq, Eq)]
+pub enum QueryFault {
+    /// The text of a sub query can't be read from the byte at this place, from 0, on.
+    BadM { at: usize },
+    /// There was no memory for the query.
+    OutOfMemory,
+}

@@ -1,0 +1,7 @@
+pub mod EntryLemmas
+pub mod NamesLemmas
+pub mod Numerals
+pub mod Parts
+pub mod PointLemmas
+pub mod TagLemmas
+pub mod TimesLemmas

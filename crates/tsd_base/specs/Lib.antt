@@ -1,0 +1,14 @@
+pub mod Alphabet
+pub mod Digits
+pub mod Dots
+pub mod Faults
+pub mod Moments
+pub mod Names
+pub mod Points
+pub mod Readings
+pub mod TagList
+pub mod TagOrder
+pub mod Tags
+pub mod Times
+pub mod Values
+pub mod Words

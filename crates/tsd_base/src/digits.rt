@@ -1,0 +1,22 @@
+//! Decimal digits.
+ghost use Rattle.std.specs.Prelude.{◌≡◌, ◌^◌, ◌-◌, min, MatchOption, true, false};
+ghost use Rattle.std.specs.Str.Parse.{digits_value};
+ghost use Rattle.tsd_base.specs.Digits.{is_number};
+
+/// The number of a text of one or more decimal digits, of any length; at most the last `u64`.
+pub fn read_digits(text: &[u8]) -> Option<u64>
+    ensures { MatchOption result (is_number text.now ≡ false)
+        (λ n. (is_number text.now ≡ true) × (n ≡ min (digits_value 10 text.now) (2 ^ 64 - 1))) }
+{
+    if text.is_empty() {
+        return None;
+    }
+    let mut n: u64 = 0;
+    for b in text {
+        if !b.is_ascii_digit() {
+            return None;
+        }
+        n = n.saturating_mul(10).saturating_add(u64::from(*b - b'0'));
+    }
+    Some(n)
+}

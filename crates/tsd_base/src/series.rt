@@ -1,0 +1,70 @@
+//! The points of one series in order of time.
+ghost use Rattle.std.specs.Prelude.{◌≡◌, ◌<◌, [], ◌∷◌, ◌++◌, All, OnOk, OnErr};
+ghost use Rattle.tsd_base.specs.Dots.{IsRising, IsAboveAll};
+
+use std::alloc::{AllocError, Global};
+use std::marker::Model;
+
+/// Times in milliseconds with their values, at rising times.
+///
+/// Contracts see it as the list of the pairs.
+#[derive(Drop)]
+pub struct Dots {
+    list: Vec<(u64, i64)>,
+}
+
+impl Model for Dots {
+    ghost use Rattle.std.specs.Prelude.{List, ℕ, ℤ};
+    ghost use Rattle.tsd_base.specs.Dots.{IsRising};
+
+    ghost Value = { List (ℕ × ℤ) };
+
+    ghost view = { λ d. d.list.items };
+
+    ghost invariant = { λ d. IsRising d.list.items };
+}
+
+impl Dots {
+    /// No points.
+    pub fn make(alloc: Global) -> Dots
+        ensures { result ≡ [] }
+    {
+        Dots {
+            list: Vec::new(alloc),
+        }
+    }
+
+    /// Adds a point behind the last one. It fails only for want of memory, and then nothing changes.
+    #[inline]
+    pub fn push(&mut self, time: u64, value: i64) -> Result<(), AllocError>
+        requires { IsAboveAll time self.old }
+        ensures ok { OnOk result (self.new ≡ self.old ++ (time, value) ∷ []) }
+        ensures err { OnErr result (self.new ≡ self.old) }
+    {
+        self.list.push((time, value))?;
+        Ok(())
+    }
+
+    /// The points, at rising times.
+    #[inline]
+    pub fn list(&self) -> &[(u64, i64)]
+        ensures list { result.now ≡ self.now }
+        ensures rising { IsRising self.now }
+    {
+        self.list.as_slice()
+    }
+}
+
+#[cfg(test)]
+mod tests {
+    use super::*;
+
+    #[test]
+    fn keeps_dots(rt: HostRuntime) -> Result<(), AllocError> {
+        let mut dots = Dots::make(rt.alloc());
+        dots.push(1, -5)?;
+        dots.push(7, 0)?;
+        assert_eq!(rt; dots.list(), &[(1, -5), (7, 0)][..]);
+        Ok(())
+    }
+}

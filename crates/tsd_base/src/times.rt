@@ -1,0 +1,118 @@
+//! Times in text, and the hour of a row.
+ghost use Rattle.std.specs.Prelude.{◌≡◌, ◌≤◌, ◌*◌, ◌/◌, length};
+ghost use Rattle.tsd_base.specs.Times.{time_of, whole_time, dotted_of, is_dotted};
+
+use crate::digits::read_digits;
+
+/// The last second that a time can have.
+pub const LAST_SECOND: u64 = 4_294_967_295;
+
+/// The last time, in milliseconds.
+pub const LAST_TIME: u64 = 4_294_967_295_999;
+
+/// A text that is no time.
+#[derive(Clone, Copy, Debug, PartialEq, Eq)]
+pub struct BadTime;
+
+/// Reads a time: its milliseconds, and whether it was given in milliseconds.
+///
+/// Digits alone are seconds up to 4294967295 and milliseconds from there to 4294967295999; 0 is no time. Ten digits,
+/// a dot and three digits are milliseconds of a second up to 4294967295, and not 0.
+#[tactic(auto, using(crate::proofs::TimesLemmas::times))]
+pub fn read_time(text: &[u8]) -> Result<(u64, bool), BadTime>
+    ensures { result ≡ time_of text.now }
+{
+    if is_dotted(text) {
+        return read_dotted(&text[..10], &text[11..]);
+    }
+    match read_digits(text) {
+        Some(n) => whole_time(n),
+        None => Err(BadTime),
+    }
+}
+
+/// The base time of the row that holds a time: its seconds rounded down to a multiple of 3600.
+pub fn base_of(time: u64) -> u32
+    requires { time ≤ 4294967295999 }
+    ensures { result ≡ time / 3600000 * 3600 }
+{
+    (time / 3_600_000 * 3600) as u32
+}
+
+/// Whether a text has the form of seconds, a dot and three digits.
+fn is_dotted(text: &[u8]) -> bool
+    ensures { result ≡ is_dotted text.now }
+{
+    text.len() == 14 && text[10] == b'.'
+}
+
+/// The time of a number: of seconds, or from 2 ^ 32 on of milliseconds.
+fn whole_time(n: u64) -> Result<(u64, bool), BadTime>
+    ensures { result ≡ whole_time n }
+{
+    match n {
+        1..=LAST_SECOND => Ok((n * 1000, false)),
+        0 => Err(BadTime),
+        _ if n <= LAST_TIME => Ok((n, true)),
+        _ => Err(BadTime),
+    }
+}
+
+/// The time of seconds and milliseconds, each in digits alone.
+#[tactic(auto, using(crate::proofs::TimesLemmas::times))]
+fn read_dotted(seconds: &[u8], millis: &[u8]) -> Result<(u64, bool), BadTime>
+    requires { length millis.now ≡ 3 }
+    ensures { result ≡ dotted_of seconds.now millis.now }
+{
+    match (read_digits(seconds), read_digits(millis)) {
+        (Some(second), Some(milli)) if second <= LAST_SECOND && 0 < second + milli => {
+            Ok((second * 1000 + milli, true))
+        }
+        _ => Err(BadTime),
+    }
+}
+
+#[cfg(test)]
+mod tests {
+    use super::*;
+
+    #[test]
+    fn reads_times(rt: HostRuntime) {
+        let cases = [
+            ("0", Err(BadTime)),
+            ("1", Ok((1000, false))),
+            ("4294967295", Ok((4_294_967_295_000, false))),
+            ("4294967296", Ok((4_294_967_296, true))),
+            ("4294967295999", Ok((4_294_967_295_999, true))),
+            ("4294967296000", Err(BadTime)),
+            ("1364410924.250", Ok((1_364_410_924_250, true))),
+            ("1364410924.25", Err(BadTime)),
+            ("4294967296.000", Err(BadTime)),
+            ("-1", Err(BadTime)),
+            ("", Err(BadTime)),
+            ("0000000000.001", Ok((1, true))),
+            ("0000000000.000", Err(BadTime)),
+            (
+                "0000000000000000000000000000000000000000000000001",
+                Ok((1000, false)),
+            ),
+            ("999999999999999999999999999999", Err(BadTime)),
+        ];
+        for (text, want) in cases {
+            assert_eq!(rt; read_time(text.as_bytes()), want, "at {text:?}");
+        }
+    }
+
+    #[test]
+    fn rounds_down_to_the_hour(rt: HostRuntime) {
+        let cases = [
+            (1_356_998_400_000, 1_356_998_400),
+            (4_294_967_295_999, 4_294_965_600),
+            (3_599_999, 0),
+        ];
+        for (time, want) in cases {
+            assert!(rt; time <= LAST_TIME);
+            assert_eq!(rt; base_of(time), want, "at {time}");
+        }
+    }
+}

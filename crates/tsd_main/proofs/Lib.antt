@@ -1,0 +1,10 @@
+pub mod AnswerLemmas
+pub mod BufferLemmas
+pub mod ChosenLemmas
+pub mod CollectLemmas
+pub mod InputEnds
+pub mod InputLemmas
+pub mod LineLemmas
+pub mod QueryLemmas
+pub mod ReplyLemmas
+pub mod RunLemmas

@@ -1,0 +1,119 @@
+-- What is printed, and its status.
+use Rattle.std.proofs.Common.{◌≡◌, ℕ, ◌*◌, Bool, true, false, cond, List, [], ◌++◌, refl, sym, ap, subst, ◌∙◌}
+use Rattle.std.specs.Prelude.{Option, Some, None, Result, Ok, Err}
+use Rattle.std.specs.Io.KnownBytes.{Appends}
+use Rattle.std.specs.List.{list_any}
+use Rattle.tsd_base.specs.Tags.{is_same}
+use Rattle.tsd_base.specs.Points.{DataPoint}
+use Rattle.tsd_main.specs.declared.status.Status.{Status}
+use Rattle.tsd_main.specs.declared.status.Status.TheVariants.{Done, Usage, Refused, ReadFault, WriteFault, Memory, SessionFull}
+use Rattle.tsd_main.specs.declared.query.Query.{Query}
+use Rattle.tsd_main.specs.declared.input.InputFault.{InputFault}
+use Rattle.tsd_main.specs.declared.input.InputFault.TheVariants as fault
+use Rattle.tsd_main.specs.declared.printed.Printed.{Printed}
+use Rattle.tsd_main.specs.Commands.{Batch}
+use Rattle.tsd_main.specs.Queries.{metric_of}
+use Rattle.tsd_main.specs.QueriesRead.{IsQueryOf}
+use Rattle.tsd_main.specs.Lines.{points_of}
+use Rattle.tsd_main.specs.Replies.{Group}
+use Rattle.tsd_main.specs.Answers.{answer_of}
+use Rattle.tsd_main.specs.Outcomes.{Outcome, outcome, over_input, over_points, answered, replied}
+use Rattle.tsd_main.specs.Printing.{outcome_of}
+use Rattle.tsd_main.specs.Runs.{Decides, Decided, ReadsInput, Works, Answers, Runs}
+use Rattle.tsd_main.specs.Working.{WorksQuery, DecidesQuery, DecidedQuery, over_lines}
+
+-- a status that something printed has
+abbrev pub IsPrinted : Status → Type 0
+IsPrinted Done = Unit {0}
+IsPrinted Usage = Unit {0}
+IsPrinted Refused = Unit {0}
+IsPrinted ReadFault = ⊥
+IsPrinted WriteFault = ⊥
+IsPrinted Memory = ⊥
+IsPrinted SessionFull = ⊥
+
+replied_printed : (r : Result (List Group) ℕ) → IsPrinted (replied r).status
+replied_printed (Ok groups) = tt
+replied_printed (Err time) = tt
+
+cond_printed : (b : Bool) (x y : Outcome) → IsPrinted x.status → IsPrinted y.status → IsPrinted (cond b x y).status
+cond_printed true x y p q = p
+cond_printed false x y p q = q
+
+answered_printed : (start end : ℕ) (metric : List ℕ) (points : List DataPoint) → IsPrinted (answered start end metric points).status
+answered_printed start end metric points = cond_printed (list_any (λ p. is_same p.metric metric) points) (replied (answer_of start end metric points)) _ (replied_printed (answer_of start end metric points)) tt
+
+over_points_printed : (batch : Batch) (metric : List ℕ) (r : Result (List DataPoint) (ℕ × List ℕ)) → IsPrinted (over_points batch metric r).status
+over_points_printed batch metric (Ok points) = answered_printed (batch.start * 1000) (batch.end * 1000) metric points
+over_points_printed batch metric (Err line) = tt
+
+over_input_printed : (batch : Batch) (m : Result (List ℕ) (List ℕ)) (input : List ℕ) → IsPrinted (over_input batch m input).status
+over_input_printed batch (Ok metric) input = over_points_printed batch metric (points_of input)
+over_input_printed batch (Err text) input = tt
+
+outcome_printed : (command : Option Batch) (input : List ℕ) → IsPrinted (outcome command input).status
+outcome_printed (Some batch) input = over_input_printed batch (metric_of batch.query) input
+outcome_printed None input = tt
+
+decided_printed : (command : Option Batch) (input : List ℕ) (ended : Bool) (o : Outcome) → Decides command input ended o → IsPrinted o.status
+decided_printed command input true o d = subst (λ (x : Outcome). IsPrinted x.status) d (outcome_printed command input)
+decided_printed command input false o d = subst (λ (x : Outcome). IsPrinted x.status) (d []) (outcome_printed command (input ++ []))
+
+printed_answers : (command : Option Batch) (input : List ℕ) (ended : Bool) (output : List ℕ) (status : Status) → IsPrinted status → Decides command input ended (record { status = status; text = output }) → (status ≡ Done → ended ≡ true)
+    → Answers command input ended output status
+printed_answers command input ended output Done p d e = (d, e refl)
+printed_answers command input ended output Usage p d e = d
+printed_answers command input ended output Refused p d e = d
+printed_answers command input ended output ReadFault p d e = absurd p
+printed_answers command input ended output WriteFault p d e = absurd p
+printed_answers command input ended output Memory p d e = absurd p
+printed_answers command input ended output SessionFull p d e = absurd p
+
+module _ (command : Option Batch) (taken taken' left left' held held' : Option (List ℕ)) where
+  -- all was printed
+  pub runs_printed : (printed : Printed) → Works command taken taken' left left' (Ok printed) → Appends held held' printed.text.items → Runs command taken taken' left left' held held' printed.status
+  runs_printed printed w h = record {
+    input = w.input;
+    ended = w.ended;
+    output = printed.text.items;
+    bytes = w.bytes;
+    gives = h;
+    answers = printed_answers command w.input w.ended printed.text.items printed.status (decided_printed command w.input w.ended (outcome_of printed) w.decided.0) w.decided.0 w.decided.1;
+  }
+
+  -- a front was printed
+  pub runs_front : (printed : Printed) (front rest : List ℕ) → Works command taken taken' left left' (Ok printed) → printed.text.items ≡ front ++ rest → Appends held held' front → Runs command taken taken' left left' held held' WriteFault
+  runs_front printed front rest w is h = record { input = w.input; ended = w.ended; output = front; bytes = w.bytes; gives = h; answers = (outcome_of printed, w.decided.0, (rest, is)) }
+
+  pub printed_status : (printed : Printed) → Works command taken taken' left left' (Ok printed) → IsPrinted printed.status
+  printed_status printed w = decided_printed command w.input w.ended (outcome_of printed) w.decided.0
+
+-- a batch's outcome is that of its query
+query_outcome_is : (batch : Batch) (query : Query) (input : List ℕ) → IsQueryOf query batch → outcome (Some batch) input ≡ over_lines query (points_of input)
+query_outcome_is batch query input q = ap (λ m. over_input batch m input) q.metric ∙ of_points (points_of input)
+  where
+    of_points : (r : Result (List DataPoint) (ℕ × List ℕ)) → over_points batch query.metric r ≡ over_lines query r
+    of_points (Ok points) = ap (λ n. answered n (batch.end * 1000) query.metric points) (sym q.start) ∙ ap (λ n. answered query.start n query.metric points) (sym q.end)
+    of_points (Err line) = refl
+
+query_decides : (batch : Batch) (query : Query) (input : List ℕ) (ended : Bool) (o : Outcome) → IsQueryOf query batch → DecidesQuery query input ended o → Decides (Some batch) input ended o
+query_decides batch query input true o q d = query_outcome_is batch query input q ∙ d
+query_decides batch query input false o q d = λ more. query_outcome_is batch query (input ++ more) q ∙ d more
+
+pub reads_input : (batch : Batch) (query : Query) → IsQueryOf query batch → ReadsInput (Some batch)
+reads_input batch query q = record { batch = batch; command_is = refl; metric = query.metric; query = q.metric }
+
+query_decided : (batch : Batch) (query : Query) (input : List ℕ) (ended : Bool) (result : Result Printed InputFault) → IsQueryOf query batch → DecidedQuery query input ended result → Decided (Some batch) input ended result
+query_decided batch query input ended (Ok printed) q d = (query_decides batch query input ended (outcome_of printed) q d.0, d.1)
+query_decided batch query input ended (Err fault.Failed) q d = ((reads_input batch query q, d.0), d.1)
+query_decided batch query input ended (Err fault.Full) q d = ((reads_input batch query q, d.0), d.1)
+query_decided batch query input ended (Err fault.OutOfMemory) q d = tt
+
+-- a batch whose query is good is worked as its query is
+pub works_query : (batch : Batch) (query : Query) (taken taken' left left' : Option (List ℕ)) (result : Result Printed InputFault) → IsQueryOf query batch → WorksQuery query taken taken' left left' result → Works (Some batch) taken taken' left left' result
+works_query batch query taken taken' left left' result q w = record {
+  input = w.input;
+  ended = w.ended;
+  bytes = record { takes = w.takes; leaves = w.leaves; end = w.end; asked = λ _. reads_input batch query q; most = w.most; early = w.early };
+  decided = query_decided batch query w.input w.ended result q w.decided;
+}

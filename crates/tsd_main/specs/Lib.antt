@@ -1,0 +1,17 @@
+pub mod Answers
+pub mod Batches
+pub mod Blocks
+pub mod Buffers
+pub mod Collecting
+pub mod Commands
+pub mod Inputs
+pub mod Judgements
+pub mod Lines
+pub mod Outcomes
+pub mod Printing
+pub mod Queries
+pub mod QueriesRead
+pub mod Replies
+pub mod Runs
+pub mod Statuses
+pub mod Working

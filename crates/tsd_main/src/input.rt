@@ -1,0 +1,135 @@
+//! Reading all points of an input.
+ghost use Rattle.std.specs.Prelude.{◌≡◌, ◌+◌, ◌^◌, ◌<◌, ◌≤◌, [], codes, length, Err, IfOk};
+ghost use Rattle.tsd_io.specs.Causes.{Rose};
+ghost use Rattle.tsd_main.specs.Collecting.{Collects};
+ghost use Rattle.tsd_main.specs.Inputs.{ReadsLine, ReadsLines, ReadsInputTo};
+ghost use Rattle.tsd_main.specs.declared.input.InputFault.TheVariants as fault;
+
+use crate::buffer::Buffer;
+use crate::collected::Collected;
+use crate::judging::{Judgement, LONGEST_LINE, judge};
+use crate::query::Query;
+use std::alloc::{AllocError, Global};
+use tsd_io::ports::{Failed, Source};
+
+/// The most bytes of one input.
+pub const LONGEST_INPUT: u64 = 1 << 40;
+
+/// A line that is refused: its number, from 1, and what is wrong with it.
+#[derive(Drop)]
+pub struct BadLine {
+    pub number: u64,
+    pub text: Vec<u8>,
+}
+
+/// Why an input was read neither to its end nor to a line that is refused.
+#[derive(Clone, Copy, Debug, PartialEq, Eq)]
+pub enum InputFault {
+    /// The source failed.
+    Failed,
+    /// 2^40 bytes came without their end.
+    Full,
+    /// There was no memory.
+    OutOfMemory,
+}
+
+impl From<AllocError> for InputFault {
+    ghost from_gives = { λ _ e. e ≡ fault.OutOfMemory };
+
+    fn from(_e: AllocError) -> InputFault {
+        InputFault::OutOfMemory
+    }
+}
+
+impl From<Failed> for InputFault {
+    ghost from_gives = { λ _ e. e ≡ fault.Failed };
+
+    fn from(_e: Failed) -> InputFault {
+        InputFault::Failed
+    }
+}
+
+/// Reads lines to the end of the input, or to the first line that is refused, which is the answer.
+pub fn read_points<S: Source>(
+    alloc: Global,
+    source: &mut S,
+    query: &Query,
+    collected: &mut Collected,
+) -> Result<Option<BadLine>, InputFault>
+    requires empty { Collects query.now [] collected.old }
+    ensures reads { ReadsInputTo (S.taken source.old) (S.taken source.new) (S.left source.old) (S.left source.new) query.now collected.new result }
+    ensures later { S.faults source.old ≤ S.faults source.new }
+    ensures failed { result ≡ Err InputFault.Failed → Rose (S.faults source.old) (S.faults source.new) }
+{
+    let mut buffer = Buffer::make(alloc)?;
+    let mut lines: u64 = 0;
+    let mut taken: u64 = 0;
+    loop {
+        if let Some(bad) = read_lines(alloc, &mut buffer, query, collected, &mut lines)? {
+            return Ok(Some(bad));
+        }
+        if buffer.bytes().len() > LONGEST_LINE {
+            return Ok(Some(too_long(alloc, lines + 1)?));
+        }
+        if taken == LONGEST_INPUT {
+            return Err(InputFault::Full);
+        }
+        let count = buffer.fill(source, LONGEST_INPUT - taken)?;
+        if count == 0 {
+            return Ok(read_line(alloc, buffer.bytes(), false, lines + 1, query, collected)?);
+        }
+        taken += count as u64;
+    }
+}
+
+/// The refusal of a line that has too many bytes already.
+fn too_long(alloc: Global, number: u64) -> Result<BadLine, AllocError>
+    ensures { IfOk result (λ bad. (bad.text.items ≡ codes "line too long") × (bad.number ≡ number)) }
+{
+    let text = Vec::from_slice(alloc, b"line too long")?;
+    Ok(BadLine { number, text })
+}
+
+/// Reads the lines that an LF ends, and uses them up. `lines` counts them.
+fn read_lines(
+    alloc: Global,
+    buffer: &mut Buffer,
+    query: &Query,
+    collected: &mut Collected,
+    lines: &mut u64,
+) -> Result<Option<BadLine>, AllocError>
+    requires { lines.old + length buffer.old < 2 ^ 64 }
+    ensures reads { IfOk result (ReadsLines buffer.old buffer.new lines.old lines.new query.now collected.old collected.new) }
+    ensures count { lines.new + length buffer.new ≤ lines.old + length buffer.old }
+{
+    while let Some(end) = buffer.line_end() {
+        let line = &buffer.bytes()[..end];
+        if let Some(bad) = read_line(alloc, line, true, *lines + 1, query, collected)? {
+            return Ok(Some(bad));
+        }
+        buffer.skip(end + 1);
+        *lines += 1;
+    }
+    Ok(None)
+}
+
+/// Reads one line of these bytes, of which an LF followed or not. A line that is refused is the answer.
+fn read_line(
+    alloc: Global,
+    bytes: &[u8],
+    ended: bool,
+    number: u64,
+    query: &Query,
+    collected: &mut Collected,
+) -> Result<Option<BadLine>, AllocError>
+    ensures { IfOk result (ReadsLine (record { bytes = bytes.now; ended = ended }) number query.now collected.old collected.new) }
+{
+    match judge(alloc, bytes, ended)? {
+        Judgement::Blank => Ok(None),
+        Judgement::Taken { point } => {
+            collected.add(alloc, query, point)?;
+            Ok(None)
+        }
+        Judgement::Refused { text } => Ok(Some(BadLine { number, text })),
+    }
+}

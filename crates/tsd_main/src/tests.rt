@@ -1,0 +1,319 @@
+use crate::run::run;
+use crate::status::Status;
+use std::alloc::{AllocError, Global};
+use std::process::Abort;
+use std::test::Fail;
+use tsd_io::memory::{MemSink, MemSource};
+
+/// What a run of these words, between semicolons, gives over an input.
+fn ran(
+    alloc: Global,
+    words: &str,
+    input: &[u8],
+    cuts: Vec<usize>,
+    failing: Vec<u64>,
+    sink_failing: Vec<u64>,
+) -> Result<(Status, Vec<u8>), AllocError> {
+    let mut list = Vec::new(alloc);
+    for word in words.split(';') {
+        list.push(String::from_str(alloc, word)?)?;
+    }
+    let mut source = MemSource::make(Vec::from_slice(alloc, input)?, cuts, failing);
+    let mut sink = MemSink::make(alloc, 65_536, sink_failing)?;
+    let status = run(alloc, &list, &mut source, &mut sink);
+    Ok((status, Vec::from_slice(alloc, sink.held())?))
+}
+
+/// Asserts what a run over devices that never fail gives.
+fn expect(
+    rt: &impl Abort,
+    alloc: Global,
+    words: &str,
+    input: &[u8],
+    output: &[u8],
+    status: Status,
+) -> Result<(), Fail> {
+    let (found, text) = ran(
+        alloc,
+        words,
+        input,
+        Vec::new(alloc),
+        Vec::new(alloc),
+        Vec::new(alloc),
+    )?;
+    assert_eq!(rt; text.as_slice(), output);
+    assert_eq!(rt; found, status);
+    Ok(())
+}
+
+const USAGE: &[u8] =
+    b"usage: tsd batch START END M | stdio | serve PORT | import | dump | fsck | fix | weave SEED N\n";
+
+#[test]
+fn other_words_print_the_usage(rt: HostRuntime) -> Result<(), Fail> {
+    for words in [
+        "batch;1;10",
+        "batch;10;1;zimsum:m",
+        "batch;1;10;zimsum:m;--ms",
+        "batch;1;4294967296;zimsum:m",
+        "batch;-1;10;zimsum:m",
+        "batch;;10;zimsum:m",
+        "Batch;1;10;zimsum:m",
+        "stdio",
+        "",
+    ] {
+        expect(&rt, rt.alloc(), words, b"m 1 x h=a\n", USAGE, Status::Usage)?;
+    }
+    Ok(())
+}
+
+#[test]
+fn queries_are_refused_before_lines(rt: HostRuntime) -> Result<(), Fail> {
+    let cases: [(&str, &[u8]); 7] = [
+        ("batch;1;10;sum:m", b"query: not built\n"),
+        ("batch;1;10;zimsum", b"query: not built\n"),
+        ("batch;1;10;zimsum:rate:m", b"query: not built\n"),
+        ("batch;1;10;zimsum:m{h=a}", b"query: not built\n"),
+        ("batch;1;10;zimsum:", b"query: bad query at byte 7\n"),
+        ("batch;1;10;zimsum:a b", b"query: bad query at byte 7\n"),
+        ("batch;1;10;", b"query: not built\n"),
+    ];
+    for (words, output) in cases {
+        expect(
+            &rt,
+            rt.alloc(),
+            words,
+            b"m 1 x h=a\n",
+            output,
+            Status::Refused,
+        )?;
+    }
+    Ok(())
+}
+
+#[test]
+fn the_first_bad_line_is_told(rt: HostRuntime) -> Result<(), Fail> {
+    let cases: [(&[u8], &[u8]); 14] = [
+        (
+            b"m 1356998400 1 h=a h=b\n",
+            b"line 1: two values for tagk h\n",
+        ),
+        (
+            b"m 1356998400 1 a=1 b=1 c=1 d=1 e=1 f=1 g=1 h=1 i=1\n",
+            b"line 1: 9 tags (8 at most)\n",
+        ),
+        (b"m 1356998400 1 ha\n", b"line 1: tag 1 has no =\n"),
+        (
+            b"m 1356998400 1 =a\n",
+            b"line 1: tag 1: tagk name is empty\n",
+        ),
+        (b"m 1356998400000 1 h=a\n", b"line 1: not built\n"),
+        (b"m 1356998400.250 1 h=a\n", b"line 1: not built\n"),
+        (
+            b"\n  \n\r\nm 1\n",
+            b"line 4: not enough words (4 needed, 2 found)\n",
+        ),
+        (
+            b"m 1 1 h=a\nm@ 0 x ha\n",
+            b"line 2: metric name has byte 0x40 at 1\n",
+        ),
+        (b"m 0 x ha\n", b"line 1: bad time\n"),
+        (b"m 1 x ha", b"line 1: bad value\n"),
+        (b"m 1 1.5 h=a", b"line 1: floats are not stored\n"),
+        (b"m 1 9223372036854775808 h=a", b"line 1: value too large\n"),
+        (
+            b"m 1 1 h=a\r",
+            b"line 1: tag 1: tagv name has byte 0x0d at 1\n",
+        ),
+        (
+            b"m 1 1 h=a\r\r\n",
+            b"line 1: tag 1: tagv name has byte 0x0d at 1\n",
+        ),
+    ];
+    for (input, output) in cases {
+        expect(
+            &rt,
+            rt.alloc(),
+            "batch;1356998400;1356998410;zimsum:n",
+            input,
+            output,
+            Status::Refused,
+        )?;
+    }
+    Ok(())
+}
+
+#[test]
+fn answers_are_sums_of_chosen_points(rt: HostRuntime) -> Result<(), Fail> {
+    let cases: [(&str, &[u8], &[u8]); 8] = [
+        (
+            "batch;1356998400;1356998410;zimsum:m",
+            b"m 1356998400 10 h=a\nm 1356998405 7 h=b\nm 1356998410 20 h=a\n",
+            b"[{\"aggregateTags\":[\"h\"],\"dps\":{\"1356998400\":10,\"1356998405\":7,\"1356998410\":20},\"metric\":\"m\",\"tags\":{}}]\n",
+        ),
+        (
+            "batch;1356998400;1356998400;zimsum:m",
+            b"m 1356998400 1 dc=x host=a\r\n\r\n   \nm 1356998400 2 host=b dc=x",
+            b"[{\"aggregateTags\":[\"host\"],\"dps\":{\"1356998400\":3},\"metric\":\"m\",\"tags\":{\"dc\":\"x\"}}]\n",
+        ),
+        (
+            "batch;5;6;zimsum:m",
+            b"m 4 1 h=a\nm 5 2 h=a\nm 6 -3 h=a\nm 7 4 h=a\nn 5 9 h=a\n",
+            b"[{\"aggregateTags\":[],\"dps\":{\"5\":2,\"6\":-3},\"metric\":\"m\",\"tags\":{\"h\":\"a\"}}]\n",
+        ),
+        (
+            "batch;0;4294967295;zimsum:m",
+            b"m 5 5 h=a\nm 5 300 h=a\nm 5 1 h=b\n",
+            b"[{\"aggregateTags\":[\"h\"],\"dps\":{\"5\":301},\"metric\":\"m\",\"tags\":{}}]\n",
+        ),
+        (
+            "batch;0;4294967295;zimsum:m",
+            b"m 1000000000 1 h=a h=a\nm 999999999 2 h=a\n",
+            b"[{\"aggregateTags\":[],\"dps\":{\"1000000000\":1,\"999999999\":2},\"metric\":\"m\",\"tags\":{\"h\":\"a\"}}]\n",
+        ),
+        (
+            "batch;0;4294967295;zimsum:m",
+            b"m 9 9223372036854775807 h=a\nm 9 -9223372036854775808 h=b\nm 9 9223372036854775807 h=c\n",
+            b"[{\"aggregateTags\":[\"h\"],\"dps\":{\"9\":9223372036854775806},\"metric\":\"m\",\"tags\":{}}]\n",
+        ),
+        (
+            "batch;0;4294967295;zimsum:m",
+            b"m 9 1 h=a r=1\nm 9 1 h=b\n",
+            b"[{\"aggregateTags\":[\"h\"],\"dps\":{\"9\":2},\"metric\":\"m\",\"tags\":{}}]\n",
+        ),
+        ("batch;1;2;zimsum:m", b"m 9 1 h=a\n", b"[]\n"),
+    ];
+    for (words, input, output) in cases {
+        expect(&rt, rt.alloc(), words, input, output, Status::Done)?;
+    }
+    Ok(())
+}
+
+#[test]
+fn queries_are_refused_over_their_points(rt: HostRuntime) -> Result<(), Fail> {
+    expect(
+        &rt,
+        rt.alloc(),
+        "batch;1;10;zimsum:a",
+        b"",
+        b"query: unknown metric a\n",
+        Status::Refused,
+    )?;
+    expect(
+        &rt,
+        rt.alloc(),
+        "batch;1;10;zimsum:a",
+        b"b 5 1 h=a\n",
+        b"query: unknown metric a\n",
+        Status::Refused,
+    )?;
+    expect(
+        &rt,
+        rt.alloc(),
+        "batch;1356998400;1356998401;zimsum:m",
+        b"m 1356998400 9223372036854775807 h=a\nm 1356998400 1 h=b\n",
+        b"query: overflow at 1356998400000\n",
+        Status::Refused,
+    )
+}
+
+#[test]
+fn lines_of_8192_bytes_are_read_and_longer_ones_are_not(rt: HostRuntime) -> Result<(), Fail> {
+    let alloc = rt.alloc();
+    for (length, status) in [(8192, Status::Done), (8193, Status::Refused)] {
+        let mut input = Vec::from_slice(alloc, b"m 5 1 h=a")?;
+        for _ in input.len()..length {
+            input.push(b' ')?;
+        }
+        let (unended, _) = ran(
+            alloc,
+            "batch;1;10;zimsum:m",
+            &input,
+            Vec::new(alloc),
+            Vec::new(alloc),
+            Vec::new(alloc),
+        )?;
+        assert_eq!(rt; unended, status);
+        input.push(b'\n')?;
+        let (ended, _) = ran(
+            alloc,
+            "batch;1;10;zimsum:m",
+            &input,
+            Vec::new(alloc),
+            Vec::new(alloc),
+            Vec::new(alloc),
+        )?;
+        assert_eq!(rt; ended, status);
+    }
+    Ok(())
+}
+
+#[test]
+fn devices_that_fail_are_told(rt: HostRuntime) -> Result<(), Fail> {
+    let alloc = rt.alloc();
+    let words = "batch;1;10;zimsum:m";
+    let (status, text) = ran(
+        alloc,
+        words,
+        b"m 5 1 h=a\n",
+        vec![in alloc; 4]?,
+        vec![in alloc; 2]?,
+        Vec::new(alloc),
+    )?;
+    assert_eq!(rt; status, Status::ReadFault);
+    assert!(rt; text.is_empty());
+    let (status, text) = ran(
+        alloc,
+        words,
+        b"m 5 1 h=a\n",
+        Vec::new(alloc),
+        Vec::new(alloc),
+        vec![in alloc; 1]?,
+    )?;
+    assert_eq!(rt; status, Status::WriteFault);
+    assert!(rt; text.is_empty());
+    // A query or a line that is refused comes before a source that fails.
+    let (status, _) = ran(
+        alloc,
+        "batch;1;10;sum:m",
+        b"",
+        Vec::new(alloc),
+        vec![in alloc; 1]?,
+        Vec::new(alloc),
+    )?;
+    assert_eq!(rt; status, Status::Refused);
+    let (status, _) = ran(
+        alloc,
+        words,
+        b"m x\nm 5 1 h=a\n",
+        vec![in alloc; 6]?,
+        vec![in alloc; 2]?,
+        Vec::new(alloc),
+    )?;
+    assert_eq!(rt; status, Status::Refused);
+    Ok(())
+}
+
+#[test]
+fn input_may_come_byte_by_byte(rt: HostRuntime) -> Result<(), Fail> {
+    let alloc = rt.alloc();
+    let input = b"m 1356998400 10 h=a\r\nm 1356998405 7 h=b\n\nm 1356998410 20 h=a";
+    let mut cuts = Vec::new(alloc);
+    for _ in 0..input.len() {
+        cuts.push(1)?;
+    }
+    let (status, text) = ran(
+        alloc,
+        "batch;1356998400;1356998410;zimsum:m",
+        input,
+        cuts,
+        Vec::new(alloc),
+        Vec::new(alloc),
+    )?;
+    assert_eq!(rt; status, Status::Done);
+    assert_eq!(rt;
+        text.as_slice(),
+        b"[{\"aggregateTags\":[\"h\"],\"dps\":{\"1356998400\":10,\"1356998405\":7,\"1356998410\":20},\"metric\":\"m\",\"tags\":{}}]\n".as_slice()
+    );
+    Ok(())
+}
