@@ -1,0 +1,6 @@
+pub mod Items
+pub mod Dots
+pub mod Faults
+pub mod Order
+pub mod Spelling
+pub mod Steps

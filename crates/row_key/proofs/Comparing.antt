@@ -1,0 +1,149 @@
+-- Rows compare as their keys.
+use Rattle.std.proofs.Common.{◌≡◌, ℕ, ◌^◌, ◌≤◌, ◌<◌, true, false, List, [], ◌∷◌, ◌++◌, refl, sym, ap, ◌∙◌, arith}
+use Rattle.std.proofs.lemmas.List.Elements.{All-head, All-tail, All-weaker}
+use Rattle.std.proofs.lemmas.Cmp.{ranked, tied_itself, nat_cmp_total, nat_list_cmp_total}
+use Rattle.std.specs.Prelude.{All, ◌↔◌}
+use Rattle.std.specs.List.{flat_map}
+use Rattle.std.specs.Int.{byte_at, bytes_high_first}
+use Rattle.std.specs.declared.cmp.Ordering.{Ordering}
+use Rattle.std.specs.declared.cmp.Ordering.TheVariants.{Less, Equal, Greater}
+use Rattle.std.specs.Ordering.{nat_cmp, ordering_then, ordering_reverse, is_lt}
+use Rattle.std.specs.Cmp.Lexicographic.{slice_cmp}
+use Rattle.row_key.specs.declared.keys.RowKey.{RowKey}
+use Rattle.row_key.specs.Key.{IsId, IsKey, key_bytes, hour_bytes, pair_bytes}
+use Rattle.row_key.specs.Order.{bytes_cmp, pair_cmp, key_cmp, IsInRange}
+use Rattle.row_key.proofs.Once.{Small}
+
+-- ---- numbers of three and of four bytes
+
+less_step : (a b : ℕ) (o : Ordering) → (b < a → ⊥) → (a ≡ b → o ≡ Less) → ordering_then (nat_cmp a b) o ≡ Less
+less_step a b o up same = at (nat_cmp a b) refl
+  where
+    at : (r : Ordering) → r ≡ nat_cmp a b → ordering_then r o ≡ Less
+    at Less e = refl
+    at Equal e = same (ranked a b Equal e)
+    at Greater e = absurd (up (ranked a b Greater e))
+
+less_three : (x y : ℕ) (r s : List ℕ) → x < y → y ≤ 16777215 → bytes_cmp (bytes_high_first 3 x ++ r) (bytes_high_first 3 y ++ s) ≡ Less
+less_three x y r s lt most =
+    less_step (byte_at 2 x) (byte_at 2 y) _ (λ u. omega (arith, lt, most, u)) (λ a.
+    less_step (byte_at 1 x) (byte_at 1 y) _ (λ u. omega (arith, lt, most, a, u)) (λ b.
+    less_step (byte_at 0 x) (byte_at 0 y) _ (λ u. omega (arith, lt, most, a, b, u)) (λ c. absurd (omega (arith, lt, most, a, b, c)))))
+
+less_four : (x y : ℕ) (r s : List ℕ) → x < y → y < 2 ^ 32 → bytes_cmp (bytes_high_first 4 x ++ r) (bytes_high_first 4 y ++ s) ≡ Less
+less_four x y r s lt most =
+    less_step (byte_at 3 x) (byte_at 3 y) _ (λ u. omega (arith, lt, most, u)) (λ a.
+    less_step (byte_at 2 x) (byte_at 2 y) _ (λ u. omega (arith, lt, most, a, u)) (λ b.
+    less_step (byte_at 1 x) (byte_at 1 y) _ (λ u. omega (arith, lt, most, a, b, u)) (λ c.
+    less_step (byte_at 0 x) (byte_at 0 y) _ (λ u. omega (arith, lt, most, a, b, c, u)) (λ d. absurd (omega (arith, lt, most, a, b, c, d))))))
+
+same_front : (front r s : List ℕ) → bytes_cmp (front ++ r) (front ++ s) ≡ bytes_cmp r s
+same_front [] r s = refl
+same_front (x ∷ front) r s = ap (λ o. ordering_then o (bytes_cmp (front ++ r) (front ++ s))) (tied_itself nat_cmp_total x) ∙ same_front front r s
+
+turned : (xs ys : List ℕ) → bytes_cmp ys xs ≡ Less → bytes_cmp xs ys ≡ Greater
+turned xs ys e = nat_list_cmp_total.antisymm xs ys ∙ ap ordering_reverse e
+
+three : (x y : ℕ) (r s : List ℕ) → x ≤ 16777215 → y ≤ 16777215 → bytes_cmp (bytes_high_first 3 x ++ r) (bytes_high_first 3 y ++ s) ≡ ordering_then (nat_cmp x y) (bytes_cmp r s)
+three x y r s lx ly = at (nat_cmp x y) refl
+  where
+    at : (o : Ordering) → o ≡ nat_cmp x y → bytes_cmp (bytes_high_first 3 x ++ r) (bytes_high_first 3 y ++ s) ≡ ordering_then o (bytes_cmp r s)
+    at Less e = less_three x y r s (ranked x y Less e) ly
+    at Equal e = ap (λ n. bytes_cmp (bytes_high_first 3 x ++ r) (bytes_high_first 3 n ++ s)) (sym (ranked x y Equal e)) ∙ same_front (bytes_high_first 3 x) r s
+    at Greater e = turned (bytes_high_first 3 x ++ r) (bytes_high_first 3 y ++ s) (less_three y x s r (ranked x y Greater e) lx)
+
+four : (x y : ℕ) (r s : List ℕ) → x < 2 ^ 32 → y < 2 ^ 32 → bytes_cmp (bytes_high_first 4 x ++ r) (bytes_high_first 4 y ++ s) ≡ ordering_then (nat_cmp x y) (bytes_cmp r s)
+four x y r s lx ly = at (nat_cmp x y) refl
+  where
+    at : (o : Ordering) → o ≡ nat_cmp x y → bytes_cmp (bytes_high_first 4 x ++ r) (bytes_high_first 4 y ++ s) ≡ ordering_then o (bytes_cmp r s)
+    at Less e = less_four x y r s (ranked x y Less e) ly
+    at Equal e = ap (λ n. bytes_cmp (bytes_high_first 4 x ++ r) (bytes_high_first 4 n ++ s)) (sym (ranked x y Equal e)) ∙ same_front (bytes_high_first 4 x) r s
+    at Greater e = turned (bytes_high_first 4 x ++ r) (bytes_high_first 4 y ++ s) (less_four y x s r (ranked x y Greater e) lx)
+
+-- ---- keys
+
+then_assoc : (a b c : Ordering) → ordering_then a (ordering_then b c) ≡ ordering_then (ordering_then a b) c
+then_assoc Less b c = refl
+then_assoc Equal b c = refl
+then_assoc Greater b c = refl
+
+pairs_compare : (ps qs : List (ℕ × ℕ)) → All Small ps → All Small qs → bytes_cmp (flat_map pair_bytes ps) (flat_map pair_bytes qs) ≡ slice_cmp pair_cmp ps qs
+pairs_compare [] [] sp sq = refl
+pairs_compare [] (q ∷ qs) sp sq = refl
+pairs_compare (p ∷ ps) [] sp sq = refl
+pairs_compare (p ∷ ps) (q ∷ qs) sp sq =
+    let a = All-head Small p ps sp in
+    let b = All-head Small q qs sq in
+    let rest = pairs_compare ps qs (All-tail Small p ps sp) (All-tail Small q qs sq) in
+    three p.0 q.0 (bytes_high_first 3 p.1 ++ flat_map pair_bytes ps) (bytes_high_first 3 q.1 ++ flat_map pair_bytes qs) a.0 b.0
+    ∙ ap (ordering_then (nat_cmp p.0 q.0)) (three p.1 q.1 (flat_map pair_bytes ps) (flat_map pair_bytes qs) a.1 b.1 ∙ ap (ordering_then (nat_cmp p.1 q.1)) rest)
+    ∙ then_assoc (nat_cmp p.0 q.0) (nat_cmp p.1 q.1) (slice_cmp pair_cmp ps qs)
+
+small_ids : (ps : List (ℕ × ℕ)) → All (λ p. IsId p.0 × IsId p.1) ps → All Small ps
+small_ids ps ids = All-weaker (λ p. IsId p.0 × IsId p.1) Small (λ p h. (h.0.1, h.1.1)) ps ids
+
+hours_compare : (m n b c : ℕ) (r s : List ℕ) → m ≤ 16777215 → n ≤ 16777215 → b < 2 ^ 32 → c < 2 ^ 32
+    → bytes_cmp (hour_bytes m b ++ r) (hour_bytes n c ++ s) ≡ ordering_then (nat_cmp m n) (ordering_then (nat_cmp b c) (bytes_cmp r s))
+hours_compare m n b c r s lm ln lb lc =
+    three m n (bytes_high_first 4 b ++ r) (bytes_high_first 4 c ++ s) lm ln ∙ ap (ordering_then (nat_cmp m n)) (four b c r s lb lc)
+
+pub keys_compare : (a b : RowKey) → IsKey a → IsKey b → bytes_cmp (key_bytes a) (key_bytes b) ≡ key_cmp a b
+keys_compare a b x y =
+    hours_compare a.metric b.metric a.base b.base (flat_map pair_bytes a.pairs.items) (flat_map pair_bytes b.pairs.items) x.metric.1 y.metric.1 x.base y.base
+    ∙ ap (λ o. ordering_then (nat_cmp a.metric b.metric) (ordering_then (nat_cmp a.base b.base) o)) (pairs_compare a.pairs.items b.pairs.items (small_ids a.pairs.items x.ids) (small_ids b.pairs.items y.ids))
+
+-- ---- a range of hours
+
+-- behind: the bytes go on, or end here
+none_below : (ys : List ℕ) → is_lt (bytes_cmp ys []) ≡ false
+none_below [] = refl
+none_below (y ∷ ys) = refl
+
+Inside : Ordering → Ordering → Type 0
+Inside low high = (is_lt low ≡ false) × (high ≡ Less)
+
+within : (m n b from to : ℕ) (o : Ordering) → is_lt o ≡ false
+    → (is_lt (ordering_then (nat_cmp m n) (ordering_then (nat_cmp b from) o)) ≡ false) × (ordering_then (nat_cmp m n) (ordering_then (nat_cmp b to) o) ≡ Less) → (m ≡ n) × (from ≤ b) × (b < to)
+within m n b from to o end h = at (nat_cmp m n) refl h
+  where
+    low : (r : Ordering) → r ≡ nat_cmp b from → is_lt (ordering_then r o) ≡ false → from ≤ b
+    low Less e h = cc
+    low Equal e h = let same = ranked b from Equal e in omega (arith, same)
+    low Greater e h = let up = ranked b from Greater e in omega (arith, up)
+
+    high : (r : Ordering) → r ≡ nat_cmp b to → ordering_then r o ≡ Less → b < to
+    high Less e h = ranked b to Less e
+    high Equal e h = let bad : true ≡ false = ap is_lt (sym h) ∙ end in absurd cc
+    high Greater e h = absurd cc
+
+    at : (r : Ordering) → r ≡ nat_cmp m n → (is_lt (ordering_then r (ordering_then (nat_cmp b from) o)) ≡ false) × (ordering_then r (ordering_then (nat_cmp b to) o) ≡ Less) → (m ≡ n) × (from ≤ b) × (b < to)
+    at Less e (p, q) = absurd cc
+    at Equal e (p, q) = (ranked m n Equal e, low (nat_cmp b from) refl p, high (nat_cmp b to) refl q)
+    at Greater e (p, q) = absurd cc
+
+from_step : (a b : ℕ) (o : Ordering) → b ≤ a → is_lt o ≡ false → is_lt (ordering_then (nat_cmp a b) o) ≡ false
+from_step a b o le end = at (nat_cmp a b) refl
+  where
+    at : (r : Ordering) → r ≡ nat_cmp a b → is_lt (ordering_then r o) ≡ false
+    at Less e = let low = ranked a b Less e in absurd (omega (arith, low, le))
+    at Equal e = end
+    at Greater e = refl
+
+inside : (m n b from to : ℕ) (o : Ordering) → is_lt o ≡ false → (m ≡ n) × (from ≤ b) × (b < to)
+    → (is_lt (ordering_then (nat_cmp m n) (ordering_then (nat_cmp b from) o)) ≡ false) × (ordering_then (nat_cmp m n) (ordering_then (nat_cmp b to) o) ≡ Less)
+inside m n b from to o end (e, low, high) =
+    let tie : nat_cmp m n ≡ Equal = ap (nat_cmp m) (sym e) ∙ tied_itself nat_cmp_total m in (
+      ap (λ r. is_lt (ordering_then r (ordering_then (nat_cmp b from) o))) tie ∙ from_step b from o low end,
+      ap (λ r. ordering_then r (ordering_then (nat_cmp b to) o)) tie ∙ less_step b to o (λ up. omega (arith, up, high)) (λ same. absurd (omega (arith, same, high))),
+    )
+
+pub hours_are_between : (key : RowKey) (metric from to : ℕ) → IsKey key → metric ≤ 16777215 → from < 2 ^ 32 → to < 2 ^ 32
+    → IsInRange (hour_bytes metric from) (hour_bytes metric to) (key_bytes key) ↔ ((key.metric ≡ metric) × (from ≤ key.base) × (key.base < to))
+hours_are_between key metric from to is lm lf lt =
+    let tags = flat_map pair_bytes key.pairs.items in
+    let end = none_below tags in
+    let a = hours_compare key.metric metric key.base from tags [] is.metric.1 lm is.base lf in
+    let b = hours_compare key.metric metric key.base to tags [] is.metric.1 lm is.base lt in (
+      λ h. within key.metric metric key.base from to (bytes_cmp tags []) end (ap is_lt (sym a) ∙ h.0, sym b ∙ h.1),
+      λ h. let w = inside key.metric metric key.base from to (bytes_cmp tags []) end h in (ap is_lt a ∙ w.0, b ∙ w.1),
+    )
