@@ -1,0 +1,17 @@
+pub mod Order
+pub mod Store
+pub mod Rising
+pub mod Codes
+pub mod Machine
+pub mod Counts
+pub mod History
+pub mod Ids
+pub mod Layout
+pub mod Sound
+pub mod Lawful
+pub mod Ranges
+pub mod Readings
+pub mod Seen
+pub mod Deeds
+pub mod Laws
+pub mod Examples

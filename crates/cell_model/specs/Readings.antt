@@ -1,0 +1,96 @@
+-- Readings: what the cells of a row say, what stands, and what was accepted.
+use Rattle.std.specs.Prelude.{◌≡◌, ◌⊎◌, ℕ, ℤ, ◌+◌, ◌*◌, List, Contains, Option, Some}
+use Rattle.tsd_base.specs.declared.kinds.Kind.{Kind}
+use Rattle.tsd_base.specs.declared.kinds.Kind.TheVariants.{Metric, TagKey, TagValue}
+use Rattle.tsd_base.specs.TagList.{Pair, RiseByKey}
+use Rattle.tsd_base.specs.Points.{DataPoint}
+use Rattle.row_key.specs.declared.tables.Table.TheVariants.{Points}
+use Rattle.row_key.specs.declared.keys.RowKey.{RowKey}
+use Rattle.row_key.specs.Key.{IsKey, key_bytes}
+use Rattle.qual_codec.specs.declared.cells.Dot.{Dot}
+use Rattle.qual_codec.specs.Dots.{IsDots}
+use Rattle.cell_model.specs.declared.cells.Row.{Row}
+use Rattle.cell_model.specs.declared.events.Step.{Step}
+use Rattle.cell_model.specs.declared.events.Step.TheVariants.{PutPoint}
+use Rattle.cell_model.specs.declared.events.Entry.{Entry}
+use Rattle.cell_model.specs.Store.{Store, value_at}
+use Rattle.cell_model.specs.History.{History, base_of, store_after, Had}
+use Rattle.cell_model.specs.Ids.{name_of}
+
+-- a value of a series at a time in milliseconds: a point without its form
+pub record Reading : Type 0 where
+  pub metric : List ℕ
+  pub tags : List Pair
+  pub time : ℕ
+  pub value : ℤ
+
+-- the reading of a point
+abbrev pub reading_of : DataPoint → Reading
+reading_of p = record { metric = p.metric; tags = p.tags; time = p.time; value = p.value }
+
+-- they have one series and one time
+pub record Meets (a b : Reading) : Type 0 where
+  pub metric : a.metric ≡ b.metric
+  pub tags : a.tags ≡ b.tags
+  pub time : a.time ≡ b.time
+
+-- no two of them have one series and one time and different values
+abbrev pub OneValued : (Reading → Type 0) → Type 0
+OneValued P = (a b : Reading) → P a → P b → Meets a b → a.value ≡ b.value
+
+-- a point row
+abbrev pub point_row : List ℕ → Row
+point_row bytes = record { table = Points; bytes = bytes }
+
+-- the two ids of a pair have these names
+abbrev pub IsNamed : (Kind → ℕ → Option (List ℕ)) → ℕ × ℕ → Pair → Type 0
+IsNamed names p t = (names TagKey p.0 ≡ Some t.0) × (names TagValue p.1 ≡ Some t.1)
+
+-- tags that rise by key, in place of pairs of ids
+pub record Named (names : Kind → ℕ → Option (List ℕ)) (pairs : List (ℕ × ℕ)) (tags : List Pair) : Type 0 where
+  pub rising : RiseByKey tags
+  pub each : (p : ℕ × ℕ) → Contains pairs p → (t : Pair) × Contains tags t × IsNamed names p t
+  pub back : (t : Pair) → Contains tags t → (p : ℕ × ℕ) × Contains pairs p × IsNamed names p t
+
+-- one data point of the row is this reading, with these names
+pub record DotReads (names : Kind → ℕ → Option (List ℕ)) (row : List ℕ) (d : Dot) (r : Reading) : Type 0 where
+  pub key : RowKey
+  pub is_key : IsKey key
+  pub row_is : row ≡ key_bytes key
+  pub metric_is : names Metric key.metric ≡ Some r.metric
+  pub tags_are : Named names key.pairs.items r.tags
+  pub time_is : r.time ≡ key.base * 1000 + d.item.offset
+  pub value_is : r.value ≡ d.value
+
+-- a cell of the row has this reading, with these names
+pub record CellReads (names : Kind → ℕ → Option (List ℕ)) (row qual value : List ℕ) (r : Reading) : Type 0 where
+  pub dots : List Dot
+  pub reads : IsDots qual value dots
+  pub dot : Dot
+  pub among : Contains dots dot
+  pub dot_reads : DotReads names row dot r
+
+-- a point cell of the store has the reading, with these names
+pub record HasReading (names : Kind → ℕ → Option (List ℕ)) (s : Store) (r : Reading) : Type 0 where
+  pub row : List ℕ
+  pub qual : List ℕ
+  pub value : List ℕ
+  pub stands : value_at s (point_row row) qual ≡ Some value
+  pub reads : CellReads names row qual value r
+
+-- the reading stands after the history
+abbrev pub IsStanding : History → Reading → Type 0
+IsStanding h r = HasReading (name_of h) (store_after h) r
+
+-- the step puts a point of this reading
+abbrev pub IsPut : Step → Reading → Type 0
+IsPut (PutPoint point row qual value) r = reading_of point ≡ r
+IsPut _ r = ⊥
+
+-- the reading is of a cell of the base, with these names, or of a point that was put
+abbrev pub AcceptedBy : (Kind → ℕ → Option (List ℕ)) → History → Reading → Type 0
+AcceptedBy names h r = HasReading names (base_of h) r ⊎ ((e : Entry) × Had h e × IsPut e.step r)
+
+-- the same, with the names that ids have after the history
+abbrev pub Accepted : History → Reading → Type 0
+Accepted h r = AcceptedBy (name_of h) h r

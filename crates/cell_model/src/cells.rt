@@ -1,0 +1,179 @@
+//! Rows and cells, as callers see them.
+ghost use Rattle.std.specs.Prelude.{◌≡◌, [], ◌∷◌, ◌++◌, IfOk, OnOk, OnErr};
+ghost use Rattle.cell_model.specs.Rising.{RiseByQual, IsAboveCells, LinesRise};
+
+use qual_codec::{Bytes, Cell};
+use row_key::Table;
+use std::alloc::{AllocError, Global};
+use std::marker::Model;
+
+/// A row of a table.
+#[derive(Debug, PartialEq, Eq, Drop)]
+pub struct Row {
+    pub table: Table,
+    pub bytes: Bytes,
+}
+
+impl Row {
+    /// The same row once more. It fails only for want of memory.
+    pub fn again(&self, alloc: Global) -> Result<Row, AllocError>
+        ensures { IfOk result (λ made. made ≡ self.now) }
+    {
+        Ok(Row {
+            table: self.table,
+            bytes: self.bytes.again(alloc)?,
+        })
+    }
+}
+
+/// The cells of a row, in byte order of their qualifiers.
+///
+/// Contracts see it as the list of the cells.
+#[derive(Drop)]
+pub struct Cells {
+    list: Vec<Cell>,
+}
+
+impl Model for Cells {
+    ghost use Rattle.std.specs.Prelude.{List};
+    ghost use Rattle.qual_codec.specs.declared.cells.Cell.{Cell};
+    ghost use Rattle.cell_model.specs.Rising.{RiseByQual};
+
+    ghost Value = { List Cell };
+
+    ghost view = { λ c. c.list.items };
+
+    ghost invariant = { λ c. RiseByQual c.list.items };
+}
+
+impl Cells {
+    /// No cells.
+    pub fn make(alloc: Global) -> Cells
+        ensures { result ≡ [] }
+    {
+        Cells {
+            list: Vec::new(alloc),
+        }
+    }
+
+    /// Adds a cell behind the last one. It fails only for want of memory, and then nothing changes.
+    #[inline]
+    pub fn push(&mut self, cell: Cell) -> Result<(), AllocError>
+        requires { IsAboveCells cell.qual self.old }
+        ensures ok { OnOk result (self.new ≡ self.old ++ cell ∷ []) }
+        ensures err { OnErr result (self.new ≡ self.old) }
+    {
+        self.list.push(cell)?;
+        Ok(())
+    }
+
+    /// The cells, rising by qualifier.
+    #[inline]
+    pub fn list(&self) -> &[Cell]
+        ensures list { result.now ≡ self.now }
+        ensures rising { RiseByQual self.now }
+    {
+        self.list.as_slice()
+    }
+}
+
+/// A row that was found, with its cells.
+#[derive(Drop)]
+pub struct Found {
+    pub row: Row,
+    pub cells: Cells,
+}
+
+/// What a drop names: qualifiers, each with the greatest version that goes.
+///
+/// Contracts see it as the list of the pairs.
+#[derive(Drop)]
+pub struct Drops {
+    list: Vec<(Bytes, u64)>,
+}
+
+impl Model for Drops {
+    ghost use Rattle.std.specs.Prelude.{List, ℕ};
+
+    ghost Value = { List (List ℕ × ℕ) };
+
+    ghost view = { λ d. d.list.items };
+}
+
+impl Drops {
+    /// Nothing to drop.
+    pub fn make(alloc: Global) -> Drops
+        ensures { result ≡ [] }
+    {
+        Drops {
+            list: Vec::new(alloc),
+        }
+    }
+
+    /// Names one more cell. It fails only for want of memory, and then nothing changes.
+    #[inline]
+    pub fn push(&mut self, qual: Bytes, version: u64) -> Result<(), AllocError>
+        ensures ok { OnOk result (self.new ≡ self.old ++ (qual, version) ∷ []) }
+        ensures err { OnErr result (self.new ≡ self.old) }
+    {
+        self.list.push((qual, version))?;
+        Ok(())
+    }
+
+    /// The cells that are named.
+    #[inline]
+    pub fn list(&self) -> &[(Bytes, u64)]
+        ensures { result.now ≡ self.now }
+    {
+        self.list.as_slice()
+    }
+}
+
+/// A cell with its place, without its version.
+#[derive(Debug, PartialEq, Eq, Drop)]
+pub struct ListLine {
+    pub table: Table,
+    pub row: Bytes,
+    pub qual: Bytes,
+    pub value: Bytes,
+}
+
+/// All cells of a store, rising by table, row and qualifier.
+///
+/// Contracts see it as the list of the lines.
+#[derive(Drop)]
+pub struct Listing {
+    list: Vec<ListLine>,
+}
+
+impl Model for Listing {
+    ghost use Rattle.std.specs.Prelude.{List};
+    ghost use Rattle.cell_model.specs.declared.cells.ListLine.{ListLine};
+    ghost use Rattle.cell_model.specs.Rising.{LinesRise};
+
+    ghost Value = { List ListLine };
+
+    ghost view = { λ l. l.list.items };
+
+    ghost invariant = { λ l. LinesRise l.list.items };
+}
+
+impl Listing {
+    /// The listing of an empty store.
+    pub fn none(alloc: Global) -> Listing
+        ensures { result ≡ [] }
+    {
+        Listing {
+            list: Vec::new(alloc),
+        }
+    }
+
+    /// The lines, rising by table, row and qualifier.
+    #[inline]
+    pub fn lines(&self) -> &[ListLine]
+        ensures lines { result.now ≡ self.now }
+        ensures rising { LinesRise self.now }
+    {
+        self.list.as_slice()
+    }
+}

@@ -1,0 +1,57 @@
+use crate::cells::{Cells, Drops, Listing, Row};
+use crate::events::PlainPoint;
+use qual_codec::{Bytes, Cell};
+use row_key::Table;
+use std::test::Fail;
+use tsd_base::reading::read_point;
+
+#[test]
+fn lists_keep_what_is_pushed(rt: HostRuntime) -> Result<(), Fail> {
+    let mut cells = Cells::make(rt.alloc());
+    let mut drops = Drops::make(rt.alloc());
+    assert!(rt; cells.list().is_empty());
+    assert!(rt; drops.list().is_empty());
+    let qual = Bytes::of(rt.alloc(), b"\x00\x00")?;
+    let value = Bytes::of(rt.alloc(), b"\x2a")?;
+    drops.push(qual.again(rt.alloc())?, 7)?;
+    cells.push(Cell {
+        qual,
+        value,
+        version: 7,
+    })?;
+    assert_eq!(rt; cells.list().len(), 1);
+    assert_eq!(rt; cells.list()[0].qual.list(), &b"\x00\x00"[..]);
+    assert_eq!(rt; cells.list()[0].value.list(), &b"\x2a"[..]);
+    assert_eq!(rt; cells.list()[0].version, 7);
+    assert_eq!(rt; drops.list().len(), 1);
+    assert_eq!(rt; drops.list()[0].0.list(), &b"\x00\x00"[..]);
+    assert_eq!(rt; drops.list()[0].1, 7);
+    Ok(())
+}
+
+#[test]
+fn a_listing_of_nothing_has_no_line(rt: HostRuntime) -> Result<(), Fail> {
+    assert!(rt; Listing::none(rt.alloc()).lines().is_empty());
+    Ok(())
+}
+
+#[test]
+fn rows_and_points_are_copied(rt: HostRuntime) -> Result<(), Fail> {
+    for table in [Table::Ids, Table::Names, Table::Points] {
+        let row = Row {
+            table,
+            bytes: Bytes::of(rt.alloc(), b"sys.cpu.user")?,
+        };
+        assert!(rt; row.again(rt.alloc())? == row);
+    }
+    match read_point(rt.alloc(), b"sys.cpu.user 1356998400 42 host=web01 cpu=0") {
+        Ok(point) => {
+            let _plain = PlainPoint::of(rt.alloc(), &point)?;
+            Ok(())
+        }
+        Err(_) => {
+            assert!(rt; false);
+            Ok(())
+        }
+    }
+}
