@@ -319,7 +319,8 @@ fn answer(store: &Store, words: &Words) -> Result<String, Stop> {
     }
     for (time, sum) in &sums {
         if i64::try_from(*sum).is_err() {
-            return Err(refused(format!("query: overflow at {time}")));
+            // In milliseconds, as all times of refusals are.
+            return Err(refused(format!("query: overflow at {}", time * 1000)));
         }
     }
     if sums.is_empty() {

@@ -26,3 +26,4 @@ pub mod Compacted
 pub mod Stamps
 pub mod SeenIds
 pub mod Placing
+pub mod Following

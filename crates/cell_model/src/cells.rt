@@ -1,6 +1,8 @@
 //! Rows and cells, as callers see them.
-ghost use Rattle.std.specs.Prelude.{◌≡◌, [], ◌∷◌, ◌++◌, IfOk, OnOk, OnErr};
-ghost use Rattle.cell_model.specs.Rising.{RiseByQual, IsAboveCells, LinesRise};
+ghost use Rattle.std.specs.Prelude.{◌≡◌, true, [], ◌∷◌, ◌++◌, IfOk, OnOk, OnErr};
+ghost use Rattle.std.specs.Ordering.{is_lt};
+ghost use Rattle.cell_model.specs.Order.{place_cmp, table_number};
+ghost use Rattle.cell_model.specs.Rising.{RiseByQual, IsAboveCells, LinesRise, Adds, is_above, may_follow, place_of_line};
 
 use qual_codec::{Bytes, Cell};
 use row_key::Table;
@@ -168,6 +170,42 @@ impl Listing {
         }
     }
 
+    /// Adds a line behind the last one, and answers true. A line that isn't above the last one, or a part of which is empty,
+    /// isn't added, and the answer is false. It fails only for want of memory, and then nothing changes.
+    pub fn add(
+        &mut self,
+        alloc: Global,
+        table: Table,
+        row: &[u8],
+        qual: &[u8],
+        value: &[u8],
+    ) -> Result<bool, AllocError>
+        ensures ok { IfOk result (λ added. Adds self.old (record { table = table; row = row.now; qual = qual.now; value = value.now }) added self.new) }
+        ensures err { OnErr result (self.new ≡ self.old) }
+    {
+        if !may_follow(&self.list, table, row, qual, value) {
+            return Ok(false);
+        }
+        self.push(ListLine {
+            table,
+            row: Bytes::of(alloc, row)?,
+            qual: Bytes::of(alloc, qual)?,
+            value: Bytes::of(alloc, value)?,
+        })?;
+        Ok(true)
+    }
+
+    /// Adds a line that is above each.
+    #[tactic(auto, using(crate::proofs::Following::still_rise))]
+    fn push(&mut self, line: ListLine) -> Result<(), AllocError>
+        requires { is_above self.old (place_of_line line) ≡ true }
+        ensures ok { OnOk result (self.new ≡ self.old ++ line ∷ []) }
+        ensures err { OnErr result (self.new ≡ self.old) }
+    {
+        self.list.push(line)?;
+        Ok(())
+    }
+
     /// The lines, rising by table, row and qualifier.
     #[inline]
     pub fn lines(&self) -> &[ListLine]
@@ -175,5 +213,45 @@ impl Listing {
         ensures rising { LinesRise self.now }
     {
         self.list.as_slice()
+    }
+}
+
+/// Whether a line of these parts may follow lines that rise.
+fn may_follow(lines: &[ListLine], table: Table, row: &[u8], qual: &[u8], value: &[u8]) -> bool
+    requires { LinesRise lines.now }
+    ensures { result ≡ may_follow lines.now (record { table = table; row = row.now; qual = qual.now; value = value.now }) }
+{
+    !row.is_empty() && !qual.is_empty() && !value.is_empty() && is_above(lines, table, row, qual)
+}
+
+/// Whether a place is above the last of lines that rise, and so above each.
+fn is_above(lines: &[ListLine], table: Table, row: &[u8], qual: &[u8]) -> bool
+    requires { LinesRise lines.now }
+    ensures { result ≡ is_above lines.now (record { row = record { table = table; bytes = row.now }; qual = qual.now }) }
+{
+    match lines.last() {
+        Some(last) => is_before(last, table, row, qual),
+        None => true,
+    }
+}
+
+/// Whether a line stands before a place.
+fn is_before(line: &ListLine, table: Table, row: &[u8], qual: &[u8]) -> bool
+    ensures { result ≡ is_lt (place_cmp (place_of_line line.now) (record { row = record { table = table; bytes = row.now }; qual = qual.now })) }
+{
+    let tables = number(line.table).cmp(&number(table));
+    let rows = line.row.list().cmp(row);
+    let quals = line.qual.list().cmp(qual);
+    tables.then(rows).then(quals).is_lt()
+}
+
+/// The place of a table among the tables.
+fn number(table: Table) -> u8
+    ensures { result ≡ table_number table }
+{
+    match table {
+        Table::Ids => 0,
+        Table::Names => 1,
+        Table::Points => 2,
     }
 }

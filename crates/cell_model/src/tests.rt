@@ -29,9 +29,39 @@ fn lists_keep_what_is_pushed(rt: HostRuntime) -> Result<(), Fail> {
     Ok(())
 }
 
+/// A line's table, row, qualifier and value, and whether it is added behind those before it.
+type Line = (Table, &'static [u8], &'static [u8], &'static [u8], bool);
+
+const LINES: [Line; 12] = [
+    (Table::Ids, b"a", b"", b"\x00\x00\x01", false),
+    (Table::Ids, b"a", b"metrics", b"\x00\x00\x01", true),
+    (Table::Ids, b"a", b"metrics", b"\x00\x00\x01", false),
+    (Table::Ids, b"a", b"metrics", b"\x00\x00\x02", false),
+    (Table::Ids, b"A", b"tagk", b"\x00\x00\x01", false),
+    (Table::Ids, b"a", b"tagk", b"", false),
+    (Table::Ids, b"a", b"tagk", b"\x00\x00\x01", true),
+    (Table::Ids, b"a.b", b"metrics", b"\x00\x00\x02", true),
+    (Table::Names, b"", b"metrics", b"a", false),
+    (Table::Names, b"\x00\x00\x01", b"metrics", b"a", true),
+    (Table::Ids, b"b", b"metrics", b"\x00\x00\x03", false),
+    (Table::Points, b"\x00", b"\x00\x00", b"\x2a", true),
+];
+
 #[test]
-fn a_listing_of_nothing_has_no_line(rt: HostRuntime) -> Result<(), Fail> {
-    assert!(rt; Listing::none(rt.alloc()).lines().is_empty());
+fn listings_take_lines_that_rise(rt: HostRuntime) -> Result<(), Fail> {
+    let mut listing = Listing::none(rt.alloc());
+    assert!(rt; listing.lines().is_empty());
+    for (table, row, qual, value, wanted) in LINES {
+        let before = listing.lines().len();
+        let added = listing.add(rt.alloc(), table, row, qual, value)?;
+        assert_eq!(rt; added, wanted, "{row:?} {qual:?} {value:?}");
+        assert_eq!(rt;
+            listing.lines().len() > before,
+            wanted,
+            "{row:?} {qual:?} {value:?}"
+        );
+    }
+    assert_eq!(rt; listing.lines().len(), 5);
     Ok(())
 }
 
