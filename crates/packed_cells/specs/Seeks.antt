@@ -1,0 +1,41 @@
+-- Where a qualifier stands among cells, or would stand.
+use Rattle.std.specs.Prelude.{◌≡◌, ◌⊎◌, ℕ, ◌<◌, ◌≤◌, List, length, slice_index_or, slice_set}
+use Rattle.std.specs.List.{insert}
+use Rattle.packed_cells.specs.Packed.{stamped_at}
+use Rattle.std.specs.declared.cmp.Ordering.{Ordering}
+use Rattle.std.specs.declared.cmp.Ordering.TheVariants.{Less, Equal, Greater}
+use Rattle.std.specs.Ordering.{nat_cmp}
+use Rattle.std.specs.Cmp.Lexicographic.{slice_cmp}
+use Rattle.qual_codec.specs.declared.cells.Cell.{Cell}
+
+abbrev pub bytes_cmp : List ℕ → List ℕ → Ordering
+bytes_cmp = slice_cmp nat_cmp
+
+-- qualifiers strictly rise
+abbrev pub Rises : List Cell → Type 0
+Rises cells = (i j : ℕ) → i < j → j < length cells → (d : Cell) → bytes_cmp (slice_index_or cells i d).qual (slice_index_or cells j d).qual ≡ Less
+
+-- the first i qualifiers are before this one
+abbrev pub AllBefore : List ℕ → List Cell → ℕ → Type 0
+AllBefore qual cells i = (k : ℕ) → k < i → (d : Cell) → bytes_cmp qual (slice_index_or cells k d).qual ≡ Greater
+
+-- those from i on are behind it
+abbrev pub AllBehind : List ℕ → List Cell → ℕ → Type 0
+AllBehind qual cells i = (k : ℕ) → i ≤ k → k < length cells → (d : Cell) → bytes_cmp qual (slice_index_or cells k d).qual ≡ Less
+
+pub record IsCellAt (qual : List ℕ) (cells : List Cell) (i : ℕ) : Type 0 where
+  pub in_range : i < length cells
+  pub here : (d : Cell) → bytes_cmp qual (slice_index_or cells i d).qual ≡ Equal
+
+pub record IsCellGap (qual : List ℕ) (cells : List Cell) (i : ℕ) : Type 0 where
+  pub in_range : i ≤ length cells
+  pub before : AllBefore qual cells i
+  pub behind : AllBehind qual cells i
+
+-- a cell is written in its place
+abbrev pub IsPut : List ℕ → List ℕ → ℕ → List Cell → List Cell → Type 0
+IsPut qual value version old new = (i : ℕ) × ((IsCellAt qual old i × (new ≡ slice_set old i (record { qual = qual; value = value; version = version }))) ⊎ (IsCellGap qual old i × (new ≡ insert old i (record { qual = qual; value = value; version = version }))))
+
+-- the qualifier's cell, if it is there, has the version
+abbrev pub IsStamp : List ℕ → ℕ → List Cell → List Cell → Type 0
+IsStamp qual version old new = (i : ℕ) × ((IsCellAt qual old i × ((d : Cell) → new ≡ slice_set old i (stamped_at (slice_index_or old i d) version))) ⊎ (IsCellGap qual old i × (new ≡ old)))

@@ -1,0 +1,6 @@
+//! The cells of a row, packed: one block of bytes for the whole row, and 24 bytes beside it for each cell.
+#![tactic(auto)]
+
+pub mod block;
+pub mod rows;
+pub mod seeks;
