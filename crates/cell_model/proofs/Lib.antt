@@ -27,3 +27,4 @@ pub mod Stamps
 pub mod SeenIds
 pub mod Placing
 pub mod Following
+pub mod Lining

@@ -17,7 +17,10 @@ use Rattle.cell_model.specs.declared.answers.Bumped.TheVariants.{Given}
 use Rattle.cell_model.specs.declared.answers.Claimed.TheVariants.{Held}
 use Rattle.cell_model.specs.declared.events.Entry.{Entry}
 use Rattle.cell_model.specs.declared.events.Placed.{Placed}
-use Rattle.cell_model.specs.Store.{Store, value_at}
+use Rattle.cell_model.specs.declared.events.Content.{Content}
+use Rattle.cell_model.specs.Store.{Store, content_at, value_at}
+use Rattle.cell_model.specs.Counts.{lines_of}
+use Rattle.cell_model.specs.Listed.{store_of}
 use Rattle.cell_model.specs.Machine.{reply_of, counter_of, kind_qual}
 use Rattle.cell_model.specs.History.{History, base_of, len, entry_at, first, store_after, Had}
 use Rattle.cell_model.specs.History.History.{Then}
@@ -199,6 +202,10 @@ MadeJoins = (a b c : Seen) (xs ys : List Placed) → Made a xs b → Made b ys c
 -- what was made stands, in order, in each history that fits
 abbrev pub MadeStands : Type 0
 MadeStands = (old new : Seen) (own : List Placed) (h : History) → Made old own new → Fits new h → InOrder h new.length own
+
+-- a store in which no cell has a version yet is the one that its lines tell
+abbrev pub LinesTellStore : Type 0
+LinesTellStore = (s : Store) → ((row : Row) (qual : List ℕ) (c : Content) → content_at s row qual ≡ Some c → c.version ≡ 0) → store_of (lines_of s) ≡ s
 
 -- the first entries of a history that fits, up to the seen length, fit
 abbrev pub FirstFits : Type 0

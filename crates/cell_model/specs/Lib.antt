@@ -4,6 +4,7 @@ pub mod Rising
 pub mod Codes
 pub mod Machine
 pub mod Counts
+pub mod Listed
 pub mod History
 pub mod Ids
 pub mod Layout

@@ -195,9 +195,9 @@ impl Listing {
         Ok(true)
     }
 
-    /// Adds a line that is above each.
+    /// Adds a line that is above each, whatever its parts are. It fails only for want of memory, and then nothing changes.
     #[tactic(auto, using(crate::proofs::Following::still_rise))]
-    fn push(&mut self, line: ListLine) -> Result<(), AllocError>
+    pub fn push(&mut self, line: ListLine) -> Result<(), AllocError>
         requires { is_above self.old (place_of_line line) ≡ true }
         ensures ok { OnOk result (self.new ≡ self.old ++ line ∷ []) }
         ensures err { OnErr result (self.new ≡ self.old) }

@@ -1,5 +1,5 @@
 //! Laws over every lawful history, of any length and any number of callers. Each function does nothing; its clauses are the laws.
-ghost use Rattle.cell_model.specs.Laws.{KnownIsAllowed, KnownEntryIsAllowed, FirstIsLawful, EntriesAreLawful, SeenCellReads, SeenIdStands, SeenNameStands, GivenIsId, GivenIsFree, KeepsId, OneName, NamesBack, RowIdsAreTaken, StaysSound, Waste, Keep, GreatestStays, EachReads, StandingWasAccepted, AcceptedTimesStand, StandingIsAccepted, CompactionIsInvisible, SameAcceptedSameStanding, WaitIsMade, StepIsMade, MadeJoins, MadeStands, FirstFits};
+ghost use Rattle.cell_model.specs.Laws.{KnownIsAllowed, KnownEntryIsAllowed, FirstIsLawful, EntriesAreLawful, SeenCellReads, SeenIdStands, SeenNameStands, GivenIsId, GivenIsFree, KeepsId, OneName, NamesBack, RowIdsAreTaken, StaysSound, Waste, Keep, GreatestStays, EachReads, StandingWasAccepted, AcceptedTimesStand, StandingIsAccepted, CompactionIsInvisible, SameAcceptedSameStanding, WaitIsMade, StepIsMade, MadeJoins, MadeStands, FirstFits, LinesTellStore};
 
 /// What a caller knows to be allowed is allowed in every lawful history that fits what it has seen, others stepping in between.
 pub fn known_is_allowed()
@@ -78,4 +78,9 @@ pub fn made()
     ensures joins { MadeJoins }
     ensures stands { MadeStands }
     ensures first { FirstFits }
+{}
+
+/// The listing of a store in which no cell has a version yet tells that store.
+pub fn lines_tell_store()
+    ensures { LinesTellStore }
 {}

@@ -1,11 +1,11 @@
 -- The order of cells after an edit.
-use Rattle.std.proofs.Common.{◌≡◌, ◌⊎◌, inl, inr, ℕ, zero, suc, ◌+◌, ◌-◌, ◌≤◌, ◌<◌, List, length, refl, sym, ap, ◌∙◌, arith, []}
+use Rattle.std.proofs.Common.{◌≡◌, ◌⊎◌, inl, inr, ℕ, zero, suc, ◌+◌, ◌-◌, ◌≤◌, ◌<◌, List, length, refl, sym, ap, ◌∙◌, arith}
 use Rattle.std.specs.Prelude.{slice_index_or, slice_set}
-use Rattle.std.specs.List.{insert}
-use Rattle.std.specs.declared.cmp.Ordering.TheVariants.{Less, Equal, Greater}
+use Rattle.std.specs.List.{insert, remove}
+use Rattle.std.specs.declared.cmp.Ordering.TheVariants.{Less, Greater}
 use Rattle.std.specs.FinMap.{slice_cmp-IsAntisymmetric, nat_cmp-IsAntisymmetric}
 use Rattle.std.proofs.lemmas.List.{get_or-set_same, get_or-set_other, length-set, get_or_default}
-use Rattle.std.proofs.lemmas.List.Edits.{length-insert, get_or-insert_below, get_or-insert_at, get_or-insert_above}
+use Rattle.std.proofs.lemmas.List.Edits.{length-insert, length-remove, get_or-remove_below, get_or-remove_above, get_or-insert_below, get_or-insert_at, get_or-insert_above}
 use Rattle.qual_codec.specs.declared.cells.Cell.{Cell}
 use Rattle.packed_cells.specs.Packed.{stamped_at}
 use Rattle.packed_cells.specs.Seeks.{bytes_cmp, Rises, IsCellAt, IsCellGap}
@@ -26,6 +26,10 @@ above : (cells : List Cell) (i : ℕ) (x d : Cell) (k : ℕ) → i < k → i ≤
 above cells i x d k lt le =
     let e : k ≡ (k - 1) + 1 = omega arith in
     ap (λ (m : ℕ). slice_index_or (insert cells i x) m d) e ∙ get_or-insert_above cells i x d (k - 1) (omega arith) le
+
+not_below : {a i : ℕ} → (a ≡ i) ⊎ (i < a) → i ≤ a
+not_below (inl e) = omega (arith, e)
+not_below (inr p) = omega (arith, p)
 
 pub rises_insert : (cells : List Cell) (i : ℕ) (q v : List ℕ) (n : ℕ) → Rises cells → IsCellGap q cells i → Rises (insert cells i (record { qual = q; value = v; version = n }))
 rises_insert cells i q v n rises gap a b lt within d = at (tri a i) (tri b i)
@@ -72,44 +76,26 @@ rises_set cells i q v n rises at = rises_same cells i (record { qual = q; value 
 pub rises_stamp : (cells : List Cell) (i n : ℕ) (e : Cell) → Rises cells → i < length cells → Rises (slice_set cells i (stamped_at (slice_index_or cells i e) n))
 rises_stamp cells i n e rises lt = rises_same cells i _ rises lt (λ d. ap (λ (c : Cell). c.qual) (get_or_default cells i e d lt))
 
--- a qualifier has one place
-same_cmp : (q : List ℕ) → bytes_cmp q q ≡ Less → ⊥
-same_cmp q less = differ (sym less ∙ turn q q Less less)
+pub rises_remove : (cells : List Cell) (i : ℕ) → Rises cells → i < length cells → Rises (remove cells i)
+rises_remove cells i rises lt a b less within d = at (tri a i) (tri b i)
   where
-    differ : Less ≡ Greater → ⊥
-    differ e = cc
+    inside : b + 1 < length cells
+    inside = omega (arith, within, length-remove cells i lt)
 
-at_apart : (q : List ℕ) (cells : List Cell) (i j : ℕ) → Rises cells → IsCellAt q cells i → IsCellAt q cells j → i < j → ⊥
-at_apart q cells i j rises a b lt =
-    let d : Cell = record { qual = []; value = []; version = 0 } in
-    let one : q ≡ (slice_index_or cells i d).qual = slice_cmp-IsAntisymmetric nat_cmp-IsAntisymmetric q (slice_index_or cells i d).qual (a.here d) in
-    let two : q ≡ (slice_index_or cells j d).qual = slice_cmp-IsAntisymmetric nat_cmp-IsAntisymmetric q (slice_index_or cells j d).qual (b.here d) in
-    same_cmp q ((λ k. bytes_cmp (one k) (two k)) ∙ rises i j lt b.in_range d)
+    both : (y z s t : Cell) → y ≡ s → z ≡ t → bytes_cmp s.qual t.qual ≡ Less → bytes_cmp y.qual z.qual ≡ Less
+    both y z s t e f h = (λ j. bytes_cmp (e j).qual (f j).qual) ∙ h
 
-pub at_once : (q : List ℕ) (cells : List Cell) (i j : ℕ) → Rises cells → IsCellAt q cells i → IsCellAt q cells j → i ≡ j
-at_once q cells i j rises a b = at (tri i j)
-  where
-    at : (i < j) ⊎ ((i ≡ j) ⊎ (j < i)) → i ≡ j
-    at (inl lt) = absurd (at_apart q cells i j rises a b lt)
-    at (inr (inl e)) = e
-    at (inr (inr lt)) = absurd (at_apart q cells j i rises b a lt)
+    below : (k : ℕ) → k < i → slice_index_or (remove cells i) k d ≡ slice_index_or cells k d
+    below k p = get_or-remove_below cells i d k p lt
 
-pub no_gap : (q : List ℕ) (cells : List Cell) (i j : ℕ) → IsCellAt q cells i → IsCellGap q cells j → ⊥
-no_gap q cells i j a gap = at (tri i j)
-  where
-    d : Cell
-    d = record { qual = []; value = []; version = 0 }
+    from_on : (k : ℕ) → i ≤ k → slice_index_or (remove cells i) k d ≡ slice_index_or cells (k + 1) d
+    from_on k p = get_or-remove_above cells i d k p lt
 
-    not_greater : Equal ≡ Greater → ⊥
-    not_greater e = cc
-
-    not_less : Equal ≡ Less → ⊥
-    not_less e = cc
-
-    at : (i < j) ⊎ ((i ≡ j) ⊎ (j < i)) → ⊥
-    at (inl lt) = not_greater (sym (a.here d) ∙ gap.before i lt d)
-    at (inr (inl e)) = not_less (sym (a.here d) ∙ gap.behind i (omega (arith, e)) a.in_range d)
-    at (inr (inr lt)) = not_less (sym (a.here d) ∙ gap.behind i (omega arith) a.in_range d)
+    at : (a < i) ⊎ ((a ≡ i) ⊎ (i < a)) → (b < i) ⊎ ((b ≡ i) ⊎ (i < b)) → bytes_cmp (slice_index_or (remove cells i) a d).qual (slice_index_or (remove cells i) b d).qual ≡ Less
+    at (inl p) (inl r) = both _ _ _ _ (below a p) (below b r) (rises a b less (omega (arith, inside)) d)
+    at (inl p) (inr r) = both _ _ _ _ (below a p) (from_on b (not_below r)) (rises a (b + 1) (omega arith) inside d)
+    at (inr p) (inl r) = absurd (omega (arith, not_below p))
+    at (inr p) (inr r) = both _ _ _ _ (from_on a (not_below p)) (from_on b (not_below r)) (rises (a + 1) (b + 1) (omega arith) inside d)
 
 -- the qualifier at i has the length of the one that was looked for
 pub found_length : (q : List ℕ) (cells : List Cell) (i : ℕ) (d : Cell) → IsCellAt q cells i → length (slice_index_or cells i d).qual ≡ length q

@@ -1,7 +1,5 @@
 -- Where a qualifier stands among cells, or would stand.
-use Rattle.std.specs.Prelude.{◌≡◌, ◌⊎◌, ℕ, ◌<◌, ◌≤◌, List, length, slice_index_or, slice_set}
-use Rattle.std.specs.List.{insert}
-use Rattle.packed_cells.specs.Packed.{stamped_at}
+use Rattle.std.specs.Prelude.{◌≡◌, ℕ, ◌<◌, ◌≤◌, List, length, slice_index_or}
 use Rattle.std.specs.declared.cmp.Ordering.{Ordering}
 use Rattle.std.specs.declared.cmp.Ordering.TheVariants.{Less, Equal, Greater}
 use Rattle.std.specs.Ordering.{nat_cmp}
@@ -31,11 +29,3 @@ pub record IsCellGap (qual : List ℕ) (cells : List Cell) (i : ℕ) : Type 0 wh
   pub in_range : i ≤ length cells
   pub before : AllBefore qual cells i
   pub behind : AllBehind qual cells i
-
--- a cell is written in its place
-abbrev pub IsPut : List ℕ → List ℕ → ℕ → List Cell → List Cell → Type 0
-IsPut qual value version old new = (i : ℕ) × ((IsCellAt qual old i × (new ≡ slice_set old i (record { qual = qual; value = value; version = version }))) ⊎ (IsCellGap qual old i × (new ≡ insert old i (record { qual = qual; value = value; version = version }))))
-
--- the qualifier's cell, if it is there, has the version
-abbrev pub IsStamp : List ℕ → ℕ → List Cell → List Cell → Type 0
-IsStamp qual version old new = (i : ℕ) × ((IsCellAt qual old i × ((d : Cell) → new ≡ slice_set old i (stamped_at (slice_index_or old i d) version))) ⊎ (IsCellGap qual old i × (new ≡ old)))

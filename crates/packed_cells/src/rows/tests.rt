@@ -82,3 +82,20 @@ fn cells_are_kept_in_order(rt: HostRuntime) -> Result<(), Fail> {
     }
     Ok(())
 }
+
+#[test]
+fn cells_are_found_and_taken_out(rt: HostRuntime) -> Result<(), Fail> {
+    let mut row = RowCells::make(rt.alloc());
+    row.put(b"a", b"1", 5)?;
+    row.put(b"b", b"2", 6)?;
+    assert_eq!(rt; row.value(b"b").map(|value| value.len()), Some(1));
+    assert_eq!(rt; row.value(b"c").map(|value| value.len()), None);
+    assert!(rt; !row.remove(b"a", 4));
+    assert!(rt; !row.remove(b"c", 9));
+    assert!(rt; row.remove(b"a", 5));
+    assert!(rt; !row.remove(b"a", 5));
+    assert_eq!(rt; row.len(), 1);
+    assert!(rt; row.remove(b"b", 7));
+    assert!(rt; row.is_empty());
+    Ok(())
+}

@@ -1,0 +1,9 @@
+//! Several callers of one body, in turns.
+#![tactic(auto)]
+
+mod block;
+pub mod laws;
+pub mod solo;
+mod turns;
+
+pub use solo::Solo;

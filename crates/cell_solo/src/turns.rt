@@ -1,0 +1,283 @@
+//! The steps that callers made, packed.
+ghost use Rattle.std.specs.Prelude.{◌≡◌, ◌≤◌, ◌<◌, ◌+◌, ◌^◌, [], ◌∷◌, ◌++◌, length, count_by, nat_eq, OnOk};
+ghost use Rattle.tsd_base.specs.Points.{data_point};
+ghost use Rattle.cell_model.specs.declared.events.Step.TheVariants.{Open, Read, NextRow, Bump, Claim, PutPoint, PutMerged, DropCells};
+ghost use Rattle.cell_solo.specs.declared.turns.Head.{Head};
+ghost use Rattle.cell_solo.specs.Turns.{Turn};
+
+use crate::block::{CellLengths, write, write_cell, write_point};
+use cell_model::cells::{Drops, Row};
+use qual_codec::Bytes;
+use row_key::Table;
+use std::alloc::{AllocError, Global};
+use std::marker::Model;
+use tsd_base::kinds::Kind;
+use tsd_base::points::Point;
+
+// The greatest length, in bytes, that the parts of a step have together.
+const MOST: usize = 4294967295;
+
+// For how many steps room is made at once: the next one, and 8 that take no memory.
+const ROOM: usize = 9;
+
+/// What a step is, and how many bytes its parts have.
+#[derive(Clone, Copy, Drop)]
+enum Shape {
+    Open,
+    Read {
+        table: Table,
+        row: u32,
+    },
+    NextRow {
+        table: Table,
+        from: u32,
+        to: u32,
+    },
+    Bump {
+        kind: Kind,
+    },
+    Claim {
+        table: Table,
+        cell: CellLengths,
+    },
+    PutPoint {
+        table: Table,
+        fine: bool,
+        tags: u8,
+        cell: CellLengths,
+    },
+    PutMerged {
+        table: Table,
+        cell: CellLengths,
+    },
+    DropCells,
+}
+
+/// A step without its parts, and whose it is.
+#[derive(Clone, Copy, Drop)]
+struct Head {
+    caller: u32,
+    shape: Shape,
+}
+
+/// What a drop named.
+#[derive(Drop)]
+struct Dropped {
+    row: Row,
+    which: Drops,
+}
+
+/// Steps with their callers, the first one first.
+///
+/// The bytes of all parts are one block; beside them a step takes a head of 20 bytes, and a point 16 bytes for its time and
+/// its value, and one for each of its names. A drop is kept as it was given. Contracts see the list of turns, and for how
+/// much more there is room.
+#[derive(Drop)]
+pub struct Turns {
+    heads: Vec<Head>,
+    bytes: Vec<u8>,
+    numbers: Vec<(u64, i64)>,
+    drops: Vec<Dropped>,
+}
+
+/// How many heads are this caller's.
+fn count_heads(heads: &[Head], caller: u32) -> usize
+    ensures { result ≡ count_by (λ (h : Head). nat_eq h.caller caller) heads.now }
+{
+    heads.iter().filter(|head| head.caller == caller).count()
+}
+
+impl Model for Turns {
+    ghost use Rattle.std.specs.Prelude.{◌-◌, min, vec_len, vec_capacity};
+    ghost use Rattle.cell_solo.specs.Packed.{TurnList, unpacked, Fills};
+
+    ghost Value = { TurnList };
+
+    ghost view = { λ t. record { list = unpacked t.heads.items t.bytes.items t.numbers.items t.drops.items; spare = min (vec_capacity t.heads - vec_len t.heads) (min (vec_capacity t.numbers - vec_len t.numbers) (vec_capacity t.drops - vec_len t.drops)); room = vec_capacity t.bytes - vec_len t.bytes } };
+
+    ghost invariant = { λ t. Fills t.heads.items t.bytes.items t.numbers.items t.drops.items };
+}
+
+impl Turns {
+    /// No steps.
+    pub fn make(alloc: Global) -> Turns
+        ensures { result.list ≡ [] }
+    {
+        Turns {
+            heads: Vec::new(alloc),
+            bytes: Vec::new(alloc),
+            numbers: Vec::new(alloc),
+            drops: Vec::new(alloc),
+        }
+    }
+
+    /// How many steps there are.
+    #[inline]
+    pub fn len(&self) -> u64
+        ensures len { result ≡ length self.now.list }
+        ensures few { result < 2 ^ 63 }
+    {
+        self.heads.len() as u64
+    }
+
+    /// How many steps are this caller's.
+    pub fn count(&self, caller: u32) -> u64
+        ensures { result ≡ count_by (λ (t : Turn). nat_eq t.caller caller) self.now.list }
+    {
+        count_heads(&self.heads, caller) as u64
+    }
+
+    /// Makes room for 9 more steps, and for this many bytes of the next one. It fails for want of memory, or where these are
+    /// 4 GiB.
+    pub fn reserve(&mut self, bytes: usize) -> Result<(), AllocError>
+        ensures list { self.new.list ≡ self.old.list }
+        ensures spare { OnOk result (9 ≤ self.new.spare) }
+        ensures room { OnOk result (bytes ≤ self.new.room) }
+        ensures fits { OnOk result (bytes < 2 ^ 32) }
+    {
+        if bytes > MOST {
+            return Err(AllocError);
+        }
+        self.heads.reserve(ROOM)?;
+        self.numbers.reserve(ROOM)?;
+        self.drops.reserve(ROOM)?;
+        self.bytes.reserve(bytes)
+    }
+
+    /// Adds an opening.
+    pub fn add_open(&mut self, caller: u32)
+        requires { 1 ≤ self.old.spare }
+        ensures list { self.new.list ≡ self.old.list ++ record { caller = caller; step = Open } ∷ [] }
+        ensures spare { self.old.spare ≤ self.new.spare + 1 }
+    {
+        self.heads.push_reserved(Head {
+            caller,
+            shape: Shape::Open,
+        });
+    }
+
+    /// Adds a read.
+    pub fn add_read(&mut self, caller: u32, row: &Row)
+        requires spare { 1 ≤ self.old.spare }
+        requires room { length row.now.bytes ≤ self.old.room }
+        requires fits { length row.now.bytes < 2 ^ 32 }
+        ensures list { self.new.list ≡ self.old.list ++ record { caller = caller; step = Read row.now } ∷ [] }
+        ensures spare { self.old.spare ≤ self.new.spare + 1 }
+    {
+        let bytes = row.bytes.list();
+        write(&mut self.bytes, bytes);
+        self.heads.push_reserved(Head {
+            caller,
+            shape: Shape::Read {
+                table: row.table,
+                row: bytes.len() as u32,
+            },
+        });
+    }
+
+    /// Adds a search for the next row.
+    pub fn add_next_row(&mut self, caller: u32, table: Table, from: &Bytes, to: &Bytes)
+        requires spare { 1 ≤ self.old.spare }
+        requires room { length from.now + length to.now ≤ self.old.room }
+        requires fits { length from.now + length to.now < 2 ^ 32 }
+        ensures list { self.new.list ≡ self.old.list ++ record { caller = caller; step = NextRow table from.now to.now } ∷ [] }
+        ensures spare { self.old.spare ≤ self.new.spare + 1 }
+    {
+        write(&mut self.bytes, from.list());
+        write(&mut self.bytes, to.list());
+        self.heads.push_reserved(Head {
+            caller,
+            shape: Shape::NextRow {
+                table,
+                from: from.list().len() as u32,
+                to: to.list().len() as u32,
+            },
+        });
+    }
+
+    /// Adds a bump.
+    pub fn add_bump(&mut self, caller: u32, kind: Kind)
+        requires { 1 ≤ self.old.spare }
+        ensures list { self.new.list ≡ self.old.list ++ record { caller = caller; step = Bump kind } ∷ [] }
+        ensures spare { self.old.spare ≤ self.new.spare + 1 }
+    {
+        self.heads.push_reserved(Head {
+            caller,
+            shape: Shape::Bump { kind },
+        });
+    }
+
+    /// Adds a claim.
+    pub fn add_claim(&mut self, caller: u32, row: &Row, qual: &Bytes, value: &Bytes)
+        requires spare { 1 ≤ self.old.spare }
+        requires room { length row.now.bytes + length qual.now + length value.now ≤ self.old.room }
+        requires fits { length row.now.bytes + length qual.now + length value.now < 2 ^ 32 }
+        ensures list { self.new.list ≡ self.old.list ++ record { caller = caller; step = Claim row.now qual.now value.now } ∷ [] }
+        ensures spare { self.old.spare ≤ self.new.spare + 1 }
+    {
+        let cell = write_cell(&mut self.bytes, row, qual, value);
+        self.heads.push_reserved(Head {
+            caller,
+            shape: Shape::Claim {
+                table: row.table,
+                cell,
+            },
+        });
+    }
+
+    /// Adds a put of a point. The room is that of its cell, and [`crate::block::MOST_NAMES`] for its names.
+    pub fn add_point(&mut self, caller: u32, point: &Point, row: &Row, qual: &Bytes, value: &Bytes)
+        requires spare { 1 ≤ self.old.spare }
+        requires room { 4352 + (length row.now.bytes + length qual.now + length value.now) ≤ self.old.room }
+        requires fits { 4352 + (length row.now.bytes + length qual.now + length value.now) < 2 ^ 32 }
+        ensures list { self.new.list ≡ self.old.list ++ record { caller = caller; step = PutPoint (data_point point.now) row.now qual.now value.now } ∷ [] }
+        ensures spare { self.old.spare ≤ self.new.spare + 1 }
+    {
+        let cell = write_point(&mut self.bytes, point, row, qual, value);
+        let tags = point.tags.pairs().len() as u8;
+        self.numbers.push_reserved((point.time, point.value));
+        self.heads.push_reserved(Head {
+            caller,
+            shape: Shape::PutPoint {
+                table: row.table,
+                fine: point.fine,
+                tags,
+                cell,
+            },
+        });
+    }
+
+    /// Adds a put of a merged cell.
+    pub fn add_merged(&mut self, caller: u32, row: &Row, qual: &Bytes, value: &Bytes)
+        requires spare { 1 ≤ self.old.spare }
+        requires room { length row.now.bytes + length qual.now + length value.now ≤ self.old.room }
+        requires fits { length row.now.bytes + length qual.now + length value.now < 2 ^ 32 }
+        ensures list { self.new.list ≡ self.old.list ++ record { caller = caller; step = PutMerged row.now qual.now value.now } ∷ [] }
+        ensures spare { self.old.spare ≤ self.new.spare + 1 }
+    {
+        let cell = write_cell(&mut self.bytes, row, qual, value);
+        self.heads.push_reserved(Head {
+            caller,
+            shape: Shape::PutMerged {
+                table: row.table,
+                cell,
+            },
+        });
+    }
+
+    /// Adds a drop.
+    pub fn add_drops(&mut self, caller: u32, row: Row, which: Drops)
+        requires { 1 ≤ self.old.spare }
+        ensures list { self.new.list ≡ self.old.list ++ record { caller = caller; step = DropCells row which } ∷ [] }
+        ensures spare { self.old.spare ≤ self.new.spare + 1 }
+    {
+        self.drops.push_reserved(Dropped { row, which });
+        self.heads.push_reserved(Head {
+            caller,
+            shape: Shape::DropCells,
+        });
+    }
+}
+
+#[cfg(test)]
+mod tests;

@@ -1,0 +1,12 @@
+pub mod Maps
+pub mod CellLemmas
+pub mod Counted
+pub mod Orders
+pub mod Flat
+pub mod Tables
+pub mod Changes
+pub mod Lists
+pub mod Bodies
+pub mod Ranges
+pub mod Listings
+pub mod Rise
