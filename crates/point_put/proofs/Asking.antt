@@ -1,0 +1,213 @@
+-- The names of a point, one after the other.
+use Rattle.std.proofs.Common.{◌≡◌, ◌⊎◌, inl, inr, ℕ, true, false, List, [], ◌∷◌, ◌++◌, refl, sym, ap, subst, ◌∙◌, append_assoc, rules}
+use Rattle.std.proofs.lemmas.Result.{err_from_is_err_and}
+use Rattle.std.specs.Prelude.{Contains, None, Result, Ok, Err, IsErrAnd}
+use Rattle.tsd_base.specs.declared.kinds.Kind.{Kind}
+use Rattle.cell_model.specs.declared.events.Placed.{Placed}
+use Rattle.cell_model.specs.declared.answers.Claimed.{Claimed}
+use Rattle.cell_model.specs.declared.answers.Claimed.TheVariants.{Done, Held}
+use Rattle.cell_model.specs.Ids.{id_bytes}
+use Rattle.cell_model.specs.Seen.{Seen}
+use Rattle.cell_model.specs.Deeds.{Extends}
+use Rattle.uid_table.specs.declared.answers.Assigned.{Assigned}
+use Rattle.uid_table.specs.declared.answers.Assigned.TheVariants.{Fresh, Existing, Lost}
+use Rattle.uid_table.specs.declared.answers.AssignFault.{AssignFault}
+use Rattle.uid_table.specs.declared.answers.AssignFault.TheVariants as assign
+use Rattle.uid_table.specs.declared.answers.ResolveFault.TheVariants as resolve
+use Rattle.uid_table.specs.Answers.{answered_id}
+use Rattle.uid_table.specs.Shown.{HasShown}
+use Rattle.uid_table.specs.Steps.{MadeSo, DidLook, Gave, GaveUp, AssignMade, ResolveMade}
+use Rattle.uid_table.specs.Steps.GaveUp.{before, bumped, reversed}
+use Rattle.point_put.specs.declared.config.Config.{Config}
+use Rattle.point_put.specs.declared.fault.PutFault.{PutFault}
+use Rattle.point_put.specs.declared.fault.PutFault.TheVariants.{Unknown, Exhausted, OutOfMemory, Stopped}
+use Rattle.point_put.specs.Configs.{makes}
+use Rattle.point_put.specs.Entries.{ForName, ForNames, Before}
+use Rattle.point_put.specs.Entries.ForNames.{nil, more}
+use Rattle.point_put.specs.Shown.{AllShown, Fails, Answered, NamesAsked}
+use Rattle.point_put.proofs.Lower.{nothing_made, made_joined, extends_joined, at_front, behind, front_or_behind, in_none}
+
+abbrev Names : Type 0
+Names = List (Kind × List ℕ)
+
+no_more : {X : Type 0} (xs : List X) → xs ++ [] ≡ xs
+no_more xs = search rules
+
+-- the entries of an assignment are those of one name
+given_up : (c : Config) (kind : Kind) (name : List ℕ) (d : Placed) (rest : List Placed) → makes c kind ≡ true → DidLook d kind name None → GaveUp kind name rest → ForName c kind name (d ∷ rest)
+given_up c kind name d _ m l before = ForName.look None l
+given_up c kind name d _ m l (bumped id b) = ForName.bump id m l b
+given_up c kind name d _ m l (reversed id b r) = ForName.reverse id m l b r
+
+all_given : (c : Config) (kind : Kind) (name : List ℕ) (id : ℕ) (reply : Claimed) (d : Placed) (rest list : List Placed) → makes c kind ≡ true → list ≡ d ∷ rest → DidLook d kind name None → Gave kind name id reply rest → ForName c kind name list
+all_given c kind name id reply d rest list m is l g = subst (ForName c kind name) (sym (is ∙ ap (λ xs. d ∷ xs) g.list_is)) (ForName.forward id reply m l g.bumped g.reversed g.forwarded)
+
+pub for_assign : (c : Config) (kind : Kind) (name : List ℕ) (r : Result Assigned AssignFault) (list : List Placed) → makes c kind ≡ true → AssignMade kind name r list → ForName c kind name list
+for_assign c kind name (Ok (Existing id)) list m (d, is, l) = subst (ForName c kind name) (sym is) (ForName.look _ l)
+for_assign c kind name (Ok (Fresh id)) list m (d, rest, is, l, g) = all_given c kind name id Done d rest list m is l g
+for_assign c kind name (Ok (Lost w id)) list m (d, rest, is, l, g) = all_given c kind name w (Held (id_bytes id)) d rest list m is l g
+for_assign c kind name (Err (assign.Exhausted k)) list m (d, rest, is, l, (same, (b, last, did))) = subst (ForName c kind name) (sym (is ∙ ap (λ xs. d ∷ xs) last)) (ForName.full m l did)
+for_assign c kind name (Err assign.OutOfMemory) list m (inl none) = subst (ForName c kind name) (sym none) ForName.none
+for_assign c kind name (Err assign.OutOfMemory) list m (inr (d, rest, is, l, g)) = subst (ForName c kind name) (sym is) (given_up c kind name d rest m l g)
+for_assign c kind name (Err assign.Stopped) list m (inl none) = subst (ForName c kind name) (sym none) ForName.none
+for_assign c kind name (Err assign.Stopped) list m (inr (d, rest, is, l, g)) = subst (ForName c kind name) (sym is) (given_up c kind name d rest m l g)
+
+one_name : (c : Config) (kind : Kind) (name : List ℕ) (list : List Placed) → ForName c kind name list → ForNames c ((kind, name) ∷ []) list
+one_name c kind name list f = subst (ForNames c ((kind, name) ∷ [])) (no_more list) (more f nil)
+
+shown_one : (s : Seen) (kind : Kind) (name : List ℕ) (id : ℕ) → HasShown s kind name id → AllShown s ((kind, name) ∷ [])
+shown_one s kind name id h k n c = at (front_or_behind (kind, name) (k, n) [] c)
+  where
+    none : List (Kind × List ℕ)
+    none = []
+
+    at : (◌≡◌ {A = Kind × List ℕ} (kind, name) (k, n)) ⊎ Contains none (k, n) → (i : ℕ) × HasShown s k n i
+    at (inl same) = subst (λ (x : Kind × List ℕ). (i : ℕ) × HasShown s x.0 x.1 i) same (id, h)
+    at (inr later) = absurd (in_none (k, n) later)
+
+shown_none : (s : Seen) → AllShown s []
+shown_none s k n c = absurd (in_none (k, n) c)
+
+-- one name that was assigned
+pub assigned_ok : (c : Config) (old new : Seen) (kind : Kind) (name : List ℕ) (a : Assigned) (id : ℕ) → makes c kind ≡ true → MadeSo old (AssignMade kind name (Ok a)) new → HasShown new kind name (answered_id a)
+    → NamesAsked {T = ℕ} c ((kind, name) ∷ []) old (Ok id) new
+assigned_ok c old new kind name a id m (list, made, q) h = record { list = list; made = made; entries = one_name c kind name list (for_assign c kind name (Ok a) list m q); answered = shown_one new kind name _ h }
+
+pub assigned_full : (c : Config) (old new : Seen) (kind k : Kind) (name : List ℕ) → makes c kind ≡ true → MadeSo old (AssignMade kind name (Err (assign.Exhausted k))) new
+    → NamesAsked {T = ℕ} c ((kind, name) ∷ []) old (Err (Exhausted k)) new
+assigned_full c old new kind k name m (list, made, (d, rest, is, l, (same, (b, last, did)))) =
+    let entries = one_name c kind name list (for_assign c kind name (Err (assign.Exhausted k)) list m (d, rest, is, l, (same, (b, last, did)))) in
+    let among : Contains list b = subst (λ xs. Contains xs b) (sym (is ∙ ap (λ xs. d ∷ xs) last)) (behind d b (b ∷ []) (at_front b [])) in
+    let full : NamesAsked {T = ℕ} c ((kind, name) ∷ []) old (Err (Exhausted kind)) new = record { list = list; made = made; entries = entries; answered = ((m, (b, among, did)), (name, ([], [], refl, shown_none new))) } in
+    subst (λ (x : Kind). NamesAsked {T = ℕ} c ((kind, name) ∷ []) old (Err (Exhausted x)) new) (sym same) full
+
+pub assigned_memory : (c : Config) (old new : Seen) (kind : Kind) (name : List ℕ) → makes c kind ≡ true → MadeSo old (AssignMade kind name (Err assign.OutOfMemory)) new → NamesAsked {T = ℕ} c ((kind, name) ∷ []) old (Err OutOfMemory) new
+assigned_memory c old new kind name m (list, made, q) = record { list = list; made = made; entries = one_name c kind name list (for_assign c kind name (Err assign.OutOfMemory) list m q); answered = tt }
+
+pub assigned_stopped : (c : Config) (old new : Seen) (kind : Kind) (name : List ℕ) → makes c kind ≡ true → MadeSo old (AssignMade kind name (Err assign.Stopped)) new → NamesAsked {T = ℕ} c ((kind, name) ∷ []) old (Err Stopped) new
+assigned_stopped c old new kind name m (list, made, q) = record { list = list; made = made; entries = one_name c kind name list (for_assign c kind name (Err assign.Stopped) list m q); answered = tt }
+
+-- one name that was resolved
+pub resolved_ok : (c : Config) (old new : Seen) (kind : Kind) (name : List ℕ) (id : ℕ) → MadeSo old (ResolveMade kind name (Ok id)) new → HasShown new kind name id → NamesAsked {T = ℕ} c ((kind, name) ∷ []) old (Ok id) new
+resolved_ok c old new kind name id (list, made, (d, is, l)) h = record { list = list; made = made; entries = one_name c kind name list (subst (ForName c kind name) (sym is) (ForName.look _ l)); answered = shown_one new kind name id h }
+
+pub resolved_unknown : (c : Config) (old new : Seen) (kind k : Kind) (name n : List ℕ) → n ≡ name → makes c kind ≡ false → MadeSo old (ResolveMade kind name (Err (resolve.Unknown k))) new
+    → NamesAsked {T = ℕ} c ((kind, name) ∷ []) old (Err (Unknown k n)) new
+resolved_unknown c old new kind k name n same m (list, made, (of, (d, is, l))) =
+    let among : Contains list d = subst (λ xs. Contains xs d) (sym is) (at_front d []) in
+    let one : NamesAsked {T = ℕ} c ((kind, name) ∷ []) old (Err (Unknown kind name)) new = record {
+      list = list;
+      made = made;
+      entries = one_name c kind name list (subst (ForName c kind name) (sym is) (ForName.look _ l));
+      answered = ((m, (d, among, l)), ([], [], refl, shown_none new));
+    } in
+    subst (λ (x : Kind × List ℕ). NamesAsked {T = ℕ} c ((kind, name) ∷ []) old (Err (Unknown x.0 x.1)) new) (λ i. ((sym of) i, (sym same) i)) one
+
+-- no memory for the name that is told
+pub resolved_without : (c : Config) (old new : Seen) (kind k : Kind) (name : List ℕ) → MadeSo old (ResolveMade kind name (Err (resolve.Unknown k))) new → NamesAsked {T = ℕ} c ((kind, name) ∷ []) old (Err OutOfMemory) new
+resolved_without c old new kind k name (list, made, (of, (d, is, l))) = record { list = list; made = made; entries = one_name c kind name list (subst (ForName c kind name) (sym is) (ForName.look _ l)); answered = tt }
+
+pub resolved_memory : (c : Config) (old new : Seen) (kind : Kind) (name : List ℕ) → MadeSo old (ResolveMade kind name (Err resolve.OutOfMemory)) new → NamesAsked {T = ℕ} c ((kind, name) ∷ []) old (Err OutOfMemory) new
+resolved_memory c old new kind name (list, made, none) = record { list = list; made = made; entries = one_name c kind name list (subst (ForName c kind name) (sym none) ForName.none); answered = tt }
+
+pub resolved_stopped : (c : Config) (old new : Seen) (kind : Kind) (name : List ℕ) → MadeSo old (ResolveMade kind name (Err resolve.Stopped)) new → NamesAsked {T = ℕ} c ((kind, name) ∷ []) old (Err Stopped) new
+resolved_stopped c old new kind name (list, made, none) = record { list = list; made = made; entries = one_name c kind name list (subst (ForName c kind name) (sym none) ForName.none); answered = tt }
+
+-- what was shown stays shown
+pub shown_kept : (s t : Seen) (kind : Kind) (name : List ℕ) (id : ℕ) → Extends s t → HasShown s kind name id → HasShown t kind name id
+shown_kept s t kind name id e h = record {
+  is_id = h.is_id;
+  is_name = h.is_name;
+  known = let k = h.known in (k.0, k.1, e.kept k.0 k.1 k.2, k.3);
+  stands = λ later more. h.stands later (extends_joined s t later e more);
+}
+
+pub all_kept : (s t : Seen) (names : Names) → Extends s t → AllShown s names → AllShown t names
+all_kept s t names e all k n c = let w = all k n c in (w.0, shown_kept s t k n w.0 e w.1)
+
+-- members of two lists
+pub in_either : {X : Type 0} (xs ys : List X) (y : X) → Contains (xs ++ ys) y → Contains xs y ⊎ Contains ys y
+in_either [] ys y c = inr c
+in_either {X} (x ∷ xs) ys y c = at (front_or_behind x y (xs ++ ys) c) (in_either xs ys y)
+  where
+    at : (x ≡ y) ⊎ Contains (xs ++ ys) y → (Contains (xs ++ ys) y → Contains xs y ⊎ Contains ys y) → Contains (x ∷ xs) y ⊎ Contains ys y
+    at (inl same) go = inl (subst (Contains (x ∷ xs)) same (at_front x xs))
+    at (inr later) go = elim (go later) [ inl l ↦ inl (behind x y xs l) | inr r ↦ inr r ]
+
+pub in_right : {X : Type 0} (xs ys : List X) (y : X) → Contains ys y → Contains (xs ++ ys) y
+in_right [] ys y c = c
+in_right (x ∷ xs) ys y c = behind x y (xs ++ ys) (in_right xs ys y c)
+
+pub in_left : {X : Type 0} (xs ys : List X) (y : X) → Contains xs y → Contains (xs ++ ys) y
+in_left [] ys y c = absurd (in_none y c)
+in_left (x ∷ xs) ys y c = elim (front_or_behind x y xs c) [ inl same ↦ subst (Contains (x ∷ (xs ++ ys))) same (at_front x (xs ++ ys)) | inr later ↦ behind x y (xs ++ ys) (in_left xs ys y later) ]
+
+all_joined : (s : Seen) (xs ys : Names) → AllShown s xs → AllShown s ys → AllShown s (xs ++ ys)
+all_joined s xs ys a b k n c = elim (in_either xs ys (k, n) c) [ inl l ↦ a k n l | inr r ↦ b k n r ]
+
+names_joined : (c : Config) (xs ys : Names) (l m : List Placed) → ForNames c xs l → ForNames c ys m → ForNames c (xs ++ ys) (l ++ m)
+names_joined c _ ys _ m nil b = b
+names_joined c _ ys _ m (more {kind} {name} {names} {part} {list} f a) b =
+    subst (ForNames c ((kind, name) ∷ (names ++ ys))) (sym (append_assoc part list m)) (more f (names_joined c names ys list m a b))
+
+none_for : (c : Config) (ys : Names) → ForNames c ys []
+none_for c [] = nil
+none_for c (n ∷ ys) = more ForName.none (none_for c ys)
+
+before_more : (s : Seen) (xs ys : Names) (kind : Kind) (name : List ℕ) → AllShown s xs → Before ys kind name (AllShown s) → Before (xs ++ ys) kind name (AllShown s)
+before_more s xs ys kind name a (b, after, is, all) = (xs ++ b, after, ap (λ zs. xs ++ zs) is ∙ sym (append_assoc xs b ((kind, name) ∷ after)), all_joined s xs b a all)
+
+behind_more : (s : Seen) (xs ys : Names) (kind : Kind) (name : List ℕ) → Before xs kind name (AllShown s) → Before (xs ++ ys) kind name (AllShown s)
+behind_more s xs ys kind name (b, after, is, all) = (b, after ++ ys, ap (λ zs. zs ++ ys) is ∙ append_assoc b ((kind, name) ∷ after) ys, all)
+
+fails_later : (c : Config) (s : Seen) (xs ys : Names) (l m : List Placed) (e : PutFault) → AllShown s xs → Fails c ys s e m → Fails c (xs ++ ys) s e (l ++ m)
+fails_later c s xs ys l m (Unknown kind name) a ((off, (d, among, look)), b) = ((off, (d, in_right l m d among, look)), before_more s xs ys kind name a b)
+fails_later c s xs ys l m (Exhausted kind) a ((on, (d, among, did)), (name, b)) = ((on, (d, in_right l m d among, did)), (name, before_more s xs ys kind name a b))
+fails_later c s xs ys l m OutOfMemory a f = tt
+fails_later c s xs ys l m Stopped a f = tt
+
+fails_before : (c : Config) (s : Seen) (xs ys : Names) (l : List Placed) (e : PutFault) → Fails c xs s e l → Fails c (xs ++ ys) s e l
+fails_before c s xs ys l (Unknown kind name) (was, b) = (was, behind_more s xs ys kind name b)
+fails_before c s xs ys l (Exhausted kind) (was, (name, b)) = (was, (name, behind_more s xs ys kind name b))
+fails_before c s xs ys l OutOfMemory f = tt
+fails_before c s xs ys l Stopped f = tt
+
+-- names that were asked behind others
+pub asked_then : {T U : Type 0} (c : Config) (xs ys : Names) (a b d : Seen) (x : T) (r : Result U PutFault) → NamesAsked {T = T} c xs a (Ok x) b → NamesAsked {T = U} c ys b r d → NamesAsked {T = U} c (xs ++ ys) a r d
+asked_then {T} {U} c xs ys a b d x r p q = record {
+  list = p.list ++ q.list;
+  made = made_joined a b d p.list q.list p.made q.made;
+  entries = names_joined c xs ys p.list q.list p.entries q.entries;
+  answered = at r q.answered;
+}
+  where
+    kept : AllShown d xs
+    kept = all_kept b d xs q.made.since.extends p.answered
+
+    at : (r : Result U PutFault) → Answered c ys d r q.list → Answered c (xs ++ ys) d r (p.list ++ q.list)
+    at (Ok y) all = all_joined d xs ys kept all
+    at (Err e) f = fails_later c d xs ys p.list q.list e kept f
+
+-- names of which the first failed
+pub asked_failed : {T U : Type 0} (c : Config) (xs ys : Names) (a b : Seen) (e : PutFault) → NamesAsked {T = T} c xs a (Err e) b → NamesAsked {T = U} c (xs ++ ys) a (Err e) b
+asked_failed c xs ys a b e p = record {
+  list = p.list;
+  made = p.made;
+  entries = subst (ForNames c (xs ++ ys)) (no_more p.list) (names_joined c xs ys p.list [] p.entries (none_for c ys));
+  answered = fails_before c b xs ys p.list e p.answered;
+}
+
+-- nothing was asked
+pub asked_nothing : (c : Config) (s : Seen) → NamesAsked {T = Unit {0}} c [] s (Ok tt) s
+asked_nothing c s = record { list = []; made = nothing_made s; entries = nil; answered = shown_none s }
+
+-- the same under another type of answer
+pub asked_ok_as : {T U : Type 0} (c : Config) (names : Names) (a b : Seen) (x : T) (y : U) → NamesAsked {T = T} c names a (Ok x) b → NamesAsked {T = U} c names a (Ok y) b
+asked_ok_as c names a b x y p = record { list = p.list; made = p.made; entries = p.entries; answered = p.answered }
+
+pub asked_err_as : {T U : Type 0} (c : Config) (names : Names) (a b : Seen) (e : PutFault) → NamesAsked {T = T} c names a (Err e) b → NamesAsked {T = U} c names a (Err e) b
+asked_err_as c names a b e p = record { list = p.list; made = p.made; entries = p.entries; answered = p.answered }
+
+-- a fault that was passed on
+pub passed_on : {T : Type 0} (P : Result T PutFault → Type 0) (e : PutFault) (r : Result T PutFault) → IsErrAnd r (λ y. y ≡ e) → P (Err e) → P r
+passed_on P e r is p = let y = err_from_is_err_and r is in subst P (sym (y.1 ∙ ap (λ x. Err x) y.2)) p

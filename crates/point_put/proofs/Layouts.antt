@@ -1,0 +1,119 @@
+-- The cell of a point, with the ids that were seen of its names.
+use Rattle.std.proofs.Common.{◌≡◌, ℕ, ◌≤◌, ◌%◌, List, [], ◌∷◌, length, refl, sym, ap, subst}
+use Rattle.std.specs.Prelude.{Contains, Result, Ok, Err, IsErrAnd, IfErr, unwrap_or}
+use Rattle.tsd_base.specs.declared.kinds.Kind.{Kind}
+use Rattle.tsd_base.specs.declared.kinds.Kind.TheVariants.{Metric, TagKey, TagValue}
+use Rattle.tsd_base.specs.Points.{DataPoint}
+use Rattle.row_key.specs.declared.keys.RowKey.{RowKey}
+use Rattle.row_key.specs.Key.{key_bytes}
+use Rattle.qual_codec.specs.Dots.{IsDots}
+use Rattle.qual_codec.specs.Spelling.{IsShortest, dot_of}
+use Rattle.cell_model.specs.declared.answers.RowsFault.{RowsFault}
+use Rattle.cell_model.specs.declared.answers.RowsFault.TheVariants as rows
+use Rattle.cell_model.specs.declared.answers.Stored.{Stored}
+use Rattle.cell_model.specs.declared.cells.Row.{Row}
+use Rattle.cell_model.specs.declared.events.Step.TheVariants.{PutPoint}
+use Rattle.cell_model.specs.declared.events.Reply.TheVariants.{Written}
+use Rattle.cell_model.specs.Machine.{kind_qual, MOST_IDS}
+use Rattle.cell_model.specs.History.{first}
+use Rattle.cell_model.specs.Ids.{name_row, id_bytes, id_of}
+use Rattle.cell_model.specs.Layout.{HasKey, names_of}
+use Rattle.cell_model.specs.Lawful.{PointBasis}
+use Rattle.cell_model.specs.Readings.{point_row}
+use Rattle.cell_model.specs.Seen.{Seen, Waited, Stepped, IsPossible, KnowsCell, RoseIfStopped}
+use Rattle.cell_model.specs.Deeds.{Made}
+use Rattle.uid_table.specs.Shown.{HasShown}
+use Rattle.point_put.specs.declared.fault.PutFault.{PutFault}
+use Rattle.point_put.specs.declared.fault.PutFault.TheVariants.{OutOfMemory}
+use Rattle.point_put.specs.Faults.{put_fault, PutRose}
+use Rattle.point_put.specs.Shown.{AllShown, KeyShown}
+use Rattle.point_put.specs.Putting.{StoreMade}
+use Rattle.point_put.proofs.Lower.{first_lawful, first_fits, wait_made, step_made, itself}
+use Rattle.point_put.proofs.Asking.{passed_on}
+
+-- the ids of names in some history that fits
+ids_from : (s : Seen) → IsPossible s → Kind → List ℕ → ℕ
+ids_from s p kind name = unwrap_or (id_of p.history kind name) 0
+
+ids_from-is : (s : Seen) (p : IsPossible s) (kind : Kind) (name : List ℕ) (id : ℕ) → HasShown s kind name id → ids_from s p kind name ≡ id
+unfolding ids_from
+ids_from-is s p kind name id h = ap (λ o. unwrap_or o 0) (h.stands s (itself s) p.history p.lawful p.fits)
+
+has_key : (s : Seen) (p : IsPossible s) (point : DataPoint) (key : RowKey) → KeyShown s point key → HasKey (ids_from s p) point key
+has_key s p point key k = record {
+  is_key = k.is_key;
+  metric = sym (ids_from-is s p Metric point.metric key.metric k.metric);
+  base = k.base;
+  count = k.pairs.count;
+  each_tag = λ t c. let w = k.pairs.each_tag t c in subst (λ (x : ℕ × ℕ). Contains key.pairs.items x) (λ j. ((sym (ids_from-is s p TagKey t.0 w.0.0 w.2.0)) j, (sym (ids_from-is s p TagValue t.1 w.0.1 w.2.1)) j)) w.1;
+  each_pair = λ i c. let w = k.pairs.each_pair i c in (w.0, w.1, λ j. ((ids_from-is s p TagKey w.0.0 i.0 w.2.0) j, (ids_from-is s p TagValue w.0.1 i.1 w.2.1) j));
+}
+
+-- what a cell that is to be put is made of
+pub record Laid (s : Seen) (point : DataPoint) (key : RowKey) (row : Row) (qual value : List ℕ) : Type 0 where
+  pub possible : IsPossible s
+  pub names : AllShown s (names_of point)
+  pub key_is : KeyShown s point key
+  pub row_is : row ≡ point_row (key_bytes key)
+  pub dot : IsDots qual value (dot_of (point.time % 3600000) point.fine point.value (length value) ∷ [])
+  pub shortest : IsShortest point.value value
+
+basis : (Has : Kind → List ℕ → ℕ → Type 0) (s : Seen) (point : DataPoint) (key : RowKey) (row : Row) (qual value : List ℕ) → Laid s point key row qual value → ((kind : Kind) (name : List ℕ) (id : ℕ) → HasShown s kind name id → Has kind name id)
+    → PointBasis Has point row qual value
+basis Has s point key row qual value l of = record {
+  is_point = l.key_is.is_point;
+  in_points = ap (λ (r : Row). r.table) l.row_is;
+  ids = ids_from s l.possible;
+  resolved = λ kind name c. let w = l.names kind name c in subst (Has kind name) (sym (ids_from-is s l.possible kind name w.0 w.1)) (of kind name w.0 w.1);
+  layout = record { key = key; has = has_key s l.possible point key l.key_is; row_is = ap (λ (r : Row). r.bytes) l.row_is; dot = l.dot; shortest = l.shortest };
+}
+
+-- the put is known to be allowed
+pub knows_put : (s : Seen) (point : DataPoint) (key : RowKey) (row : Row) (qual value : List ℕ) → Laid s point key row qual value
+    → PointBasis (λ kind name id. KnowsCell s (name_row name) (kind_qual kind) (id_bytes id) × (id ≤ MOST_IDS)) point row qual value
+knows_put s point key row qual value l = basis _ s point key row qual value l (λ kind name id h. (h.known, h.is_id.1))
+
+-- and what it makes
+pub stored : (old new : Seen) (point : DataPoint) (key : RowKey) (row : Row) (qual value : List ℕ) → Laid old point key row qual value → Stepped old (PutPoint point row qual value) Written new → IsPossible new
+    → StoreMade point old (Ok (record { row = row; base = key.base })) new
+stored old new point key row qual value l step p =
+    let made = step_made old new _ _ step p in (
+      _,
+      made,
+      (λ h lawful fits. record {
+        qual = qual;
+        value = value;
+        did = (refl, refl);
+        layout = basis _ old point key row qual value l (λ kind name id shown. shown.stands new made.since.extends (first new.length h) (first_lawful h new.length lawful) (first_fits new h fits));
+      }),
+      l.key_is.base,
+    )
+
+pub not_stored : (old new : Seen) (point : DataPoint) (e : RowsFault) (r : Result Stored PutFault) → IsErrAnd r (λ y. y ≡ put_fault e) → Waited old new → (IsPossible old → IsPossible new) → StoreMade point old r new
+not_stored old new point e r is w lives = passed_on (λ x. StoreMade point old x new) (put_fault e) r is (at e)
+  where
+    at : (e : RowsFault) → StoreMade point old (Err (put_fault e)) new
+    at rows.OutOfMemory = wait_made old new w lives
+    at rows.Stopped = wait_made old new w lives
+
+pub no_memory : (s : Seen) (point : DataPoint) (r : Result Stored PutFault) → IsErrAnd r (λ y. y ≡ OutOfMemory) → Made s [] s → StoreMade point s r s
+no_memory s point r is m = passed_on (λ x. StoreMade point s x s) OutOfMemory r is m
+
+pub rose_as : {T : Type 0} (before now : ℕ) (e : RowsFault) (r : Result T PutFault) → IsErrAnd r (λ y. y ≡ put_fault e) → RoseIfStopped before now e → IfErr r (PutRose before now)
+rose_as before now e r is rose = passed_on (λ x. IfErr x (PutRose before now)) (put_fault e) r is (at e rose)
+  where
+    at : (e : RowsFault) → RoseIfStopped before now e → PutRose before now (put_fault e)
+    at rows.OutOfMemory rose = tt
+    at rows.Stopped rose = rose
+
+-- the parts of such a cell, under the names that the code has for them
+pub laid : (s : Seen) (point : DataPoint) (key : RowKey) (row : Row) (qual value list : List ℕ) → list ≡ value → KeyShown s point key → AllShown s (names_of point) → IsPossible s → row ≡ point_row (key_bytes key)
+    → IsDots qual list (dot_of (point.time % 3600000) point.fine point.value (length list) ∷ []) → IsShortest point.value value → Laid s point key row qual value
+laid s point key row qual value list same k names p row_is dot shortest = record {
+  possible = p;
+  names = names;
+  key_is = k;
+  row_is = row_is;
+  dot = subst (λ (v : List ℕ). IsDots qual v (dot_of (point.time % 3600000) point.fine point.value (length v) ∷ [])) same dot;
+  shortest = shortest;
+}

@@ -1,0 +1,6 @@
+mod Asking
+mod Keying
+mod Layouts
+mod Lower
+mod Outcomes
+mod Tagging

@@ -1,0 +1,45 @@
+-- The entries that a caller makes for the names of a point.
+use Rattle.std.specs.Prelude.{◌≡◌, ℕ, true, false, List, [], ◌∷◌, ◌++◌, Contains, Option, None}
+use Rattle.std.specs.List.{flat_map}
+use Rattle.tsd_base.specs.declared.kinds.Kind.{Kind}
+use Rattle.tsd_base.specs.declared.kinds.Kind.TheVariants.{TagKey, TagValue}
+use Rattle.tsd_base.specs.TagList.{Pair}
+use Rattle.cell_model.specs.declared.events.Step.TheVariants.{Bump}
+use Rattle.cell_model.specs.declared.events.Reply.TheVariants.{BumpReply}
+use Rattle.cell_model.specs.declared.events.Placed.{Placed}
+use Rattle.cell_model.specs.declared.answers.Bumped.TheVariants.{Full}
+use Rattle.cell_model.specs.declared.answers.Claimed.{Claimed}
+use Rattle.uid_table.specs.Steps.{Did, DidLook, DidBump, DidReverse, DidForward}
+use Rattle.point_put.specs.declared.config.Config.{Config}
+use Rattle.point_put.specs.Configs.{makes}
+
+-- the entries for one name: at most four, at most one of them a bump, and that only where names of the kind are given ids, after a read that found no cell
+pub data ForName (c : Config) (kind : Kind) (name : List ℕ) : List Placed → Type 0 where
+  none : ForName c kind name []
+  look : {r : Placed} (shown : Option (List ℕ)) → DidLook r kind name shown → ForName c kind name (r ∷ [])
+  full : {r b : Placed} → makes c kind ≡ true → DidLook r kind name None → Did b (Bump kind) (BumpReply Full) → ForName c kind name (r ∷ b ∷ [])
+  bump : {r b : Placed} (id : ℕ) → makes c kind ≡ true → DidLook r kind name None → DidBump b kind id → ForName c kind name (r ∷ b ∷ [])
+  reverse : {r b n : Placed} (id : ℕ) → makes c kind ≡ true → DidLook r kind name None → DidBump b kind id → DidReverse n kind name id → ForName c kind name (r ∷ b ∷ n ∷ [])
+  forward : {r b n f : Placed} (id : ℕ) (reply : Claimed) → makes c kind ≡ true → DidLook r kind name None → DidBump b kind id → DidReverse n kind name id
+      → DidForward f kind name id reply → ForName c kind name (r ∷ b ∷ n ∷ f ∷ [])
+
+-- the entries for these names, in this order
+pub data ForNames (c : Config) : List (Kind × List ℕ) → List Placed → Type 0 where
+  nil : ForNames c [] []
+  more : {kind : Kind} {name : List ℕ} {names : List (Kind × List ℕ)} {part list : List Placed} → ForName c kind name part → ForNames c names list → ForNames c ((kind, name) ∷ names) (part ++ list)
+
+-- names of the kind aren't given ids, and a read found no cell of this one
+abbrev pub WasUnknown : Config → Kind → List ℕ → List Placed → Type 0
+WasUnknown c kind name list = (makes c kind ≡ false) × ((d : Placed) × Contains list d × DidLook d kind name None)
+
+-- names of the kind are given ids, and a bump found the counter full
+abbrev pub WasExhausted : Config → Kind → List Placed → Type 0
+WasExhausted c kind list = (makes c kind ≡ true) × ((d : Placed) × Contains list d × Did d (Bump kind) (BumpReply Full))
+
+-- those of the names that stand before this one
+abbrev pub Before : List (Kind × List ℕ) → Kind → List ℕ → (List (Kind × List ℕ) → Type 0) → Type 0
+Before names kind name P = (before : List (Kind × List ℕ)) × (after : List (Kind × List ℕ)) × (names ≡ before ++ (kind, name) ∷ after) × P before
+
+-- the names of tags, each key before its value
+abbrev pub names_of_tags : List Pair → List (Kind × List ℕ)
+names_of_tags tags = flat_map (λ t. (TagKey, t.0) ∷ (TagValue, t.1) ∷ []) tags

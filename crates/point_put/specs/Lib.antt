@@ -1,0 +1,5 @@
+pub mod Configs
+pub mod Faults
+pub mod Entries
+pub mod Shown
+pub mod Putting

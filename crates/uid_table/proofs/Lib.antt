@@ -1,0 +1,9 @@
+mod ByteOrder
+mod Gathering
+mod Lower
+mod Making
+mod NamesThere
+mod Shows
+mod NextRows
+mod Ranks
+mod Searches

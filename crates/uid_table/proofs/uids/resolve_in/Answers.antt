@@ -1,0 +1,6 @@
+use Rattle.std.proofs.Common.{[], refl}
+use Rattle.uid_table.proofs.Making.{nothing_made}
+use Rattle.uid_table.proofs.uids.resolve_in.Goals as goal
+
+pub returns-in_default-clause-made : goal.returns-in_default-clause-made
+returns-in_default-clause-made g c = ([], nothing_made _, refl)

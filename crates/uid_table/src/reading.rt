@@ -1,0 +1,101 @@
+//! Reads of the cells of names and of ids.
+ghost use Rattle.std.specs.Prelude.{◌≡◌, ◌≤◌, length, IfOk, IfErr, OnOk, IfSome, MatchOption, Some, None};
+ghost use Rattle.tsd_base.specs.Alphabet.{IsName};
+ghost use Rattle.cell_model.specs.Store.{value_among};
+ghost use Rattle.cell_model.specs.Machine.{kind_qual};
+ghost use Rattle.cell_model.specs.Ids.{name_row, id_row, id_bytes, id_number};
+ghost use Rattle.cell_model.specs.Seen.{IsPossible, RoseIfStopped};
+ghost use Rattle.uid_table.specs.Shown.{HasShown};
+ghost use Rattle.uid_table.specs.Steps.{MadeSo, LookMade};
+
+use cell_model::answers::RowsFault;
+use cell_model::cells::Row;
+use cell_model::rows::Rows;
+use qual_codec::{Bytes, Cell};
+use row_key::Table;
+use std::alloc::{AllocError, Global};
+use tsd_base::kinds::Kind;
+use tsd_base::names::Name;
+
+/// The qualifier of a kind's cells in the tables of ids and names. It takes no memory.
+pub fn qualifier(kind: Kind) -> Bytes
+    ensures { result ≡ kind_qual kind }
+{
+    match kind {
+        Kind::Metric => Bytes::short(b"metrics"),
+        Kind::TagKey => Bytes::short(b"tagk"),
+        Kind::TagValue => Bytes::short(b"tagv"),
+    }
+}
+
+/// The three bytes of an id. They take no memory.
+pub fn bytes_of_id(id: u32) -> Bytes
+    ensures { result ≡ id_bytes id }
+{
+    let [_, high, middle, low] = id.to_be_bytes();
+    Bytes::short(&[high, middle, low])
+}
+
+/// The row of an id in the table of names. It takes no memory.
+pub fn row_of_id(id: u32) -> Row
+    ensures { result ≡ id_row id }
+{
+    Row {
+        table: Table::Names,
+        bytes: bytes_of_id(id),
+    }
+}
+
+/// The row of a name in the table of ids.
+pub fn row_of_name(alloc: Global, name: &Name) -> Result<Row, AllocError>
+    ensures row { IfOk result (λ row. row ≡ name_row name.now) }
+    ensures named { IsName name.now }
+{
+    Ok(Row {
+        table: Table::Ids,
+        bytes: Bytes::of(alloc, name.bytes())?,
+    })
+}
+
+/// The value at a qualifier.
+pub fn value_at<'a>(cells: &'a [Cell], qual: &[u8]) -> Option<&'a [u8]>
+    ensures { MatchOption result (value_among cells.now qual.now ≡ None) (λ value. value_among cells.now qual.now ≡ Some value.now) }
+{
+    for cell in cells {
+        if cell.qual.list() == qual {
+            return Some(cell.value.list());
+        }
+    }
+    None
+}
+
+/// The id in three bytes.
+pub fn id_from(value: &[u8]) -> u32
+    requires { length value.now ≡ 3 }
+    ensures { id_number value.now ≡ Some result }
+{
+    u32::from_be_bytes([0, value[0], value[1], value[2]])
+}
+
+/// The id that the row of a name shows, if it shows one.
+pub fn look<R: Rows>(
+    rows: &mut R,
+    alloc: Global,
+    kind: Kind,
+    row: &Row,
+) -> Result<Option<u32>, RowsFault>
+    requires row { row.now ≡ name_row row.now.bytes }
+    requires named { IsName row.now.bytes }
+    ensures made { MadeSo (R.seen rows.old) (LookMade kind row.now.bytes result) (R.seen rows.new) }
+    ensures id { IfOk result (λ shown. IfSome shown (HasShown (R.seen rows.new) kind row.now.bytes)) }
+    ensures possible { OnOk result (IsPossible (R.seen rows.new)) }
+    ensures grows { R.stops rows.old ≤ R.stops rows.new }
+    ensures stopped { IfErr result (RoseIfStopped (R.stops rows.old) (R.stops rows.new)) }
+    ensures spare { OnOk result (2 ≤ R.spare rows.new) }
+{
+    let cells = rows.read(alloc, row)?;
+    match value_at(cells.list(), qualifier(kind).list()) {
+        Some(value) => Ok(Some(id_from(value))),
+        None => Ok(None),
+    }
+}
