@@ -1,7 +1,11 @@
 pub mod Alike
-pub mod Fitting
+pub mod Nearest
+pub mod Quotients
 pub mod Rising
 pub mod Same
-pub mod Series
-pub mod Totals
+pub mod Standing
+pub mod Tallying
 pub mod Unordered
+pub mod Walking
+pub mod Finding
+pub mod Bundling

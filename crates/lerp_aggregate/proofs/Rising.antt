@@ -1,17 +1,15 @@
 -- Lists of points at rising times: what stands at a time says all of them.
-use Rattle.std.proofs.Common.{◌≡◌, ℕ, ◌<◌, ℤ, Bool, true, false, T, ◌&&◌, eqb, List, [], ◌∷◌, map, None, Some, Less, refl, sym, ap, ◌∙◌, ⊎_elim, arith}
-use Rattle.std.specs.BTreeMap.{is_at}
+use Rattle.std.proofs.Common.{◌≡◌, ℕ, suc, ◌<◌, ℤ, Bool, true, false, T, ◌&&◌, eqb, List, [], ◌∷◌, map, None, Some, Less, refl, sym, ap, ◌∙◌, ⊎_elim, arith}
 use Rattle.std.specs.FinMap.{FinMap, entries, entries_sorted, is_sorted, keys}
 use Rattle.std.specs.FinMap.Entries.{below_all}
-use Rattle.std.specs.List.{AllByRecursion}
-use Rattle.std.specs.List.Sorted.{IsStrictlySortedBy}
-use Rattle.std.specs.Cmp.{unsigned_tied}
-use Rattle.std.specs.Map.{keys_of, lookup}
+use Rattle.std.specs.List.{AllByRecursion, find}
+use Rattle.std.specs.Map.{keys_of}
 use Rattle.std.specs.Ordering.{nat_cmp, is_lt}
 use Rattle.std.proofs.lemmas.Bool.{ne_eqb, eq-eqb, eqb-true, cond-true, cond-false, cases_Bool, cases_order}
 use Rattle.std.proofs.lemmas.Bool.Decides.{nat_tests}
-use Rattle.std.proofs.lemmas.Map.Keys.{sorted_head, sorted_tail}
+use Rattle.std.proofs.lemmas.List.Elements.{recursion_from_All}
 use Rattle.std.proofs.lemmas.Option.{none-some, same_Some}
+use Rattle.tsd_base.specs.Dots.{IsRising}
 use Rattle.lerp_aggregate.specs.Aggregation.{value_at}
 
 -- each time is below those after it
@@ -19,7 +17,7 @@ abbrev pub Rises : List (ℕ × ℤ) → Type 0
 Rises [] = Unit {0}
 Rises (p ∷ points) = AllByRecursion (λ q. p.0 < q.0) points × Rises points
 
-none_at : (t : ℕ) (points : List (ℕ × ℤ)) → AllByRecursion (λ q. t < q.0) points → value_at points t ≡ None
+pub none_at : (t : ℕ) (points : List (ℕ × ℤ)) → AllByRecursion (λ q. t < q.0) points → value_at points t ≡ None
 none_at t [] h = refl
 none_at t (p ∷ points) h = cond-false _ _ _ (ne_eqb t p.0 (λ e. omega (arith, h.0))) ∙ none_at t points h.1
 
@@ -29,7 +27,7 @@ none_below t p points below h = none_at t (p ∷ points) (below, above t p.0 bel
   above t u below [] h = tt
   above t u below (q ∷ points) h = (omega (arith, h.0), above t u below points h.1)
 
-first_at : (p : ℕ × ℤ) (points : List (ℕ × ℤ)) (t : ℕ) → t ≡ p.0 → value_at (p ∷ points) t ≡ Some p.1
+pub first_at : (p : ℕ × ℤ) (points : List (ℕ × ℤ)) (t : ℕ) → t ≡ p.0 → value_at (p ∷ points) t ≡ Some p.1
 first_at p points t e = cond-true _ _ _ (eq-eqb t p.0 e)
 
 -- the points after two first ones at one time, as they answer
@@ -62,14 +60,6 @@ same_points (p ∷ xs) (q ∷ ys) r s alike =
 pub below_from_Less : (a b : ℕ) → nat_cmp a b ≡ Less → a < b
 below_from_Less a b h = grind (arith, nat_tests)
 
--- an ordered map's entries rise
-pub Rises-from_ordered : (es : List (ℕ × ℤ)) → IsStrictlySortedBy nat_cmp (keys_of es) → Rises es
-Rises-from_ordered [] h = tt
-Rises-from_ordered (e ∷ es) h = (above e.0 es (sorted_head nat_cmp e.0 _ h), Rises-from_ordered es (sorted_tail nat_cmp e.0 _ h)) where
-  above : (k : ℕ) (es : List (ℕ × ℤ)) → AllByRecursion (λ y. nat_cmp k y ≡ Less) (keys_of es) → AllByRecursion (λ q. k < q.0) es
-  above k [] h = tt
-  above k (e ∷ es) h = (below_from_Less k e.0 h.0, above k es h.1)
-
 both : (a b : Bool) → T (a && b) → T a × T b
 both true b h = (tt, h)
 both false b h = absurd h
@@ -88,6 +78,34 @@ Rises-at_keys f (e ∷ es) h = (above f e.0 es (both _ _ h).0, Rises-at_keys f e
 pub Rises-keys : (f : ℕ → ℤ) (m : FinMap nat_cmp ℤ) → Rises (map (λ t. (t, f t)) (keys m))
 Rises-keys f m = Rises-at_keys f (entries m) (entries_sorted m)
 
--- what stands at a time, where the keys are compared by `cmp`
-pub value_by_cmp : (es : List (ℕ × ℤ)) (t : ℕ) → lookup (is_at (nat_cmp t)) es ≡ value_at es t
-value_by_cmp es t = ap (λ test. lookup test es) (λ i k. unsigned_tied t k i)
+-- points at rising times rise
+pub Rises-from_rising : (points : List (ℕ × ℤ)) → IsRising points → Rises points
+Rises-from_rising [] rising = tt
+Rises-from_rising (p ∷ points) rising = (
+  recursion_from_All (λ (q : ℕ × ℤ). p.0 < q.0) points (λ k d below. rising 0 (suc k) d (omega arith) (omega arith)),
+  Rises-from_rising points (λ i j d before inside. rising (suc i) (suc j) d (omega arith) (omega arith)),
+)
+
+-- the first of rising points that passes a test
+pub find_first : (test : ℕ × ℤ → Bool) (points : List (ℕ × ℤ)) (t : ℕ) (v : ℤ) → Rises points → value_at points t ≡ Some v → test (t, v) ≡ true
+    → ((u : ℕ) (w : ℤ) → u < t → value_at points u ≡ Some w → test (u, w) ≡ false) → find test points ≡ Some (t, v)
+find_first test [] t v rises here passes before = absurd (none-some v here)
+find_first test (p ∷ points) t v rises here passes before =
+    ⊎_elim
+    (λ (e : t ≡ p.0).
+    let value : p.1 ≡ v = same_Some _ _ (sym (first_at p points t e) ∙ here) in
+    let same : test p ≡ true = ap test (λ i. (sym e i, value i)) ∙ passes in
+    cond-true _ _ _ same ∙ (λ i. Some (sym e i, value i)))
+    (λ apart. ⊎_elim
+    (λ (below : t < p.0). absurd (none-some v (sym (none_below t p points below rises) ∙ here)))
+    (λ (above : p.0 < t).
+    cond-false _ _ _ (before p.0 p.1 above (first_at p points p.0 refl))
+    ∙ find_first test points t v rises.1 (sym (cond-false _ _ _ (ne_eqb t p.0 (λ e. omega arith))) ∙ here) passes (λ u w less at. before u w less (not_first u w at)))
+    apart)
+    (cases_order t p.0) where
+      not_first : (u : ℕ) (w : ℤ) → value_at points u ≡ Some w → value_at (p ∷ points) u ≡ Some w
+      not_first u w at =
+          ⊎_elim
+          (λ (e : u ≡ p.0). absurd (none-some w (sym (ap (value_at points) e ∙ none_at p.0 points rises.0) ∙ at)))
+          (λ apart. cond-false _ _ _ (ne_eqb u p.0 (λ e. ⊎_elim (λ (l : u < p.0). omega (arith, e)) (λ (l : p.0 < u). omega (arith, e)) apart)) ∙ at)
+          (cases_order u p.0)

@@ -1,3 +1,5 @@
 pub mod Aggregation
+pub mod Interpolation
 pub mod Laws
-pub mod Sums
+pub mod Tally
+pub mod Walks

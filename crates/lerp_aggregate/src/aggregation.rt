@@ -1,9 +1,10 @@
 //! The points that a group of series makes.
-ghost use Rattle.std.specs.Prelude.{◌≡◌, ◌<◌, ◌^◌, All};
-ghost use Rattle.tsd_base.specs.declared.kinds.Aggregator.TheVariants.{Zimsum};
-ghost use Rattle.lerp_aggregate.specs.Aggregation.{aggregated, GivesAggregate};
+ghost use Rattle.std.specs.Prelude.{◌≡◌, ◌<◌, ◌^◌, All, length};
+ghost use Rattle.lerp_aggregate.specs.Aggregation.{aggregated, interpolates, GivesAggregate};
+ghost use Rattle.lerp_aggregate.specs.Walks.{walked, StandAt};
 
-use crate::sums::{points_of, sums_of};
+use crate::cursors::Walk;
+use crate::tally::Tally;
 use std::alloc::{AllocError, Global};
 use tsd_base::kinds::Aggregator;
 use tsd_base::series::Dots;
@@ -30,20 +31,53 @@ impl From<AllocError> for AggFault {
 
 /// The one value that the series of a group make at each time of the union of their times.
 ///
-/// Times are in milliseconds, below 2^43. `Zimsum`, the only aggregator so far, sums the values that stand at that very
-/// time; a series without a value there adds nothing. No series make no points. The sums are exact.
+/// Times are in milliseconds, below 2^43. `Sum`, `Min`, `Max` and `Avg` take of each series its value at the time, or
+/// the one between its neighbours (`lerp_at`), and nothing before its first or after its last point. The others take
+/// only values that stand at that very time. `Count` is the number of values; `Avg` is their sum divided by their
+/// number, toward zero; `NoneOf` keeps one series as it is. No series make no points.
 ///
-/// It fails with `Overflow` exactly where some sum leaves an `i64`, at the least such time, and with `OutOfMemory`
-/// only for want of memory.
+/// It fails with `Overflow` exactly where the sum of `Sum` or `Zimsum` leaves an `i64`, at the least such time, and
+/// with `OutOfMemory` only for want of memory.
 pub fn aggregate(alloc: Global, list: &[Dots], how: Aggregator) -> Result<Dots, AggFault>
-    requires zimsum { how ≡ Aggregator.Zimsum }
     requires times { All (λ series. All (λ point. point.0 < 2 ^ 43) series) list.now }
-    ensures { GivesAggregate result (aggregated list.now) }
+    requires alone { how ≡ Aggregator.NoneOf → length list.now ≡ 1 }
+    ensures { GivesAggregate result (aggregated how list.now) }
 {
-    match how {
-        Aggregator::Zimsum => points_of(alloc, &sums_of(alloc, list)?),
-        _ => unreachable!(),
+    if list.is_empty() {
+        return Ok(Dots::make(alloc));
     }
+    let walk = Walk::start(alloc, list, 0, list.len())?;
+    walk_on(alloc, list, how, walk)
+}
+
+/// Whether a series without a value at a time gives one between its neighbours.
+fn interpolates(how: Aggregator) -> bool
+    ensures { result ≡ interpolates how }
+{
+    matches!(
+        how,
+        Aggregator::Sum | Aggregator::Min | Aggregator::Max | Aggregator::Avg
+    )
+}
+
+/// The points from the start of a walk.
+fn walk_on(alloc: Global, list: &[Dots], how: Aggregator, mut walk: Walk) -> Result<Dots, AggFault>
+    requires limit { All (λ series. All (λ point. point.0 < 2 ^ 43) series) list.now }
+    requires start { StandAt list.now 0 walk }
+    requires all { walked list.now walk ≡ list.now }
+    ensures { GivesAggregate result (aggregated how list.now) }
+{
+    let between = interpolates(how);
+    let mut dots = Dots::make(alloc);
+    while let Some(time) = walk.next() {
+        let mut tally = Tally::new();
+        walk.turn(list, between, time, &mut tally);
+        let Some(value) = tally.value(how) else {
+            return Err(AggFault::Overflow { time });
+        };
+        dots.push(time, value)?;
+    }
+    Ok(dots)
 }
 
 #[cfg(test)]

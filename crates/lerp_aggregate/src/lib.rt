@@ -2,5 +2,7 @@
 #![tactic(auto)]
 
 pub mod aggregation;
+mod cursors;
+pub mod interpolation;
 pub mod laws;
-mod sums;
+mod tally;

@@ -1,14 +1,14 @@
 -- What was collected, as the series of the chosen points.
-use Rattle.std.proofs.Common.{◌≡◌, ℕ, ◌^◌, ◌<◌, ◌≤◌, ℤ, Bool, true, false, T, cond, ◌&&◌, ◌||◌, List, [], ◌∷◌, ◌++◌, Some, None, map, Less, All, refl, sym, ap, subst, ◌∙◌, arith}
-use Rattle.std.specs.Prelude.{is_some, option_and_then}
+use Rattle.std.proofs.Common.{◌≡◌, ℕ, ◌^◌, ◌<◌, ℤ, Bool, true, false, T, cond, ◌&&◌, ◌||◌, List, [], ◌∷◌, ◌++◌, Some, None, map, Less, All, refl, sym, ap, subst, ◌∙◌, arith}
+use Rattle.std.specs.Prelude.{◌%◌, is_some, option_and_then}
 use Rattle.std.specs.declared.cmp.Ordering.{Ordering}
 use Rattle.std.specs.BTreeMap.{BTreeMap, IsOrdered, get, keys}
-use Rattle.std.specs.Cmp.{IsTotalOrder, eq_by_cmp_equiv, nat_cmp_total, unsigned_tied}
+use Rattle.std.specs.Cmp.{IsTotalOrder, nat_eq_equiv}
 use Rattle.std.specs.FinMap.{IsAntisymmetric, entries, entries_sorted, from_entries, get-from_entries, contains_key-keys}
 use Rattle.std.specs.FinMap.Entries.{find, is_sorted, below_all, same_entries, is_some-find}
 use Rattle.std.specs.List.{AllByRecursion, AllZip, list_any}
 use Rattle.std.specs.List.Sorted.{IsStrictlySortedBy}
-use Rattle.std.specs.Map.{keys_of, lookup}
+use Rattle.std.specs.Map.{keys_of}
 use Rattle.std.specs.Ordering.{nat_cmp, eq_by_cmp, is_lt}
 use Rattle.std.proofs.lemmas.Bool.{cond-true}
 use Rattle.std.proofs.lemmas.Bool.Decides.{nat_tests}
@@ -17,6 +17,7 @@ use Rattle.std.proofs.lemmas.Map.Keys.{sorted_head, sorted_tail}
 use Rattle.std.proofs.lemmas.Map.Made.{is_some-lookup}
 use Rattle.std.proofs.lemmas.Map.Views.{All-found, All-keys_from_lookup}
 use Rattle.lerp_aggregate.specs.Aggregation.{value_at, aggregated}
+use Rattle.tsd_base.specs.declared.kinds.Aggregator.TheVariants.{Zimsum}
 use Rattle.lerp_aggregate.specs.Laws.{AreAlike, DependsOnValuesAlone}
 use Rattle.tsd_base.specs.Dots.{IsAboveAll}
 use Rattle.tsd_base.specs.Points.{DataPoint}
@@ -28,9 +29,10 @@ use Rattle.tsd_main.specs.declared.query.Query.{Query}
 use Rattle.tsd_main.specs.declared.collected.Collected.{Collected}
 use Rattle.tsd_main.specs.Answers.{grouped, answer_of}
 use Rattle.tsd_main.specs.Collecting.{value_in, Collects}
+use Rattle.tsd_main.specs.Gathering.{IsCoarse}
 use Rattle.tsd_main.specs.Outcomes.{replied}
 use Rattle.tsd_main.specs.Printing.{query_outcome}
-use Rattle.tsd_main.proofs.ChosenLemmas.{value_at-last_points, any_series-last_points, le-last_value}
+use Rattle.tsd_main.proofs.ChosenLemmas.{value_at-last_points, any_series-last_points, holds-last_value}
 
 below_from_Less : (a b : ℕ) → nat_cmp a b ≡ Less → a < b
 below_from_Less a b h = grind (arith, nat_tests)
@@ -103,7 +105,7 @@ any_series_of ps q =
     sym (contains_key-keys (from_entries {R = tags_cmp} es) q) ∙ ap is_some (get-from_entries tags_cmp_total es q) ∙ is_some-find tags_cmp q es ∙ any_tags ps q
 
 abbrev Series : Type 0
-Series = BTreeMap (List Pair) (BTreeMap ℕ ℤ)
+Series = BTreeMap (List Pair) (List (ℕ × ℤ))
 
 series_are : (series : Series) (ps : List DataPoint) → IsOrdered tags_cmp series → ((q : List Pair) → is_some (get tags_cmp series q) ≡ list_any (λ p. is_same_tags p.tags q) ps) → keys series ≡ series_of ps
 series_are series ps ordered same =
@@ -122,11 +124,12 @@ AllByRecursion-unmap : {X Y : Type 0} (P : Y → Type 0) (f : X → Y) (xs : Lis
 AllByRecursion-unmap P f [] h = tt
 AllByRecursion-unmap P f (x ∷ xs) h = (h.0, AllByRecursion-unmap P f xs h.1)
 
-value_at-get : (values : BTreeMap ℕ ℤ) (t : ℕ) → value_at values.entries t ≡ get nat_cmp values t
-value_at-get values t = ap (λ test. lookup test values.entries) (λ i k. sym (unsigned_tied t k) i)
+weaker : (P Q : DataPoint → Type 0) → ((p : DataPoint) → P p → Q p) → (ps : List DataPoint) → AllByRecursion P ps → AllByRecursion Q ps
+weaker P Q f [] h = tt
+weaker P Q f (p ∷ ps) h = (f p h.0, weaker P Q f ps h.1)
 
-value_in-found : (series : Series) (tags : List Pair) (values : BTreeMap ℕ ℤ) (t : ℕ) → get tags_cmp series tags ≡ Some values → get nat_cmp values t ≡ value_in series tags t
-value_in-found series tags values t found = sym (ap (λ o. option_and_then (λ (v : BTreeMap ℕ ℤ). get nat_cmp v t) o) found)
+value_in-found : (series : Series) (tags : List Pair) (values : List (ℕ × ℤ)) (t : ℕ) → get tags_cmp series tags ≡ Some values → value_at values t ≡ value_in series tags t
+value_in-found series tags values t found = sym (ap (λ o. option_and_then (λ (v : List (ℕ × ℤ)). value_at v t) o) found)
 
 module _ (query : Query) (points : List DataPoint) (c : Collected) (collects : Collects query points c) (ordered : IsOrdered tags_cmp c.series) where
   abbrev counted : List DataPoint
@@ -135,35 +138,41 @@ module _ (query : Query) (points : List DataPoint) (c : Collected) (collects : C
   keys_are : keys c.series ≡ series_of counted
   keys_are = series_are c.series counted ordered (λ q. collects.series q ∙ sym (any_series-last_points query.start query.end query.metric points q))
 
-  values_are : (tags : List Pair) (values : BTreeMap ℕ ℤ) → get tags_cmp c.series tags ≡ Some values → AreAlike values.entries (dots_of counted tags)
+  values_are : (tags : List Pair) (values : List (ℕ × ℤ)) → get tags_cmp c.series tags ≡ Some values → AreAlike values (dots_of counted tags)
   values_are tags values found t =
-      value_at-get values t ∙ value_in-found c.series tags values t found ∙ collects.values tags t
-      ∙ sym (value_at-last_points query.start query.end query.metric points collects.coarse tags t)
+      value_in-found c.series tags values t found ∙ collects.values tags t
+      ∙ sym (value_at-last_points query.start query.end query.metric points (weaker IsCoarse (λ p. p.fine ≡ false) (λ p h. h.form) points collects.coarse) tags t)
 
-  groups_are : DependsOnValuesAlone → grouped query.metric (keys c.series) (aggregated (map (λ e. e.1.entries) c.series.entries)) ≡ answer_of query.start query.end query.metric points
+  groups_are : DependsOnValuesAlone → grouped query.metric (keys c.series) (aggregated Zimsum (map (λ e. e.1) c.series.entries)) ≡ answer_of query.start query.end query.metric points
   groups_are depends =
-      let all : AllByRecursion (λ e. AreAlike e.1.entries (dots_of counted e.0)) c.series.entries =
-      recursion_from_All (λ e. AreAlike e.1.entries (dots_of counted e.0)) c.series.entries
-      (All-weaker (λ e. get tags_cmp c.series e.0 ≡ Some e.1) (λ e. AreAlike e.1.entries (dots_of counted e.0)) (λ e found. values_are e.0 e.1 found) c.series.entries (All-found tags_cmp_total c.series ordered)) in
-      let dots = depends _ _ (alike_places (λ e. e.1.entries) (dots_of counted) c.series.entries all) in
-      ap (grouped query.metric (keys c.series)) dots ∙ ap (λ series. grouped query.metric series (aggregated (map (dots_of counted) series))) keys_are
+      let all : AllByRecursion (λ e. AreAlike e.1 (dots_of counted e.0)) c.series.entries =
+      recursion_from_All (λ e. AreAlike e.1 (dots_of counted e.0)) c.series.entries
+      (All-weaker (λ e. get tags_cmp c.series e.0 ≡ Some e.1) (λ e. AreAlike e.1 (dots_of counted e.0)) (λ e found. values_are e.0 e.1 found) c.series.entries (All-found tags_cmp_total c.series ordered)) in
+      let dots = depends Zimsum _ _ (alike_places (λ e. e.1) (dots_of counted) c.series.entries all) in
+      ap (grouped query.metric (keys c.series)) dots ∙ ap (λ series. grouped query.metric series (aggregated Zimsum (map (dots_of counted) series))) keys_are
 
   -- the answer over what was collected
-  pub answer_is : DependsOnValuesAlone → c.known ≡ true → replied (grouped query.metric (keys c.series) (aggregated (map (λ e. e.1.entries) c.series.entries))) ≡ query_outcome query points
+  pub answer_is : DependsOnValuesAlone → c.known ≡ true → replied (grouped query.metric (keys c.series) (aggregated Zimsum (map (λ e. e.1) c.series.entries))) ≡ query_outcome query points
   answer_is depends known =
       ap replied (groups_are depends) ∙ sym (cond-true _ _ _ (sym collects.known ∙ known))
 
-  -- no time lies behind the range
-  times_are : (tags : List Pair) (values : BTreeMap ℕ ℤ) → get tags_cmp c.series tags ≡ Some values → All (λ dot. dot.0 ≤ query.end) values.entries
-  times_are tags values found =
-      All-from_recursion (λ dot. dot.0 ≤ query.end) values.entries (AllByRecursion-unmap (λ t. t ≤ query.end) (λ dot. dot.0) values.entries
-      (recursion_from_All (λ t. t ≤ query.end) (keys_of values.entries)
-      (All-keys_from_lookup (eq_by_cmp_equiv nat_cmp_total) (λ t. t ≤ query.end) values.entries
-      (λ t is. le-last_value query.start query.end query.metric points tags t (sym (ap is_some (value_in-found c.series tags values t found ∙ collects.values tags t)) ∙ is)))))
+  module _ (P : ℕ → Type 0) (all : AllByRecursion (λ p. P p.time) points) where
+    times_hold : (tags : List Pair) (values : List (ℕ × ℤ)) → get tags_cmp c.series tags ≡ Some values → All (λ dot. P dot.0) values
+    times_hold tags values found =
+        All-from_recursion (λ dot. P dot.0) values (AllByRecursion-unmap P (λ dot. dot.0) values
+        (recursion_from_All P (keys_of values)
+        (All-keys_from_lookup nat_eq_equiv P values
+        (λ t is. holds-last_value query.start query.end query.metric P points tags t all (sym (ap is_some (value_in-found c.series tags values t found ∙ collects.values tags t)) ∙ is)))))
 
-  pub times_below : query.end ≤ 4294967295000 → All (λ dots. All (λ dot. dot.0 < 2 ^ 43) dots) (map (λ e. e.1.entries) c.series.entries)
-  times_below end =
-      All-map (λ dots. All (λ dot. dot.0 < 2 ^ 43) dots) (λ e. e.1.entries) c.series.entries
-      (All-weaker (λ e. get tags_cmp c.series e.0 ≡ Some e.1) (λ e. All (λ dot. dot.0 < 2 ^ 43) e.1.entries)
-      (λ e found. All-weaker (λ dot. dot.0 ≤ query.end) (λ dot. dot.0 < 2 ^ 43) (λ dot most. omega arith) e.1.entries (times_are e.0 e.1 found))
-      c.series.entries (All-found tags_cmp_total c.series ordered))
+    -- what holds of the points' times holds of what was collected
+    lists_hold : All (λ dots. All (λ dot. P dot.0) dots) (map (λ e. e.1) c.series.entries)
+    lists_hold =
+        All-map (λ dots. All (λ dot. P dot.0) dots) (λ e. e.1) c.series.entries
+        (All-weaker (λ e. get tags_cmp c.series e.0 ≡ Some e.1) (λ e. All (λ dot. P dot.0) e.1) (λ e found. times_hold e.0 e.1 found)
+        c.series.entries (All-found tags_cmp_total c.series ordered))
+
+  pub times_are_low : All (λ dots. All (λ dot. dot.0 < 2 ^ 43) dots) (map (λ e. e.1) c.series.entries)
+  times_are_low = lists_hold (λ time. time < 2 ^ 43) (weaker IsCoarse (λ p. p.time < 2 ^ 43) (λ p h. let most = h.most in omega (arith, most)) points collects.coarse)
+
+  pub times_are_whole : All (λ dots. All (λ dot. dot.0 % 1000 ≡ 0) dots) (map (λ e. e.1) c.series.entries)
+  times_are_whole = lists_hold (λ time. time % 1000 ≡ 0) (weaker IsCoarse (λ p. p.time % 1000 ≡ 0) (λ p h. h.whole) points collects.coarse)

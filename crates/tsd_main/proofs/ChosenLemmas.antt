@@ -1,11 +1,11 @@
 -- The last points of each place, among those that a query chooses.
-use Rattle.std.proofs.Common.{◌≡◌, ℕ, ◌≤◌, ℤ, Bool, true, false, cond, ◌&&◌, ◌||◌, List, [], ◌∷◌, Option, None, Some, map, refl, sym, ap, ◌∙◌, ⊎_elim, arith}
+use Rattle.std.proofs.Common.{◌≡◌, ℕ, ℤ, Bool, true, false, cond, ◌&&◌, ◌||◌, List, [], ◌∷◌, Option, None, Some, map, refl, sym, ap, subst, ◌∙◌, ⊎_elim}
 use Rattle.std.specs.Prelude.{nat_eq, nat_le, is_some, filter}
 use Rattle.std.specs.Option.{option_or}
 use Rattle.std.specs.Cmp.{nat_eq_equiv}
 use Rattle.std.specs.Cmp.Lexicographic.{nat_list_eq_equiv, texts_ties}
 use Rattle.std.specs.List.{AllByRecursion, list_any}
-use Rattle.std.proofs.lemmas.Bool.{and_parts, and_from, or_cases, or_right, true≢false, eqb-true, leb-true, false_from_ne_true}
+use Rattle.std.proofs.lemmas.Bool.{and_parts, and_from, or_cases, or_right, true≢false, eqb-true, false_from_ne_true}
 use Rattle.std.proofs.lemmas.Map.Lookups.{exact_bytes}
 use Rattle.std.proofs.lemmas.Map.Views.{tells_apart}
 use Rattle.lerp_aggregate.specs.Aggregation.{value_at}
@@ -20,7 +20,7 @@ abbrev pub AreCoarse : List DataPoint → Type 0
 AreCoarse points = AllByRecursion (λ p. p.fine ≡ false) points
 
 -- two tests that follow from each other
-both_ways : {a b : Bool} → (a ≡ true → b ≡ true) → (b ≡ true → a ≡ true) → a ≡ b
+pub both_ways : {a b : Bool} → (a ≡ true → b ≡ true) → (b ≡ true → a ≡ true) → a ≡ b
 both_ways {a} {b} to from =
     elim a as (λ x. a ≡ x → x ≡ b) [
       | true ↦ λ e. sym (to e)
@@ -33,7 +33,7 @@ record IsAlike (p q : DataPoint) : Type 0 where
   pub tags : p.tags ≡ q.tags
   pub time : p.time ≡ q.time
 
-same_bytes : (x y : List ℕ) → is_same x y ≡ true → x ≡ y
+pub same_bytes : (x y : List ℕ) → is_same x y ≡ true → x ≡ y
 same_bytes x y e = tells_apart exact_bytes x y (sym (texts_ties x y) ∙ e)
 
 IsAlike-from_same_place : (p q : DataPoint) → is_same_place p q ≡ true → IsAlike p q
@@ -58,7 +58,7 @@ abbrev first_by : (DataPoint → Bool) → List DataPoint → Option ℤ
 first_by test [] = None
 first_by test (p ∷ ps) = cond (test p) (Some p.value) (first_by test ps)
 
-abbrev last_by : (DataPoint → Bool) → List DataPoint → Option ℤ
+abbrev pub last_by : (DataPoint → Bool) → List DataPoint → Option ℤ
 last_by test [] = None
 last_by test (p ∷ ps) = option_or (last_by test ps) (cond (test p) (Some p.value) None)
 
@@ -68,7 +68,7 @@ is_some-or None false v = refl
 is_some-or (Some w) true v = refl
 is_some-or (Some w) false v = refl
 
-is_some-last_by : (test : DataPoint → Bool) (ps : List DataPoint) → is_some (last_by test ps) ≡ list_any test ps
+pub is_some-last_by : (test : DataPoint → Bool) (ps : List DataPoint) → is_some (last_by test ps) ≡ list_any test ps
 is_some-last_by test [] = refl
 is_some-last_by test (p ∷ ps) = is_some-or (last_by test ps) (test p) p.value ∙ ap (λ b. test p || b) (is_some-last_by test ps)
 
@@ -131,7 +131,7 @@ module _ (test : DataPoint → Bool) (alike : (p q : DataPoint) → IsAlike p q 
         ∙ first_repeated (list_any (is_same_place p) ps) (test p) (last_by test ps) p.value (λ here. any_place p ps here coarse.0 coarse.1 ∙ sym (is_some-last_by test ps))
 
 -- ---- chosen points that pass a test
-abbrev both : {A : Type 0} → (A → Bool) → (A → Bool) → A → Bool
+abbrev pub both : {A : Type 0} → (A → Bool) → (A → Bool) → A → Bool
 both f g x = f x && g x
 
 first_by-filter : (f g : DataPoint → Bool) (ps : List DataPoint) → first_by g (filter f ps) ≡ first_by (both f g) ps
@@ -142,11 +142,11 @@ first_by-filter f g (p ∷ ps) =
       | false ↦ first_by-filter f g ps
     ]
 
-option_or-None : (o : Option ℤ) → o ≡ option_or o None
+pub option_or-None : (o : Option ℤ) → o ≡ option_or o None
 option_or-None None = refl
 option_or-None (Some v) = refl
 
-last_by-filter : (f g : DataPoint → Bool) (ps : List DataPoint) → last_by g (filter f ps) ≡ last_by (both f g) ps
+pub last_by-filter : (f g : DataPoint → Bool) (ps : List DataPoint) → last_by g (filter f ps) ≡ last_by (both f g) ps
 last_by-filter f g [] = refl
 last_by-filter f g (p ∷ ps) =
     elim (f p) as (λ b. last_by g (cond b (p ∷ filter f ps) (filter f ps)) ≡ option_or (last_by (both f g) ps) (cond (b && g p) (Some p.value) None)) [
@@ -175,7 +175,7 @@ last_value_step : (p : DataPoint) (ps : List DataPoint) (tags : List Pair) (time
 last_value_step p ps tags time None e = rw e
 last_value_step p ps tags time (Some v) e = rw e
 
-last_value-last_by : (ps : List DataPoint) (tags : List Pair) (time : ℕ) → last_value ps tags time ≡ last_by (is_at tags time) ps
+pub last_value-last_by : (ps : List DataPoint) (tags : List Pair) (time : ℕ) → last_value ps tags time ≡ last_by (is_at tags time) ps
 last_value-last_by [] tags time = refl
 last_value-last_by (p ∷ ps) tags time = last_value_step p ps tags time _ (last_value-last_by ps tags time)
 
@@ -197,15 +197,13 @@ module _ (start end : ℕ) (metric : List ℕ) where
     pub named : p.metric ≡ metric
     pub tagged : p.tags ≡ tags
     pub timed : p.time ≡ time
-    pub most : p.time ≤ end
 
   IsChosenAt-from_test : (tags : List Pair) (time : ℕ) (p : DataPoint) → chosen_at tags time p ≡ true → IsChosenAt tags time p
   IsChosenAt-from_test tags time p e =
       let b = and_parts _ _ e in
       let c = and_parts _ _ b.0 in
-      let r = and_parts _ _ c.1 in
       let a = and_parts _ _ b.1 in
-      record { named = same_bytes p.metric metric c.0; tagged = tags_same p.tags tags a.0; timed = eqb-true p.time time a.1; most = leb-true p.time end r.1 }
+      record { named = same_bytes p.metric metric c.0; tagged = tags_same p.tags tags a.0; timed = eqb-true p.time time a.1 }
 
   chosen_at-apart : (tags : List Pair) (time : ℕ) (p q : DataPoint) → chosen_at tags time p ≡ true → chosen_at tags time q ≡ true → IsAlike p q
   chosen_at-apart tags time p q e f =
@@ -230,16 +228,16 @@ module _ (start end : ℕ) (metric : List ℕ) where
       ∙ any-last_points (chosen_of tags) (chosen_of-alike tags) ps
       ∙ sym (any-filter (is_chosen start end metric) (λ p. is_same_tags p.tags tags) ps)
 
-  any_at : (ps : List DataPoint) (tags : List Pair) (time : ℕ) → list_any (chosen_at tags time) ps ≡ true → time ≤ end
-  any_at [] tags time e = absurd (true≢false (sym e))
-  any_at (p ∷ ps) tags time e =
+  time_holds : (P : ℕ → Type 0) (ps : List DataPoint) (tags : List Pair) (time : ℕ) → AllByRecursion (λ p. P p.time) ps → list_any (chosen_at tags time) ps ≡ true → P time
+  time_holds P [] tags time h e = absurd (true≢false (sym e))
+  time_holds P (p ∷ ps) tags time h e =
       ⊎_elim
-      (λ here. let h = IsChosenAt-from_test tags time p here in omega arith)
-      (λ rest. any_at ps tags time rest)
+      (λ here. subst P (IsChosenAt-from_test tags time p here).timed h.0)
+      (λ rest. time_holds P ps tags time h.1 rest)
       (or_cases _ _ e)
 
-  -- a time at which a series has a value is in the range
-  pub le-last_value : (ps : List DataPoint) (tags : List Pair) (time : ℕ) → is_some (last_value (chosen start end metric ps) tags time) ≡ true → time ≤ end
-  le-last_value ps tags time e =
-      any_at ps tags time
+  -- what holds of the points' times holds of a time at which a series has a value
+  pub holds-last_value : (P : ℕ → Type 0) (ps : List DataPoint) (tags : List Pair) (time : ℕ) → AllByRecursion (λ p. P p.time) ps → is_some (last_value (chosen start end metric ps) tags time) ≡ true → P time
+  holds-last_value P ps tags time h e =
+      time_holds P ps tags time h
       (sym (is_some-last_by (chosen_at tags time) ps) ∙ sym (ap is_some (last_value-last_by (chosen start end metric ps) tags time ∙ last_by-filter (is_chosen start end metric) (is_at tags time) ps)) ∙ e)

@@ -15,7 +15,7 @@ use Rattle.tsd_main.specs.Commands.{Batch}
 use Rattle.tsd_main.specs.Queries.{metric_of}
 use Rattle.tsd_main.specs.QueriesRead.{IsQueryOf}
 use Rattle.tsd_main.specs.Lines.{points_of}
-use Rattle.tsd_main.specs.Replies.{Group}
+use Rattle.json_reply.specs.Replies.{Group}
 use Rattle.tsd_main.specs.Answers.{answer_of}
 use Rattle.tsd_main.specs.Outcomes.{Outcome, outcome, over_input, over_points, answered, replied}
 use Rattle.tsd_main.specs.Printing.{outcome_of}

@@ -1,12 +1,13 @@
 -- The answer of a query over points.
-use Rattle.std.specs.Prelude.{ℕ, Bool, not, ◌&&◌, List, [], ◌∷◌, map, filter, ℤ, Result, Ok, Err}
+use Rattle.std.specs.Prelude.{ℕ, Bool, false, not, ◌&&◌, List, [], ◌∷◌, map, filter, ℤ, Result, Ok, Err}
 use Rattle.std.specs.List.{list_any, list_all}
 use Rattle.lerp_aggregate.specs.Aggregation.{aggregated}
+use Rattle.tsd_base.specs.declared.kinds.Aggregator.TheVariants.{Zimsum}
 use Rattle.tsd_base.specs.Tags.{Pair, is_same}
 use Rattle.tsd_base.specs.Points.{DataPoint}
 use Rattle.tsd_base.specs.TagList.{is_same_pair}
 use Rattle.tsd_base.specs.Readings.{chosen, last_points, series_of, dots_of}
-use Rattle.tsd_main.specs.Replies.{Group}
+use Rattle.json_reply.specs.Replies.{Group}
 
 abbrev pub has_pair : Pair → List Pair → Bool
 has_pair pair tags = list_any (is_same_pair pair) tags
@@ -25,9 +26,9 @@ aggregate_keys [] = []
 aggregate_keys (tags ∷ others) =
     map (λ pair. pair.0) (filter (λ pair. list_all (has_key pair.0) others && not (list_all (has_pair pair) others)) tags)
 
--- one group of all series
+-- one group of all series, with times in seconds
 abbrev pub group_of : List ℕ → List (List Pair) → List (ℕ × ℤ) → Group
-group_of metric series dots = record { metric = metric; tags = shared_pairs series; aggregate_tags = aggregate_keys series; dots = dots }
+group_of metric series dots = record { metric = metric; tags = shared_pairs series; aggregate_tags = aggregate_keys series; dots = dots; ms = false }
 
 abbrev pub grouped : List ℕ → List (List Pair) → Result (List (ℕ × ℤ)) ℕ → Result (List Group) ℕ
 grouped metric [] dots = Ok []
@@ -36,7 +37,7 @@ grouped metric (tags ∷ series) (Err time) = Err time
 
 -- the groups over chosen points, or the least time at which a sum leaves i64
 abbrev pub group_answer : List ℕ → List DataPoint → Result (List Group) ℕ
-group_answer metric points = grouped metric (series_of points) (aggregated (map (dots_of points) (series_of points)))
+group_answer metric points = grouped metric (series_of points) (aggregated Zimsum (map (dots_of points) (series_of points)))
 
 -- times in milliseconds; of points with one series, time and form the last one counts
 abbrev pub answer_of : ℕ → ℕ → List ℕ → List DataPoint → Result (List Group) ℕ

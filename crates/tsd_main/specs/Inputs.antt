@@ -1,62 +1,63 @@
 -- Reading lines one after the other.
 use Rattle.std.specs.Prelude.{◌≡◌, ℕ, ◌+◌, ◌^◌, ◌<◌, ◌≤◌, Bool, true, false, List, [], ◌∷◌, ◌++◌, length, Option, None, Some, Result, Ok, Err}
-use Rattle.std.specs.List.{AllByRecursion}
 use Rattle.std.specs.Io.KnownBytes.{Appends, Consumes, IsAtEnd}
 use Rattle.tsd_base.specs.Points.{DataPoint}
-use Rattle.tsd_main.specs.declared.query.Query.{Query}
-use Rattle.tsd_main.specs.declared.collected.Collected.{Collected}
+use Rattle.tsd_main.specs.declared.gathered.Gathered.{Gathered}
+use Rattle.tsd_main.specs.declared.names.Names.{Names}
 use Rattle.tsd_main.specs.declared.input.BadLine.{BadLine}
 use Rattle.tsd_main.specs.declared.input.InputFault.{InputFault}
 use Rattle.tsd_main.specs.declared.input.InputFault.TheVariants.{Failed, Full, OutOfMemory}
 use Rattle.tsd_main.specs.Blocks.{has_line_end}
-use Rattle.tsd_main.specs.Collecting.{Collects}
-use Rattle.tsd_main.specs.Lines.{Line, Judged, judged, lines_of, points_from, points_of}
+use Rattle.tsd_main.specs.Gathering.{Gathers}
+use Rattle.tsd_main.specs.Lines.{Line, Judged, judged, lines_of, points_from, points_of, with_points}
 use Rattle.tsd_main.specs.Lines.Judged.{Blank, Taken, Refused}
+use Rattle.tsd_main.specs.Naming.{no_names, noted_all, exhausted_text}
+use Rattle.cell_model.specs.Layout.{names_of}
+use Rattle.tsd_base.specs.declared.kinds.Kind.{Kind}
 
-abbrev pub IsNotRefused : Judged → Type 0
-IsNotRefused Blank = Unit {0}
-IsNotRefused (Taken point) = Unit {0}
-IsNotRefused (Refused text) = ⊥
-
--- points that come before what was read
-abbrev pub with_points : List DataPoint → Result (List DataPoint) (ℕ × List ℕ) → Result (List DataPoint) (ℕ × List ℕ)
-with_points points (Ok more) = Ok (points ++ more)
-with_points points (Err refusal) = Err refusal
-
--- None of the lines is refused, and their points were collected. Whatever lines come behind them, these points come first.
-pub record IsRead (query : Query) (lines : List Line) (c : Collected) : Type 0 where
+-- None of the lines is refused, and their points were gathered. Whatever lines come behind them, these points come first.
+pub record IsRead (lines : List Line) (g : Gathered) : Type 0 where
   pub points : List DataPoint
-  pub first : (number : ℕ) (more : List Line) → points_from number (lines ++ more) ≡ with_points points (points_from (number + length lines) more)
-  pub each : AllByRecursion (λ line. IsNotRefused (judged line)) lines
-  pub collects : Collects query points c
+  pub first : (number : ℕ) (more : List Line) → points_from number no_names (lines ++ more) ≡ with_points points (points_from (number + length lines) g.names more)
+  pub gathers : Gathers points g
+
+-- the text with which a line is refused, where these names have ids before it
+abbrev pub full_text : Result Names Kind → Option (List ℕ)
+full_text (Ok names) = None
+full_text (Err kind) = Some (exhausted_text kind)
+
+abbrev pub refusal : Names → Judged → Option (List ℕ)
+refusal names Blank = None
+refusal names (Taken point) = full_text (noted_all names (names_of point))
+refusal names (Refused text) = Some text
 
 -- the line is refused with this text, under this number
-abbrev pub IsBad : Line → ℕ → BadLine → Type 0
-IsBad line number bad = (judged line ≡ Refused bad.text.items) × (bad.number ≡ number)
+abbrev pub IsBad : Names → Line → ℕ → BadLine → Type 0
+IsBad names line number bad = (refusal names (judged line) ≡ Some bad.text.items) × (bad.number ≡ number)
 
 -- behind lines that were read one more was read, or it is refused
-abbrev pub ReadsLine : Line → ℕ → Query → Collected → Collected → Option BadLine → Type 0
-ReadsLine line number query old new None = (lines : List Line) → IsRead query lines old → IsRead query (lines ++ line ∷ []) new
-ReadsLine line number query old new (Some bad) = IsBad line number bad
+abbrev pub ReadsLine : Line → ℕ → Gathered → Gathered → Option BadLine → Type 0
+ReadsLine line number old new None = (lines : List Line) → IsRead lines old → IsRead (lines ++ line ∷ []) new
+ReadsLine line number old new (Some bad) = IsBad old.names line number bad
 
 -- The bytes begin with these lines, and the rest is what stands behind their last LF.
 abbrev pub Splits : List ℕ → List Line → List ℕ → Type 0
 Splits bytes lines rest = (more : List ℕ) → lines_of (bytes ++ more) ≡ lines ++ lines_of (rest ++ more)
 
 -- Behind lines that were read, all lines of the bytes that an LF ends were read; or one of them is refused.
-abbrev pub ReadsLines : List ℕ → List ℕ → ℕ → ℕ → Query → Collected → Collected → Option BadLine → Type 0
-ReadsLines bytes rest count count' query old new None =
-    (has_line_end rest ≡ false) × ((lines : List Line) → length lines ≡ count → IsRead query lines old
-    → (more : List Line) × Splits bytes more rest × IsRead query (lines ++ more) new × (length (lines ++ more) ≡ count'))
-ReadsLines bytes rest count count' query old new (Some bad) =
-    (lines : List Line) → length lines ≡ count → IsRead query lines old → (more : List ℕ) → points_from 1 (lines ++ lines_of (bytes ++ more)) ≡ Err (bad.number, bad.text.items)
+abbrev pub ReadsLines : List ℕ → List ℕ → ℕ → ℕ → Gathered → Gathered → Option BadLine → Type 0
+ReadsLines bytes rest count count' old new None =
+    (has_line_end rest ≡ false) × ((lines : List Line) → length lines ≡ count → IsRead lines old
+    → (more : List Line) × Splits bytes more rest × IsRead (lines ++ more) new × (length (lines ++ more) ≡ count'))
+ReadsLines bytes rest count count' old new (Some bad) =
+    (lines : List Line) → length lines ≡ count → IsRead lines old → (more : List ℕ) → points_from 1 no_names (lines ++ lines_of (bytes ++ more)) ≡ Err (bad.number, bad.text.items)
 
 -- The input so far is these whole lines, none of them refused, and the rest is the front of a line that may be short enough.
 pub record IsUnrefused (input : List ℕ) : Type 0 where
   pub lines : List Line
   pub rest : List ℕ
   pub splits : Splits input lines rest
-  pub each : AllByRecursion (λ line. IsNotRefused (judged line)) lines
+  pub read : (points : List DataPoint) × (points_from 1 no_names lines ≡ Ok points)
   pub short : length rest ≤ 8192
   pub whole : has_line_end rest ≡ false
 
@@ -66,15 +67,15 @@ IsPointsOf input true points = points_of input ≡ points
 IsPointsOf input false points = (more : List ℕ) → points_of (input ++ more) ≡ points
 
 -- what was read of an input: all its points, or the first line that is refused; or why neither
-abbrev pub ReadsTo : List ℕ → Bool → Query → Collected → Result (Option BadLine) InputFault → Type 0
-ReadsTo input ended query c (Ok None) = (ended ≡ true) × ((points : List DataPoint) × (points_of input ≡ Ok points) × Collects query points c)
-ReadsTo input ended query c (Ok (Some bad)) = IsPointsOf input ended (Err (bad.number, bad.text.items))
-ReadsTo input ended query c (Err Failed) = IsUnrefused input × (length input < 2 ^ 40)
-ReadsTo input ended query c (Err Full) = IsUnrefused input × (length input ≡ 2 ^ 40)
-ReadsTo input ended query c (Err OutOfMemory) = Unit {0}
+abbrev pub ReadsTo : List ℕ → Bool → Gathered → Result (Option BadLine) InputFault → Type 0
+ReadsTo input ended g (Ok None) = (ended ≡ true) × ((points : List DataPoint) × (points_of input ≡ Ok points) × Gathers points g)
+ReadsTo input ended g (Ok (Some bad)) = IsPointsOf input ended (Err (bad.number, bad.text.items))
+ReadsTo input ended g (Err Failed) = IsUnrefused input × (length input < 2 ^ 40)
+ReadsTo input ended g (Err Full) = IsUnrefused input × (length input ≡ 2 ^ 40)
+ReadsTo input ended g (Err OutOfMemory) = Unit {0}
 
 -- these bytes were taken of the source, and they are read so
-pub record ReadsInputTo (taken taken' left left' : Option (List ℕ)) (query : Query) (c : Collected) (result : Result (Option BadLine) InputFault) : Type 0 where
+pub record ReadsInputTo (taken taken' left left' : Option (List ℕ)) (g : Gathered) (result : Result (Option BadLine) InputFault) : Type 0 where
   pub input : List ℕ
   pub ended : Bool
   pub takes : Appends taken taken' input
@@ -82,4 +83,4 @@ pub record ReadsInputTo (taken taken' left left' : Option (List ℕ)) (query : Q
   pub end : ended ≡ true → IsAtEnd left'
   pub most : length input ≤ 2 ^ 40
   pub early : ended ≡ true → length input < 2 ^ 40
-  pub reads : ReadsTo input ended query c result
+  pub reads : ReadsTo input ended g result

@@ -1,3 +1,14 @@
+pub mod Ids
+pub mod Listing
+pub mod Naming
+pub mod Numbered
+pub mod Series
+pub mod Gathering
+pub mod Settling
+pub mod Known
+pub mod Pairs
+pub mod Holding
+pub mod Finding
 pub mod Answers
 pub mod Batches
 pub mod Blocks
@@ -11,7 +22,6 @@ pub mod Outcomes
 pub mod Printing
 pub mod Queries
 pub mod QueriesRead
-pub mod Replies
 pub mod Runs
 pub mod Statuses
 pub mod Working

@@ -8,7 +8,7 @@ use Rattle.tsd_main.specs.declared.status.Status.TheVariants.{Done, Usage, Refus
 use Rattle.tsd_main.specs.Commands.{Batch, usage_line}
 use Rattle.tsd_main.specs.Queries.{metric_of}
 use Rattle.tsd_main.specs.Lines.{points_of}
-use Rattle.tsd_main.specs.Replies.{Group, reply_text}
+use Rattle.json_reply.specs.Replies.{Group, text_of}
 use Rattle.tsd_main.specs.Answers.{answer_of}
 
 pub record Outcome : Type 0 where
@@ -20,7 +20,7 @@ abbrev pub refused : List ℕ → Outcome
 refused text = record { status = Refused; text = text ++ codes "\n" }
 
 abbrev pub replied : Result (List Group) ℕ → Outcome
-replied (Ok groups) = record { status = Done; text = reply_text groups ++ codes "\n" }
+replied (Ok groups) = record { status = Done; text = text_of groups ++ codes "\n" }
 replied (Err time) = refused (codes "query: overflow at " ++ decimal time)
 
 -- a metric that no point has is unknown; times in milliseconds

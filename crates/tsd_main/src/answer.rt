@@ -1,7 +1,8 @@
 //! The answer of a query over what was collected.
-ghost use Rattle.std.specs.Prelude.{◌≡◌, ◌<◌, ◌≤◌, ◌^◌, [], ◌∷◌, ◌++◌, List, map, All, codes, Ok, Err, IfOk};
+ghost use Rattle.std.specs.Prelude.{◌≡◌, ◌%◌, ◌<◌, ◌^◌, [], ◌∷◌, ◌++◌, List, map, All, codes, Ok, Err, IfOk};
 ghost use Rattle.std.specs.BTreeMap.{IsOrdered, keys};
 ghost use Rattle.lerp_aggregate.specs.Aggregation.{aggregated};
+ghost use Rattle.tsd_base.specs.declared.kinds.Aggregator.TheVariants.{Zimsum};
 ghost use Rattle.tsd_base.specs.Points.{DataPoint};
 ghost use Rattle.tsd_base.specs.TagList.{tags_cmp};
 ghost use Rattle.tsd_main.specs.Answers.{group_of, grouped};
@@ -9,11 +10,10 @@ ghost use Rattle.tsd_main.specs.Collecting.{Collects};
 ghost use Rattle.tsd_main.specs.Outcomes.{refused, replied};
 ghost use Rattle.tsd_main.specs.Printing.{outcome_of, query_outcome};
 
-use crate::collected::{Collected, Values};
+use crate::collected::Collected;
 use crate::printed::{Printed, push_number};
 use crate::query::Query;
-use crate::reply::write_group;
-use crate::status::Status;
+use crate::reply::{group_of, printed_groups};
 use lerp_aggregate::aggregation::{AggFault, aggregate};
 use lerp_aggregate::laws::aggregation_depends_on_values;
 use std::alloc::{AllocError, Global};
@@ -25,8 +25,7 @@ use tsd_base::tagged::Tags;
 
 /// What is printed of the points that were collected. It fails only for want of memory.
 pub fn answer(alloc: Global, query: &Query, collected: Collected) -> Result<Printed, AllocError>
-    requires end { query.now.end ≤ 4294967295000 }
-    requires collects { (points : List DataPoint) × Collects query.now points collected }
+    requires { (points : List DataPoint) × Collects query.now points collected }
     ensures { IfOk result (λ printed. (points : List DataPoint) → Collects query.now points collected → outcome_of printed ≡ query_outcome query.now points) }
 {
     let Collected { known, series } = collected;
@@ -46,14 +45,15 @@ fn reply(
     series: &[Tags],
     lists: &[Dots],
 ) -> Result<Printed, AllocError>
-    requires { All (λ dots. All (λ dot. dot.0 < 2 ^ 43) dots) lists.now }
-    ensures { IfOk result (λ printed. outcome_of printed ≡ replied (grouped metric.now series.now (aggregated lists.now))) }
+    requires low { All (λ dots. All (λ dot. dot.0 < 2 ^ 43) dots) lists.now }
+    requires whole { All (λ dots. All (λ dot. dot.0 % 1000 ≡ 0) dots) lists.now }
+    ensures { IfOk result (λ printed. outcome_of printed ≡ replied (grouped metric.now series.now (aggregated Zimsum lists.now))) }
 {
     if series.is_empty() {
         return no_group(alloc);
     }
     match aggregate(alloc, lists, Aggregator::Zimsum) {
-        Ok(dots) => one_group(alloc, metric, series, &dots),
+        Ok(dots) => one_group(alloc, metric, series, dots),
         Err(AggFault::Overflow { time }) => overflow(alloc, time),
         Err(AggFault::OutOfMemory) => Err(AllocError),
     }
@@ -63,10 +63,7 @@ fn reply(
 fn no_group(alloc: Global) -> Result<Printed, AllocError>
     ensures { IfOk result (λ printed. outcome_of printed ≡ replied (Ok [])) }
 {
-    Ok(Printed {
-        status: Status::Done,
-        text: Vec::from_slice(alloc, b"[]\n")?,
-    })
+    printed_groups(alloc, Vec::new(alloc))
 }
 
 /// The array of one group.
@@ -74,17 +71,14 @@ fn one_group(
     alloc: Global,
     metric: &Name,
     series: &[Tags],
-    dots: &Dots,
+    dots: Dots,
 ) -> Result<Printed, AllocError>
-    ensures { IfOk result (λ printed. outcome_of printed ≡ replied (Ok (group_of metric.now series.now dots.now ∷ []))) }
+    requires { All (λ dot. dot.0 % 1000 ≡ 0) dots }
+    ensures { IfOk result (λ printed. outcome_of printed ≡ replied (Ok (group_of metric.now series.now dots ∷ []))) }
 {
-    let mut text = Vec::from_slice(alloc, b"[")?;
-    write_group(alloc, &mut text, metric, series, dots)?;
-    text.extend_from_slice(b"]\n")?;
-    Ok(Printed {
-        status: Status::Done,
-        text,
-    })
+    let mut groups = Vec::new(alloc);
+    groups.push(group_of(alloc, metric, series, dots)?)?;
+    printed_groups(alloc, groups)
 }
 
 fn unknown_metric(alloc: Global, metric: &Name) -> Result<Printed, AllocError>
@@ -104,30 +98,16 @@ fn overflow(alloc: Global, time: u64) -> Result<Printed, AllocError>
 }
 
 /// The series in order, and the points of each in order of time.
-fn spread(
-    alloc: Global,
-    series: BTreeMap<Tags, Values>,
-) -> Result<(Vec<Tags>, Vec<Dots>), AllocError>
+fn spread(alloc: Global, series: BTreeMap<Tags, Dots>) -> Result<(Vec<Tags>, Vec<Dots>), AllocError>
     ensures tags { IfOk result (λ both. both.0.items ≡ keys series) }
-    ensures lists { IfOk result (λ both. both.1.items ≡ map (λ entry. entry.1.entries) series.entries) }
+    ensures lists { IfOk result (λ both. both.1.items ≡ map (λ entry. entry.1) series.entries) }
     ensures ordered { IsOrdered tags_cmp series }
 {
     let mut tags = Vec::with_capacity(alloc, series.len())?;
     let mut lists = Vec::with_capacity(alloc, series.len())?;
-    for (key, values) in series {
+    for (key, dots) in series {
         tags.push(key)?;
-        lists.push(dots_of(alloc, &values)?)?;
+        lists.push(dots)?;
     }
     Ok((tags, lists))
-}
-
-/// The points of one series.
-fn dots_of(alloc: Global, values: &Values) -> Result<Dots, AllocError>
-    ensures { IfOk result (λ dots. dots ≡ values.now.entries) }
-{
-    let mut dots = Dots::make(alloc);
-    for (time, value) in values {
-        dots.push(*time, *value)?;
-    }
-    Ok(dots)
 }

@@ -1,15 +1,16 @@
 //! Reading all points of an input.
 ghost use Rattle.std.specs.Prelude.{◌≡◌, ◌+◌, ◌^◌, ◌<◌, ◌≤◌, [], codes, length, Err, IfOk};
 ghost use Rattle.tsd_io.specs.Causes.{Rose};
-ghost use Rattle.tsd_main.specs.Collecting.{Collects};
+ghost use Rattle.tsd_main.specs.Gathering.{Gathers};
+ghost use Rattle.tsd_main.specs.Naming.{exhausted_text};
 ghost use Rattle.tsd_main.specs.Inputs.{ReadsLine, ReadsLines, ReadsInputTo};
 ghost use Rattle.tsd_main.specs.declared.input.InputFault.TheVariants as fault;
 
 use crate::buffer::Buffer;
-use crate::collected::Collected;
+use crate::gathered::Gathered;
 use crate::judging::{Judgement, LONGEST_LINE, judge};
-use crate::query::Query;
 use std::alloc::{AllocError, Global};
+use tsd_base::kinds::Kind;
 use tsd_io::ports::{Failed, Source};
 
 /// The most bytes of one input.
@@ -53,11 +54,10 @@ impl From<Failed> for InputFault {
 pub fn read_points<S: Source>(
     alloc: Global,
     source: &mut S,
-    query: &Query,
-    collected: &mut Collected,
+    gathered: &mut Gathered,
 ) -> Result<Option<BadLine>, InputFault>
-    requires empty { Collects query.now [] collected.old }
-    ensures reads { ReadsInputTo (S.taken source.old) (S.taken source.new) (S.left source.old) (S.left source.new) query.now collected.new result }
+    requires empty { Gathers [] gathered.old }
+    ensures reads { ReadsInputTo (S.taken source.old) (S.taken source.new) (S.left source.old) (S.left source.new) gathered.new result }
     ensures later { S.faults source.old ≤ S.faults source.new }
     ensures failed { result ≡ Err InputFault.Failed → Rose (S.faults source.old) (S.faults source.new) }
 {
@@ -65,7 +65,7 @@ pub fn read_points<S: Source>(
     let mut lines: u64 = 0;
     let mut taken: u64 = 0;
     loop {
-        if let Some(bad) = read_lines(alloc, &mut buffer, query, collected, &mut lines)? {
+        if let Some(bad) = read_lines(alloc, &mut buffer, gathered, &mut lines)? {
             return Ok(Some(bad));
         }
         if buffer.bytes().len() > LONGEST_LINE {
@@ -76,7 +76,7 @@ pub fn read_points<S: Source>(
         }
         let count = buffer.fill(source, LONGEST_INPUT - taken)?;
         if count == 0 {
-            return Ok(read_line(alloc, buffer.bytes(), false, lines + 1, query, collected)?);
+            return Ok(read_line(alloc, buffer.bytes(), false, lines + 1, gathered)?);
         }
         taken += count as u64;
     }
@@ -94,17 +94,16 @@ fn too_long(alloc: Global, number: u64) -> Result<BadLine, AllocError>
 fn read_lines(
     alloc: Global,
     buffer: &mut Buffer,
-    query: &Query,
-    collected: &mut Collected,
+    gathered: &mut Gathered,
     lines: &mut u64,
 ) -> Result<Option<BadLine>, AllocError>
     requires { lines.old + length buffer.old < 2 ^ 64 }
-    ensures reads { IfOk result (ReadsLines buffer.old buffer.new lines.old lines.new query.now collected.old collected.new) }
+    ensures reads { IfOk result (ReadsLines buffer.old buffer.new lines.old lines.new gathered.old gathered.new) }
     ensures count { lines.new + length buffer.new ≤ lines.old + length buffer.old }
 {
     while let Some(end) = buffer.line_end() {
         let line = &buffer.bytes()[..end];
-        if let Some(bad) = read_line(alloc, line, true, *lines + 1, query, collected)? {
+        if let Some(bad) = read_line(alloc, line, true, *lines + 1, gathered)? {
             return Ok(Some(bad));
         }
         buffer.skip(end + 1);
@@ -119,17 +118,26 @@ fn read_line(
     bytes: &[u8],
     ended: bool,
     number: u64,
-    query: &Query,
-    collected: &mut Collected,
+    gathered: &mut Gathered,
 ) -> Result<Option<BadLine>, AllocError>
-    ensures { IfOk result (ReadsLine (record { bytes = bytes.now; ended = ended }) number query.now collected.old collected.new) }
+    ensures { IfOk result (ReadsLine (record { bytes = bytes.now; ended = ended }) number gathered.old gathered.new) }
 {
     match judge(alloc, bytes, ended)? {
         Judgement::Blank => Ok(None),
-        Judgement::Taken { point } => {
-            collected.add(alloc, query, point)?;
-            Ok(None)
-        }
+        Judgement::Taken { point } => match gathered.add(alloc, point)? {
+            None => Ok(None),
+            Some(kind) => Ok(Some(exhausted(alloc, kind, number)?)),
+        },
         Judgement::Refused { text } => Ok(Some(BadLine { number, text })),
     }
+}
+
+/// The refusal of a line for one of whose names there is no id.
+fn exhausted(alloc: Global, kind: Kind, number: u64) -> Result<BadLine, AllocError>
+    ensures { IfOk result (λ bad. (bad.text.items ≡ exhausted_text kind) × (bad.number ≡ number)) }
+{
+    let mut text = Vec::from_slice(alloc, b"ids of ")?;
+    text.extend_from_slice(kind.text().as_bytes())?;
+    text.extend_from_slice(b" are exhausted")?;
+    Ok(BadLine { number, text })
 }

@@ -5,16 +5,22 @@ mod answer;
 mod buffer;
 mod collected;
 mod command;
+mod gathered;
+mod ids;
 mod input;
 mod judging;
+mod names;
 mod printed;
 mod query;
 mod reply;
 mod run;
+mod settling;
 mod shared;
 mod status;
+mod stored;
 #[cfg(test)]
 mod tests;
+mod values;
 
 use run::run;
 use status::Status;

@@ -9,8 +9,9 @@ ghost use Rattle.tsd_main.specs.Runs.{Runs, Works};
 ghost use Rattle.tsd_main.specs.Working.{RefusesQuery, WorksQuery};
 
 use crate::answer::answer;
-use crate::collected::Collected;
+use crate::collected::collect;
 use crate::command::{Batch, USAGE, read_command};
+use crate::gathered::Gathered;
 use crate::input::{BadLine, InputFault, read_points};
 use crate::printed::{Printed, push_number};
 use crate::query::{NoQuery, Query, read_query};
@@ -79,7 +80,7 @@ fn run_batch<S: Source>(
     batch: &Batch<'_>,
     input: &mut S,
 ) -> Result<Printed, InputFault>
-    requires start { batch.now.start ≤ 4294967295 }
+    requires range { batch.now.start ≤ batch.now.end }
     requires end { batch.now.end ≤ 4294967295 }
     ensures works { Works (Some (plain_batch batch.now)) (S.taken input.old) (S.taken input.new) (S.left input.old) (S.left input.new) result }
     ensures later { S.faults input.old ≤ S.faults input.new }
@@ -93,15 +94,19 @@ fn run_batch<S: Source>(
 
 /// Reads the points of the input, and answers the query.
 fn run_query<S: Source>(alloc: Global, query: &Query, input: &mut S) -> Result<Printed, InputFault>
-    requires { query.now.end ≤ 4294967295000 }
+    requires range { query.now.start ≤ query.now.end }
+    requires end { query.now.end ≤ 4294967295000 }
     ensures works { WorksQuery query.now (S.taken input.old) (S.taken input.new) (S.left input.old) (S.left input.new) result }
     ensures later { S.faults input.old ≤ S.faults input.new }
     ensures failed { result ≡ Err InputFault.Failed → Rose (S.faults input.old) (S.faults input.new) }
 {
-    let mut collected = Collected::make(alloc);
-    match read_points(alloc, input, query, &mut collected)? {
+    let mut gathered = Gathered::make(alloc);
+    match read_points(alloc, input, &mut gathered)? {
         Some(bad) => Ok(bad_line(alloc, &bad)?),
-        None => Ok(answer(alloc, query, collected)?),
+        None => {
+            let collected = collect(alloc, query, gathered)?;
+            Ok(answer(alloc, query, collected)?)
+        }
     }
 }
 

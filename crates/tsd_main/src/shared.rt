@@ -1,6 +1,8 @@
 //! The tags that all series of a group have.
-ghost use Rattle.std.specs.Prelude.{◌≡◌, map, IfOk};
+ghost use Rattle.std.specs.Prelude.{◌≡◌, AllPairs, IfOk};
 ghost use Rattle.std.specs.List.{list_all};
+ghost use Rattle.std.specs.declared.cmp.Ordering.TheVariants.{Less};
+ghost use Rattle.tsd_base.specs.TagList.{RiseByKey, bytes_cmp};
 ghost use Rattle.tsd_main.specs.Answers.{shared_pairs, aggregate_keys, has_pair, has_key};
 
 use std::alloc::{AllocError, Global};
@@ -8,17 +10,15 @@ use tsd_base::names::Name;
 use tsd_base::tagged::Tags;
 
 /// The pairs that all of the series have, rising by key.
-pub fn shared_pairs<'a>(
-    alloc: Global,
-    series: &'a [Tags],
-) -> Result<Vec<&'a (Name, Name)>, AllocError>
-    ensures { IfOk result (λ pairs. map (λ pair. pair.now) pairs.items ≡ shared_pairs series.now) }
+pub fn shared_pairs(alloc: Global, series: &[Tags]) -> Result<Vec<(Name, Name)>, AllocError>
+    ensures shared { IfOk result (λ pairs. pairs.items ≡ shared_pairs series.now) }
+    ensures rise { IfOk result (λ pairs. RiseByKey pairs.items) }
 {
     let mut shared = Vec::new(alloc);
     if let [first, others @ ..] = series {
         for pair in first.pairs() {
             if all_have_pair(others, pair) {
-                shared.push(pair)?;
+                shared.push((pair.0.again(alloc)?, pair.1.again(alloc)?))?;
             }
         }
     }
@@ -26,14 +26,15 @@ pub fn shared_pairs<'a>(
 }
 
 /// The keys that all of the series have, without one common value, rising.
-pub fn aggregate_keys<'a>(alloc: Global, series: &'a [Tags]) -> Result<Vec<&'a Name>, AllocError>
-    ensures { IfOk result (λ keys. map (λ key. key.now) keys.items ≡ aggregate_keys series.now) }
+pub fn aggregate_keys(alloc: Global, series: &[Tags]) -> Result<Vec<Name>, AllocError>
+    ensures keys { IfOk result (λ keys. keys.items ≡ aggregate_keys series.now) }
+    ensures rise { IfOk result (λ keys. AllPairs (λ x y. bytes_cmp x y ≡ Less) keys.items) }
 {
     let mut keys = Vec::new(alloc);
     if let [first, others @ ..] = series {
         for pair in first.pairs() {
             if all_have_key(others, &pair.0) && !all_have_pair(others, pair) {
-                keys.push(&pair.0)?;
+                keys.push(pair.0.again(alloc)?)?;
             }
         }
     }

@@ -1,27 +1,24 @@
 ghost use Rattle.std.specs.Prelude.{◌<◌, ◌^◌, All, IfOk};
 
 use super::*;
-use std::collections::BTreeMap;
 use std::test::Fail;
 
 // The start of a day, in milliseconds.
 const T: u64 = 1_356_998_400_000;
 
-const MAX: i128 = i64::MAX as i128;
+// A reading: its series, its time and its value.
+type Reading = (u8, u64, i64);
 
-const MIN: i128 = i64::MIN as i128;
-
-// The series with this number, where each reading names its series first. A map brings its readings in order.
-fn series_of(alloc: Global, readings: &[(u8, u64, i128)], number: u8) -> Result<Dots, AggFault>
+// The series with this number, whose readings come in order.
+fn series_of(alloc: Global, readings: &[Reading], number: u8) -> Result<Dots, AggFault>
     ensures { IfOk result (λ dots. All (λ dot. dot.0 < 2 ^ 43) dots) }
 {
-    let mut series = BTreeMap::new(alloc);
+    let mut dots = Dots::make(alloc);
     for (of, time, value) in readings {
-        if *of == number {
-            series.insert(*time, *value).map_err(AllocError::from)?;
+        if *of == number && dots.list().iter().all(|dot| dot.0 < *time) {
+            dots.push(*time, *value)?;
         }
     }
-    let dots = points_of(alloc, &series)?;
     if dots.list().iter().all(|dot| dot.0 < 1 << 43) {
         Ok(dots)
     } else {
@@ -30,56 +27,117 @@ fn series_of(alloc: Global, readings: &[(u8, u64, i128)], number: u8) -> Result<
 }
 
 // What the first `count` series of these readings make.
-fn made_of(alloc: Global, readings: &[(u8, u64, i128)], count: u8) -> Result<Dots, AggFault> {
+fn made_of(
+    alloc: Global,
+    readings: &[Reading],
+    count: u8,
+    how: Aggregator,
+) -> Result<Dots, AggFault> {
     let mut group = Vec::new(alloc);
     for number in 0..count {
         let series = series_of(alloc, readings, number)?;
         group.push(series).map_err(AllocError::from)?;
     }
-    aggregate(alloc, group.as_slice(), Aggregator::Zimsum)
+    if how == Aggregator::NoneOf && group.len() != 1 {
+        return Err(AggFault::OutOfMemory);
+    }
+    aggregate(alloc, group.as_slice(), how)
 }
 
 #[test]
 fn groups_make_points(rt: HostRuntime) -> Result<(), Fail> {
-    let alone: &[(u8, u64, i128)] = &[(0, T, 10), (0, T + 10_000, 20), (1, T + 5_000, 7)];
-    let exact: &[(u8, u64, i128)] = &[(0, T, MAX), (1, T, MIN), (2, T, 5)];
-    let twice: &[(u8, u64, i128)] = &[(0, T, MAX), (1, T, MAX), (2, T, MIN)];
-    let limits: &[(u8, u64, i128)] = &[
-        (0, T, MAX - 1),
-        (1, T, 1),
-        (0, T + 1, MIN + 1),
-        (1, T + 1, -1),
+    // One series at the ends, one in the middle.
+    let apart: &[Reading] = &[(0, T, 10), (1, T + 5_000, 7), (0, T + 10_000, 20)];
+    // Quotients that a rounding down would change.
+    let falling: &[Reading] = &[
+        (0, T, 0),
+        (0, T + 3_000, -1),
+        (1, T + 1_000, 0),
+        (1, T + 2_000, 0),
     ];
-    for (readings, count, wanted) in [
-        (alone, 0, [].as_slice()),
+    let negative: &[Reading] = &[(0, T, -3), (1, T, 0)];
+    let large: &[Reading] = &[(0, T, i64::MAX), (1, T, i64::MAX)];
+    let opposite: &[Reading] = &[(0, T, i64::MIN), (1, T, i64::MAX), (2, T, 5)];
+    for (readings, count, how, wanted) in [
+        (apart, 0, Aggregator::Sum, [].as_slice()),
         (
-            alone,
+            apart,
             2,
+            Aggregator::Sum,
+            [(T, 10), (T + 5_000, 22), (T + 10_000, 20)].as_slice(),
+        ),
+        (
+            apart,
+            2,
+            Aggregator::Zimsum,
             [(T, 10), (T + 5_000, 7), (T + 10_000, 20)].as_slice(),
         ),
-        (exact, 3, [(T, 4)].as_slice()),
-        (twice, 3, [(T, i64::MAX - 1)].as_slice()),
-        (limits, 2, [(T, i64::MAX), (T + 1, i64::MIN)].as_slice()),
+        (
+            apart,
+            2,
+            Aggregator::Count,
+            [(T, 1), (T + 5_000, 1), (T + 10_000, 1)].as_slice(),
+        ),
+        (
+            apart,
+            1,
+            Aggregator::NoneOf,
+            [(T, 10), (T + 10_000, 20)].as_slice(),
+        ),
+        (
+            apart,
+            2,
+            Aggregator::Min,
+            [(T, 10), (T + 5_000, 7), (T + 10_000, 20)].as_slice(),
+        ),
+        (
+            apart,
+            2,
+            Aggregator::Max,
+            [(T, 10), (T + 5_000, 15), (T + 10_000, 20)].as_slice(),
+        ),
+        (
+            apart,
+            2,
+            Aggregator::Avg,
+            [(T, 10), (T + 5_000, 11), (T + 10_000, 20)].as_slice(),
+        ),
+        (
+            falling,
+            2,
+            Aggregator::Sum,
+            [(T, 0), (T + 1_000, 0), (T + 2_000, 0), (T + 3_000, -1)].as_slice(),
+        ),
+        (negative, 2, Aggregator::Avg, [(T, -1)].as_slice()),
+        (negative, 2, Aggregator::Mimmin, [(T, -3)].as_slice()),
+        (large, 2, Aggregator::Max, [(T, i64::MAX)].as_slice()),
+        (large, 2, Aggregator::Mimmax, [(T, i64::MAX)].as_slice()),
+        (large, 2, Aggregator::Avg, [(T, i64::MAX)].as_slice()),
+        (opposite, 3, Aggregator::Zimsum, [(T, 4)].as_slice()),
     ] {
-        let dots = made_of(rt.alloc(), readings, count)?;
-        assert_eq!(rt; dots.list(), wanted);
+        let dots = made_of(rt.alloc(), readings, count, how)?;
+        assert_eq!(rt; dots.list(), wanted, "{how:?}");
     }
     Ok(())
 }
 
 #[test]
 fn overflows_are_told(rt: HostRuntime) {
-    let over: &[(u8, u64, i128)] = &[(0, T, MAX), (1, T, MAX)];
-    let under: &[(u8, u64, i128)] = &[(0, T, MIN), (1, T, -1)];
-    let two: &[(u8, u64, i128)] = &[
+    let over: &[Reading] = &[(0, T, i64::MAX), (1, T, i64::MAX)];
+    let under: &[Reading] = &[(0, T, i64::MIN), (1, T, -1)];
+    let two: &[Reading] = &[
         (0, T, 1),
-        (0, T + 2, MAX),
-        (0, T + 3, MAX),
+        (0, T + 2, i64::MAX),
+        (0, T + 3, i64::MAX),
         (1, T + 3, 1),
         (2, T + 2, 1),
     ];
-    for (readings, wanted) in [(over, T), (under, T), (two, T + 2)] {
-        let fault = made_of(rt.alloc(), readings, 3).err();
+    for (readings, how, wanted) in [
+        (over, Aggregator::Sum, T),
+        (under, Aggregator::Zimsum, T),
+        (two, Aggregator::Zimsum, T + 2),
+    ] {
+        let fault = made_of(rt.alloc(), readings, 3, how).err();
         assert_eq!(rt; fault, Some(AggFault::Overflow { time: wanted }));
     }
 }

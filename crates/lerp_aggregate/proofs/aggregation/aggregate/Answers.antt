@@ -1,10 +1,7 @@
-use Rattle.std.proofs.Common.{subst}
-use Rattle.lerp_aggregate.specs.Aggregation.{GivesAggregate, fitting}
-use Rattle.lerp_aggregate.proofs.Same.{entries_are}
+use Rattle.std.proofs.Common.{sym}
+use Rattle.std.proofs.lemmas.Bool.{eqb-true}
+use Rattle.lerp_aggregate.proofs.Finding.{of_no_series}
 use Rattle.lerp_aggregate.proofs.aggregation.aggregate.Goals as goal
 
-pub returns : goal.returns
-returns c =
-    subst (λ points. GivesAggregate c.points_of.result (fitting points))
-    (entries_are c.args.list.now c.in_ok-sums_of-in-Zimsum.field-0 c.points_of.ensures.ordered c.in_ok-sums_of-in-Zimsum.ensures)
-    c.points_of.ensures.points
+pub returns-then-is_empty : goal.returns-then-is_empty
+returns-then-is_empty c = of_no_series c.args.how c.args.list.now c.make.result (eqb-true _ _ (sym c.if-is_empty.ensures)) c.make.ensures

@@ -7,4 +7,4 @@ use Rattle.tsd_main.proofs.shared.aggregate_keys.Given as goal
 -- of the pairs so far, the keys of those whose key alone the others have
 abbrev pub invariant-loop-pair : goal.invariant-loop-pair
 invariant-loop-pair l =
-    map (λ key. key.now) l.keys.items ≡ map (λ pair. pair.0) (filter (λ pair. list_all (has_key pair.0) l.others && not (list_all (has_pair pair) l.others)) (take l.pair-index l.pair-items))
+    l.keys.items ≡ map (λ pair. pair.0) (filter (λ pair. list_all (has_key pair.0) l.others && not (list_all (has_pair pair) l.others)) (take l.pair-index l.pair-items))

@@ -1,4 +1,4 @@
-use Rattle.std.proofs.Common.{◌≡◌, map, take}
+use Rattle.std.proofs.Common.{◌≡◌, take}
 use Rattle.std.specs.Prelude.{filter}
 use Rattle.std.specs.List.{list_all}
 use Rattle.tsd_main.specs.Answers.{has_pair}
@@ -7,4 +7,4 @@ use Rattle.tsd_main.proofs.shared.shared_pairs.Given as goal
 -- of the pairs so far, those that the others have
 abbrev pub invariant-loop-pair : goal.invariant-loop-pair
 invariant-loop-pair l =
-    map (λ pair. pair.now) l.shared.items ≡ filter (λ pair. list_all (has_pair pair) l.others) (take l.pair-index l.pair-items)
+    l.shared.items ≡ filter (λ pair. list_all (has_pair pair) l.others) (take l.pair-index l.pair-items)

@@ -1,0 +1,6 @@
+//! The text of a reply: one JSON array without blanks.
+#![tactic(auto)]
+
+pub mod reply;
+mod times;
+mod writing;

@@ -1,0 +1,12 @@
+pub mod Lower
+pub mod Bytes
+pub mod Lists
+pub mod RowCells
+pub mod RowSeries
+pub mod NextRow
+pub mod CellsOf
+pub mod Scanning
+pub mod Listing
+pub mod Puts
+pub mod Putting
+pub mod SeriesWrites
