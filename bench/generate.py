@@ -37,18 +37,20 @@ def main():
     parser.add_argument("points", type=int, help="points of each series")
     parser.add_argument("--tags", type=int, default=2, choices=range(1, 9))
     parser.add_argument("--seed", type=int, default=1)
+    parser.add_argument("--shuffle", action="store_true", help="put the lines into a random order")
     options = parser.parse_args()
 
     values = random.Random(options.seed)
     ends = [tags(series, options.tags) for series in range(options.series)]
-    for point in range(options.points):
-        time = FIRST_TIME + point * STEP
-        sys.stdout.write(
-            "".join(
-                f"sys.cpu.user {time} {values.randrange(-1000, 1000000)} {end}\n"
-                for end in ends
-            )
-        )
+    lines = (
+        f"sys.cpu.user {FIRST_TIME + point * STEP} {values.randrange(-1000, 1000000)} {end}\n"
+        for point in range(options.points)
+        for end in ends
+    )
+    if options.shuffle:
+        lines = list(lines)
+        values.shuffle(lines)
+    sys.stdout.writelines(lines)
 
 
 if __name__ == "__main__":

@@ -19,8 +19,8 @@ trap 'rm -rf "$folder"' EXIT
 
 rustc --edition 2024 -O -o "$folder/plain" "$here/plain.rs"
 
-# Series, points of each, tags.
-sets=("1000 100 2" "1000 1000 2" "100000 10 2" "1000 1000 8")
+# Series, points of each, tags, order of the lines.
+sets=("1000 100 2 time" "1000 1000 2 time" "100000 10 2 time" "1000 1000 8 time" "1000 1000 2 random")
 
 # The peak memory of a command, in KiB, goes into the file $folder/peak. What Python measures is never below its own.
 with_peak() {
@@ -52,11 +52,15 @@ measure() {
     done
 }
 
-echo '| series | points each | tags | lines | tsd, lines/s | plain, lines/s | time, tsd / plain | tsd, peak MB | plain, peak MB | memory, tsd / plain |'
-echo '|---|---|---|---|---|---|---|---|---|---|'
+echo '| series | points each | tags | order | lines | tsd, lines/s | plain, lines/s | time, tsd / plain | tsd, peak MB | plain, peak MB | memory, tsd / plain |'
+echo '|---|---|---|---|---|---|---|---|---|---|---|'
 for set in "${sets[@]}"; do
-    read -r series points tags <<<"$set"
-    python3 "$here/generate.py" "$series" "$points" --tags "$tags" >"$folder/lines"
+    read -r series points tags order <<<"$set"
+    shuffle=()
+    if [ "$order" = random ]; then
+        shuffle=(--shuffle)
+    fi
+    python3 "$here/generate.py" "$series" "$points" --tags "$tags" "${shuffle[@]}" >"$folder/lines"
     last=$((1356998400 + (points - 1) * 10))
     measure "$folder/plain" "$last" "$folder/plain.json"
     plain_micros=$micros
@@ -66,10 +70,10 @@ for set in "${sets[@]}"; do
         echo "$0: the outputs differ at $series series of $points points with $tags tags" >&2
         exit 1
     fi
-    awk -v series="$series" -v points="$points" -v tags="$tags" -v ours="$micros" -v theirs="$plain_micros" \
+    awk -v series="$series" -v points="$points" -v tags="$tags" -v order="$order" -v ours="$micros" -v theirs="$plain_micros" \
         -v our_peak="$peak" -v their_peak="$plain_peak" 'BEGIN {
         lines = series * points
-        printf "| %d | %d | %d | %d | %.0f | %.0f | %.2f | %.1f | %.1f | %.2f |\n", series, points, tags, lines,
+        printf "| %d | %d | %d | %s | %d | %.0f | %.0f | %.2f | %.1f | %.1f | %.2f |\n", series, points, tags, order, lines,
             lines * 1e6 / ours, lines * 1e6 / theirs, ours / theirs,
             our_peak / 1024, their_peak / 1024, our_peak / their_peak
     }'
