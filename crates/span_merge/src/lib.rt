@@ -1,0 +1,8 @@
+//! The points of series by the ids of their tags, collected from rows that come hour by hour.
+#![tactic(auto)]
+
+mod places;
+mod series;
+pub mod spans;
+#[cfg(test)]
+mod tests;

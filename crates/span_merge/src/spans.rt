@@ -1,0 +1,109 @@
+//! The points of series, in the order of their ids.
+ghost use Rattle.std.specs.Prelude.{◌≡◌, ◌<◌, [], length, slice_get, All, Some, OnOk, OnErr};
+ghost use Rattle.std.specs.Map.{keys_of, values_of};
+ghost use Rattle.tsd_base.specs.Dots.{IsAboveAll, IsRising};
+ghost use Rattle.span_merge.specs.Spans.{AreSpans, added, dots_of};
+
+use crate::places::{add_last, step_back, step_forward};
+use crate::series::Series;
+use std::alloc::{AllocError, Global};
+use std::marker::Model;
+use tsd_base::series::Dots;
+
+/// The points of series by the ids of their tags, each key's and its value's.
+///
+/// Contracts see it as the list of the series, each its pairs of ids with its points, in the order of the
+/// pairs: by the first pair, then by the next, and a pair by its first id, then by its second. Rows of one
+/// hour stand in this order.
+///
+/// The series are kept before and behind the place of the one that was added to last, those behind it the
+/// other way round, so that the next in the order is at hand.
+#[derive(Drop)]
+pub struct Spans {
+    before: Vec<Series>,
+    behind: Vec<Series>,
+}
+
+impl Model for Spans {
+    ghost use Rattle.std.specs.Prelude.{List, ℕ, ℤ};
+    ghost use Rattle.span_merge.specs.Spans.{AreSpans};
+
+    ghost Value = { List (List (ℕ × ℕ) × List (ℕ × ℤ)) };
+
+    ghost use Rattle.span_merge.specs.Places.{spans_of};
+
+    ghost view = { λ s. spans_of s.before.items s.behind.items };
+
+    ghost invariant = { λ s. AreSpans (spans_of s.before.items s.behind.items) };
+}
+
+impl Spans {
+    /// No series.
+    pub fn make(alloc: Global) -> Spans
+        ensures { result ≡ [] }
+    {
+        Spans {
+            before: Vec::new(alloc),
+            behind: Vec::new(alloc),
+        }
+    }
+
+    /// Adds points behind those of the series with these ids, which is a new one where it wasn't there: their
+    /// times are above those of that series. A series that is added counts, also without points.
+    ///
+    /// It takes as many steps as there are series between this one and the one before it that was added to:
+    /// for the rows of an hour, in their order, at most twice the number of series.
+    ///
+    /// # Errors
+    ///
+    /// It fails only for want of memory, and then nothing changes.
+    pub fn add(&mut self, alloc: Global, pairs: &[(u32, u32)], dots: Dots) -> Result<(), AllocError>
+        requires { All (λ d. IsAboveAll d.0 (dots_of self.old pairs.now)) dots }
+        ensures ok { OnOk result (self.new ≡ added self.old pairs.now dots) }
+        ensures err { OnErr result (self.new ≡ self.old) }
+    {
+        step_forward(&mut self.before, &mut self.behind, pairs)?;
+        step_back(&mut self.before, &mut self.behind, pairs)?;
+        add_last(alloc, &mut self.before, pairs, dots.list())
+    }
+
+    /// The number of series.
+    pub fn series(&self) -> usize
+        ensures count { result ≡ length self.now }
+        ensures spans { AreSpans self.now }
+    {
+        self.before.len() + self.behind.len()
+    }
+
+    /// The ids of a series' tags, each key's and its value's.
+    pub fn pairs(&self, index: usize) -> &[(u32, u32)]
+        requires { index < length self.now }
+        ensures { slice_get (keys_of self.now) index ≡ Some result.now }
+    {
+        self.at(index).pairs.as_slice()
+    }
+
+    /// The points of a series, at rising times in milliseconds.
+    pub fn dots(&self, index: usize) -> &[(u64, i64)]
+        requires { index < length self.now }
+        ensures dots { slice_get (values_of self.now) index ≡ Some result.now }
+        ensures rising { IsRising result.now }
+    {
+        self.at(index).dots.as_slice()
+    }
+
+    /// The series at this place of the order.
+    fn at(&self, index: usize) -> &Series
+        requires { index < length self.now }
+        ensures series { slice_get self.now index ≡ Some (result.now.pairs.items, result.now.dots.items) }
+        ensures spans { AreSpans self.now }
+    {
+        match self.before.get(index) {
+            Some(series) => series,
+            None => {
+                let later = index - self.before.len();
+                &self.behind[self.behind.len() - 1 - later]
+            }
+        }
+    }
+}
