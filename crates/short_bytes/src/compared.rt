@@ -17,7 +17,7 @@ impl PartialEq for Bytes {
 
     #[inline]
     fn eq(&self, other: &Self) -> bool {
-        self.list() == other.list()
+        self.same(other)
     }
 }
 
@@ -45,9 +45,9 @@ impl Ord for Bytes {
 
     ghost matches_eq = { texts_ties };
 
-    #[inline]
+    #[inline(always)]
     fn cmp(&self, other: &Self) -> Ordering {
-        self.list().cmp(&other.list())
+        self.order(other)
     }
 }
 

@@ -1,6 +1,7 @@
 //! Byte strings that take no memory where they are short.
 #![tactic(auto)]
 
+mod blocks;
 pub mod compared;
 pub mod short;
 #[cfg(test)]

@@ -1,13 +1,18 @@
 //! Byte strings, which contracts see as lists of bytes.
-ghost use Rattle.std.specs.Prelude.{◌≡◌, ◌≤◌, [], length, IfOk, IsOk};
+ghost use Rattle.std.specs.Prelude.{◌≡◌, ◌≤◌, [], length, nat_eq, IfOk, IsOk};
+ghost use Rattle.std.specs.Ordering.{nat_cmp};
+ghost use Rattle.std.specs.Cmp.Lexicographic.{slice_cmp, pointwise};
 
+use crate::blocks::{order_filled, order_lists, same_filled};
 use std::alloc::{AllocError, Global};
+use std::cmp::Ordering;
 use std::fmt;
 use std::marker::Model;
 
 /// The greatest length, in bytes, at which no memory is taken.
 pub const SHORT: usize = 30;
 
+// The block of a short string is filled up with zeros.
 #[derive(Drop)]
 enum Kept {
     Short { len: u8, block: [u8; 30] },
@@ -96,6 +101,49 @@ impl Bytes {
         ensures short { length self.now ≤ 30 → IsOk result }
     {
         Bytes::of(alloc, self.list())
+    }
+
+    /// The order of the bytes. Short strings are compared by their blocks, which are zeros behind
+    /// the bytes, and then by their lengths.
+    #[inline(always)]
+    pub(crate) fn order(&self, other: &Bytes) -> Ordering
+        ensures { result ≡ slice_cmp nat_cmp self.now other.now }
+    {
+        if let Kept::Short { len, block } = &self.kept {
+            if let Kept::Short {
+                len: other_len,
+                block: other_block,
+            } = &other.kept
+            {
+                return order_filled(*len, block, *other_len, other_block);
+            }
+        }
+        self.order_long(other)
+    }
+
+    // Kept apart, so that the order of short strings is small enough to be compiled into its callers.
+    #[inline(never)]
+    fn order_long(&self, other: &Bytes) -> Ordering
+        ensures { result ≡ slice_cmp nat_cmp self.now other.now }
+    {
+        order_lists(self.list(), other.list())
+    }
+
+    /// Whether the bytes are the same.
+    #[inline(always)]
+    pub(crate) fn same(&self, other: &Bytes) -> bool
+        ensures { result ≡ pointwise nat_eq self.now other.now }
+    {
+        if let Kept::Short { len, block } = &self.kept {
+            if let Kept::Short {
+                len: other_len,
+                block: other_block,
+            } = &other.kept
+            {
+                return same_filled(*len, block, *other_len, other_block);
+            }
+        }
+        self.list() == other.list()
     }
 }
 
