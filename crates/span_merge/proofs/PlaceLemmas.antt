@@ -18,8 +18,8 @@ use Rattle.std.specs.declared.cmp.Ordering.TheVariants.{Less, Equal, Greater}
 use Rattle.std.proofs.lemmas.Map.Lookups.{exact_pairs, exact_unsigned}
 use Rattle.row_key.specs.Order.{pair_cmp}
 use Rattle.tsd_base.specs.Dots.{IsRising, IsAboveAll}
-use Rattle.span_merge.specs.Spans.{Span, pairs_cmp, dots_of, added, AreSpans}
-use Rattle.span_merge.specs.Places.{span_of, spans_of, MovesLast, LastIsAbove, LastIsNotAbove, LastHas, LastHasNot}
+use Rattle.span_merge.specs.Spans.{Span, span_of, pairs_cmp, dots_of, added, AreSpans}
+use Rattle.span_merge.specs.Places.{spans_of, MovesLast, LastIsAbove, LastIsNotAbove, LastHas, LastHasNot}
 use Rattle.span_merge.specs.declared.series.Series.{Series}
 use Rattle.span_merge.proofs.OrderLemmas.{AreBelow, AreAbove, insert_behind, lookup_behind, insert_before, lookup_before, below_last, above_first, sorted_insert, sorted_rest, sorted_front}
 
@@ -80,11 +80,11 @@ one_same e k dots h =
 added_last : (others : List Series) (s new : Series) (k : List (ℕ × ℕ)) (dots : List (ℕ × ℤ))
     → IsStrictlySortedBy pairs_cmp (keys_of (map span_of (others ++ s ∷ [])))
     → pairs_cmp s.pairs.items k ≡ Equal
-    → new.pairs.items ≡ s.pairs.items → new.dots.items ≡ s.dots.items ++ dots
+    → new.pairs.items ≡ s.pairs.items → new.dots ≡ s.dots ++ dots
     → map span_of (others ++ new ∷ []) ≡ added (map span_of (others ++ s ∷ [])) k dots
 added_last others s new k dots o h p d =
     span_last others new
-    ∙ ap (λ e. map span_of others ++ e ∷ []) (ap (λ x. (x, new.dots.items)) p ∙ ap (λ y. (s.pairs.items, y)) d)
+    ∙ ap (λ e. map span_of others ++ e ∷ []) (ap (λ x. (x, new.dots)) p ∙ ap (λ y. (s.pairs.items, y)) d)
     ∙ sym (ap (λ l. map span_of others ++ l) (one_same (span_of s) k dots (tied_back pairs_total s.pairs.items k h)))
     ∙ sym (added_behind (map span_of others) (span_of s ∷ []) k dots
     (below_last pairs_cmp k pairs_total (map span_of others) (span_of s) (λ x l. sym (alike_right pairs_total s.pairs.items k x h) ∙ l)
@@ -95,7 +95,7 @@ added_last others s new k dots o h p d =
 pub added_at_last : (list : List Series) (n : ℕ) (s new : Series) (k : List (ℕ × ℕ)) (dots : List (ℕ × ℤ))
     → IsStrictlySortedBy pairs_cmp (keys_of (map span_of list)) → LastHas k list
     → 0 < length list → n ≡ length list → s ≡ slice_index_or list (n - 1) s
-    → new.pairs.items ≡ s.pairs.items → new.dots.items ≡ s.dots.items ++ dots
+    → new.pairs.items ≡ s.pairs.items → new.dots ≡ s.dots ++ dots
     → map span_of (slice_set list (n - 1) new) ≡ added (map span_of list) k dots
 added_at_last list n s new k dots o has some count is p d =
     let here : n - 1 < length list = omega (arith, some, count)
@@ -111,13 +111,38 @@ added_at_last list n s new k dots o has some count is p d =
 
 -- the last series was written again as it was
 pub same_at_last : (list : List Series) (i : ℕ) (s new : Series) → s ≡ slice_index_or list i s
-    → new.pairs.items ≡ s.pairs.items → new.dots.items ≡ s.dots.items
+    → new.pairs.items ≡ s.pairs.items → new.dots ≡ s.dots
     → map span_of (slice_set list i new) ≡ map span_of list
 same_at_last list i s new is p d =
     map-set span_of list i new
-    ∙ ap (slice_set (map span_of list) i) (ap (λ x. (x, new.dots.items)) p ∙ ap (λ y. (s.pairs.items, y)) d ∙ ap span_of is)
+    ∙ ap (slice_set (map span_of list) i) (ap (λ x. (x, new.dots)) p ∙ ap (λ y. (s.pairs.items, y)) d ∙ ap span_of is)
     ∙ sym (map-set span_of list i (slice_index_or list i s))
     ∙ ap (map span_of) (set-get_or list i s)
+
+one_dots : (e : Span) (k : List (ℕ × ℕ)) → pairs_cmp k e.0 ≡ Equal → dots_of (e ∷ []) k ≡ e.1
+one_dots e k h = ap (λ r. unwrap_or (cond (is_eq r) (Some e.1) None) []) h
+
+-- the last series of a list, which has these ids, has the points of the series with these ids
+dots_last : (others : List Series) (s : Series) (k : List (ℕ × ℕ)) → IsStrictlySortedBy pairs_cmp (keys_of (map span_of (others ++ s ∷ []))) → pairs_cmp s.pairs.items k ≡ Equal
+    → dots_of (map span_of (others ++ s ∷ [])) k ≡ s.dots
+dots_last others s k o h =
+    ap (λ l. dots_of l k) (span_last others s)
+    ∙ ap (λ o. unwrap_or o []) (lookup_behind pairs_cmp k (map span_of others) (span_of s ∷ [])
+    (below_last pairs_cmp k pairs_total (map span_of others) (span_of s) (λ x l. sym (alike_right pairs_total s.pairs.items k x h) ∙ l)
+    (subst (λ l. IsStrictlySortedBy pairs_cmp (keys_of l)) (span_last others s) o)))
+    ∙ one_dots (span_of s) k (tied_back pairs_total s.pairs.items k h)
+
+pub dots_at_last : (list : List Series) (n : ℕ) (s : Series) (k : List (ℕ × ℕ))
+    → IsStrictlySortedBy pairs_cmp (keys_of (map span_of list)) → LastHas k list
+    → 0 < length list → n ≡ length list → s ≡ slice_index_or list (n - 1) s
+    → dots_of (map span_of list) k ≡ s.dots
+dots_at_last list n s k o has some count is =
+    let here : n - 1 < length list = omega (arith, some, count)
+    in let all : length list ≤ (n - 1) + 1 = omega (arith, some, count)
+    in let list_is : list ≡ take (n - 1) list ++ s ∷ [] =
+    sym (take_all ((n - 1) + 1) list all) ∙ take_more list (n - 1) s here ∙ ap (λ x. take (n - 1) list ++ x ∷ []) (sym is)
+    in ap (λ l. dots_of (map span_of l) k) list_is
+    ∙ dots_last (take (n - 1) list) s k (subst (λ l. IsStrictlySortedBy pairs_cmp (keys_of (map span_of l))) list_is o) (has (take (n - 1) list) s list_is)
 
 less_of : (r : Ordering) → r ≢ Greater → r ≢ Equal → r ≡ Less
 less_of Less g e = refl
@@ -145,11 +170,11 @@ all_below list k o most has = elim (last_cases list) [
 -- a new series went behind the last one
 pub added_behind_last : (list : List Series) (new : Series) (k : List (ℕ × ℕ)) (dots : List (ℕ × ℤ))
     → IsStrictlySortedBy pairs_cmp (keys_of (map span_of list)) → LastIsNotAbove k list → LastHasNot k list
-    → new.pairs.items ≡ k → new.dots.items ≡ dots
+    → new.pairs.items ≡ k → new.dots ≡ dots
     → map span_of (list ++ new ∷ []) ≡ added (map span_of list) k dots
 added_behind_last list new k dots o most has p d =
     span_last list new
-    ∙ ap (λ e. map span_of list ++ e ∷ []) (ap (λ x. (x, new.dots.items)) p ∙ ap (λ y. (k, y)) d)
+    ∙ ap (λ e. map span_of list ++ e ∷ []) (ap (λ x. (x, new.dots)) p ∙ ap (λ y. (k, y)) d)
     ∙ sym (added_behind (map span_of list) [] k dots (all_below list k o most has))
     ∙ ap (λ l. added l k dots) (append-nil (map span_of list))
 
@@ -228,6 +253,13 @@ pub rising_at : (spans : List Span) (i : ℕ) (dots : List (ℕ × ℤ)) → Are
 rising_at spans i dots a is =
     subst IsRising (get_or_from_slice_get (values_of spans) i dots dots is) (a.rising i dots (slice_get_within (values_of spans) i dots is))
 
+-- with no series behind the place, those before it are all
+pub all_before : (start : List Span) (before behind : List Series) → spans_of before behind ≡ start → behind ≡ [] → map span_of before ≡ start
+all_before start before behind whole none =
+    ap (map span_of) (sym (append-nil before))
+    ∙ ap (λ l. map span_of (before ++ reverse l)) (sym none)
+    ∙ whole
+
 pub no_spans : AreSpans (spans_of [] [])
 unfolding IsStrictlySortedBy
 no_spans = record { ordered = tt; rising = All-nil IsRising }
@@ -253,6 +285,12 @@ module _ (start : List Span) (before new behind : List Series) (k : List (ℕ ×
 
   pub front_ordered : IsStrictlySortedBy pairs_cmp (keys_of (map span_of before))
   front_ordered = sorted_before before behind ordered
+
+  -- the series with these ids stands before the place, if anywhere
+  pub front_dots : dots_of start k ≡ dots_of (map span_of before) k
+  front_dots =
+      ap (λ l. dots_of l k) (sym whole ∙ spans_apart before behind)
+      ∙ ap (λ o. unwrap_or o []) (lookup_before pairs_cmp k (map span_of before) (map span_of (reverse behind)) (all_above before behind k ordered above))
 
   pub has_added : map span_of new ≡ added (map span_of before) k dots → spans_of new behind ≡ added start k dots
   has_added e = added_whole before new behind k dots ordered above e ∙ ap (λ l. added l k dots) whole

@@ -1,12 +1,8 @@
 -- Series before and behind a place in their order.
 use Rattle.std.specs.Prelude.{◌≡◌, ◌≢◌, ℕ, List, [], ◌∷◌, ◌++◌, map, reverse}
 use Rattle.std.specs.declared.cmp.Ordering.TheVariants.{Equal, Greater}
-use Rattle.span_merge.specs.Spans.{Span, pairs_cmp}
+use Rattle.span_merge.specs.Spans.{Span, pairs_cmp, span_of}
 use Rattle.span_merge.specs.declared.series.Series.{Series}
-
--- the ids and the points of a series
-abbrev pub span_of : Series → Span
-span_of s = (s.pairs.items, s.dots.items)
 
 -- the series before the place, and then those behind it, which are kept the other way round
 abbrev pub spans_of : List Series → List Series → List Span

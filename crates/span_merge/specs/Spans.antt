@@ -7,10 +7,15 @@ use Rattle.std.specs.Map.{keys_of, values_of, lookup}
 use Rattle.std.specs.BTreeMap.{insert_entry, is_at}
 use Rattle.row_key.specs.Order.{pair_cmp}
 use Rattle.tsd_base.specs.Dots.{IsRising}
+use Rattle.span_merge.specs.declared.series.Series.{Series}
 
 -- the ids of a series' tags, and its points
 abbrev pub Span : Type 0
 Span = List (ℕ × ℕ) × List (ℕ × ℤ)
+
+-- a series as its ids and its points
+abbrev pub span_of : Series → Span
+span_of s = (s.pairs.items, s.dots)
 
 -- the order of series, by their pairs of ids from the first one on
 abbrev pub pairs_cmp : List (ℕ × ℕ) → List (ℕ × ℕ) → Ordering

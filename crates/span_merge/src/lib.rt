@@ -2,7 +2,7 @@
 #![tactic(auto)]
 
 mod places;
-mod series;
+pub mod series;
 pub mod spans;
 #[cfg(test)]
 mod tests;

@@ -1,14 +1,16 @@
 //! A place in the order of series, and its moves.
-ghost use Rattle.std.specs.Prelude.{◌≡◌, ◌<◌, List, length, OnOk, OnErr, map};
+ghost use Rattle.std.specs.Prelude.{◌≡◌, ◌<◌, List, [], length, All, OnOk, OnErr, map};
 ghost use Rattle.std.specs.Bool.{MatchBool};
 ghost use Rattle.std.specs.Map.{keys_of};
 ghost use Rattle.std.specs.List.Sorted.{IsStrictlySortedBy};
-ghost use Rattle.span_merge.specs.Places.{LastHas, LastHasNot, LastIsAbove, LastIsNotAbove, MovesLast, span_of, spans_of};
-ghost use Rattle.span_merge.specs.Spans.{added, pairs_cmp};
+ghost use Rattle.span_merge.specs.Places.{LastHas, LastHasNot, LastIsAbove, LastIsNotAbove, MovesLast, spans_of};
+ghost use Rattle.tsd_base.specs.Dots.{IsAboveAll};
+ghost use Rattle.span_merge.specs.Spans.{added, dots_of, pairs_cmp, span_of};
 
 use crate::series::{Series, append, order, series_of};
 use std::alloc::{AllocError, Global};
 use std::cmp::Ordering;
+use tsd_base::series::Dots;
 
 /// Moves the place behind the series that don't stand above these ids.
 pub(crate) fn step_forward(
@@ -42,21 +44,36 @@ pub(crate) fn step_back(
     Ok(())
 }
 
+/// Moves the place behind all series.
+pub(crate) fn step_to_end(
+    before: &mut Vec<Series>,
+    behind: &mut Vec<Series>,
+) -> Result<(), AllocError>
+    ensures same { spans_of before.new.items behind.new.items ≡ spans_of before.old.items behind.old.items }
+    ensures ok { OnOk result (behind.new.items ≡ []) }
+{
+    while !behind.is_empty() {
+        move_last(behind, before)?;
+    }
+    Ok(())
+}
+
 /// Adds points to the last series, where it has these ids, and else a series behind it.
 pub(crate) fn add_last(
     alloc: Global,
     list: &mut Vec<Series>,
     pairs: &[(u32, u32)],
-    dots: &[(u64, i64)],
+    dots: Dots,
 ) -> Result<(), AllocError>
     requires ordered { IsStrictlySortedBy pairs_cmp (keys_of (map span_of list.old.items)) }
     requires at_most { LastIsNotAbove pairs.now list.old.items }
-    ensures ok { OnOk result (map span_of list.new.items ≡ added (map span_of list.old.items) pairs.now dots.now) }
+    requires later { All (λ d. IsAboveAll d.0 (dots_of (map span_of list.old.items) pairs.now)) dots }
+    ensures ok { OnOk result (map span_of list.new.items ≡ added (map span_of list.old.items) pairs.now dots) }
     ensures err { OnErr result (map span_of list.new.items ≡ map span_of list.old.items) }
 {
     if has_last(list.as_slice(), pairs) {
         let last = list.len() - 1;
-        return append(&mut list[last], dots);
+        return append(&mut list[last], &dots);
     }
     list.push(series_of(alloc, pairs, dots)?)?;
     Ok(())

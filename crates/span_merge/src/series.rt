@@ -1,44 +1,42 @@
 //! One series.
-ghost use Rattle.std.specs.Prelude.{◌≡◌, ◌++◌, OnOk, OnErr, IfOk};
-ghost use Rattle.span_merge.specs.Spans.{pairs_cmp};
+ghost use Rattle.std.specs.Prelude.{◌≡◌, ◌++◌, All, OnOk, OnErr, IfOk};
+ghost use Rattle.tsd_base.specs.Dots.{IsAboveAll};
+ghost use Rattle.span_merge.specs.Spans.{pairs_cmp, span_of};
 
 use std::alloc::{AllocError, Global};
 use std::cmp::Ordering;
+use tsd_base::series::Dots;
 
-/// The points of one series, at rising times in milliseconds.
+/// The points of one series, under the ids of its tags.
 #[derive(Drop)]
-pub(crate) struct Series {
+pub struct Series {
     /// The ids of its tags: each key's and its value's.
-    pub(crate) pairs: Vec<(u32, u32)>,
-    pub(crate) dots: Vec<(u64, i64)>,
+    pub pairs: Vec<(u32, u32)>,
+    pub dots: Dots,
 }
 
 /// A series of these points.
 pub(crate) fn series_of(
     alloc: Global,
     pairs: &[(u32, u32)],
-    dots: &[(u64, i64)],
+    dots: Dots,
 ) -> Result<Series, AllocError>
-    ensures pairs { IfOk result (λ s. s.pairs.items ≡ pairs.now) }
-    ensures dots { IfOk result (λ s. s.dots.items ≡ dots.now) }
+    ensures { IfOk result (λ s. span_of s ≡ (pairs.now, dots)) }
 {
-    let mut series = Series {
-        pairs: Vec::new(alloc),
-        dots: Vec::new(alloc),
-    };
-    series.pairs.extend_from_slice(pairs)?;
-    series.dots.extend_from_slice(dots)?;
-    Ok(series)
+    Ok(Series {
+        pairs: Vec::from_slice(alloc, pairs)?,
+        dots,
+    })
 }
 
-/// Puts points behind those of a series.
-pub(crate) fn append(series: &mut Series, dots: &[(u64, i64)]) -> Result<(), AllocError>
+/// Puts later points behind those of a series.
+pub(crate) fn append(series: &mut Series, dots: &Dots) -> Result<(), AllocError>
+    requires { All (λ d. IsAboveAll d.0 series.old.dots) dots.now }
     ensures pairs { series.new.pairs.items ≡ series.old.pairs.items }
-    ensures ok { OnOk result (series.new.dots.items ≡ series.old.dots.items ++ dots.now) }
-    ensures err { OnErr result (series.new.dots.items ≡ series.old.dots.items) }
+    ensures ok { OnOk result (series.new.dots ≡ series.old.dots ++ dots.now) }
+    ensures err { OnErr result (series.new.dots ≡ series.old.dots) }
 {
-    series.dots.extend_from_slice(dots)?;
-    Ok(())
+    series.dots.append(dots)
 }
 
 /// How the series stands to these ids.

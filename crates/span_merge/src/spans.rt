@@ -1,10 +1,10 @@
 //! The points of series, in the order of their ids.
-ghost use Rattle.std.specs.Prelude.{◌≡◌, ◌<◌, [], length, slice_get, All, Some, OnOk, OnErr};
+ghost use Rattle.std.specs.Prelude.{◌≡◌, ◌<◌, [], length, map, slice_get, All, Some, OnOk, OnErr, IfOk};
 ghost use Rattle.std.specs.Map.{keys_of, values_of};
 ghost use Rattle.tsd_base.specs.Dots.{IsAboveAll, IsRising};
-ghost use Rattle.span_merge.specs.Spans.{AreSpans, added, dots_of};
+ghost use Rattle.span_merge.specs.Spans.{AreSpans, added, dots_of, span_of};
 
-use crate::places::{add_last, step_back, step_forward};
+use crate::places::{add_last, step_back, step_forward, step_to_end};
 use crate::series::Series;
 use std::alloc::{AllocError, Global};
 use std::marker::Model;
@@ -64,7 +64,7 @@ impl Spans {
     {
         step_forward(&mut self.before, &mut self.behind, pairs)?;
         step_back(&mut self.before, &mut self.behind, pairs)?;
-        add_last(alloc, &mut self.before, pairs, dots.list())
+        add_last(alloc, &mut self.before, pairs, dots)
     }
 
     /// The number of series.
@@ -84,18 +84,35 @@ impl Spans {
     }
 
     /// The points of a series, at rising times in milliseconds.
-    pub fn dots(&self, index: usize) -> &[(u64, i64)]
+    pub fn dots(&self, index: usize) -> &Dots
         requires { index < length self.now }
         ensures dots { slice_get (values_of self.now) index ≡ Some result.now }
         ensures rising { IsRising result.now }
     {
-        self.at(index).dots.as_slice()
+        &self.at(index).dots
+    }
+
+    /// All series in their order. None of their points is copied.
+    ///
+    /// # Errors
+    ///
+    /// It fails only for want of memory.
+    pub fn into_series(self) -> Result<Vec<Series>, AllocError>
+        ensures series { IfOk result (λ list. map span_of list.items ≡ self) }
+        ensures spans { AreSpans self }
+    {
+        let Spans {
+            mut before,
+            mut behind,
+        } = self;
+        step_to_end(&mut before, &mut behind)?;
+        Ok(before)
     }
 
     /// The series at this place of the order.
     fn at(&self, index: usize) -> &Series
         requires { index < length self.now }
-        ensures series { slice_get self.now index ≡ Some (result.now.pairs.items, result.now.dots.items) }
+        ensures series { slice_get self.now index ≡ Some (span_of result.now) }
         ensures spans { AreSpans self.now }
     {
         match self.before.get(index) {

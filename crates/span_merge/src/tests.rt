@@ -2,6 +2,7 @@ ghost use Rattle.std.specs.Prelude.{All, OnOk, ◌+◌};
 ghost use Rattle.std.specs.Map.{values_of};
 ghost use Rattle.tsd_base.specs.Dots.{IsAboveAll};
 
+use crate::series::Series;
 use crate::spans::Spans;
 use std::alloc::{AllocError, Global};
 use tsd_base::series::Dots;
@@ -21,12 +22,23 @@ fn listed(alloc: Global, spans: &Spans) -> Result<Vec<(u32, u64)>, AllocError> {
     let mut list = Vec::new(alloc);
     for index in 0..spans.series() {
         if let Some(&(_, value)) = spans.pairs(index).first() {
-            for &(time, _) in spans.dots(index) {
+            for &(time, _) in spans.dots(index).list() {
                 list.push((value, time))?;
             }
         }
     }
     Ok(list)
+}
+
+/// The value of each series' tag, beside the number of its points.
+fn counted(alloc: Global, list: &[Series]) -> Result<Vec<(u32, usize)>, AllocError> {
+    let mut counts = Vec::new(alloc);
+    for series in list {
+        if let Some(&(_, value)) = series.pairs.first() {
+            counts.push((value, series.dots.list().len()))?;
+        }
+    }
+    Ok(counts)
 }
 
 #[test]
@@ -42,6 +54,11 @@ fn collects_rows_hour_by_hour(rt: HostRuntime) -> Result<(), AllocError> {
     assert_eq!(rt;
         listed(alloc, &spans)?.as_slice(),
         &[(2, 0), (2, 2), (2, 5), (5, 3), (7, 1), (7, 4), (7, 6)][..]
+    );
+    let list = spans.into_series()?;
+    assert_eq!(rt;
+        counted(alloc, list.as_slice())?.as_slice(),
+        &[(2, 3), (5, 1), (7, 3)][..]
     );
     Ok(())
 }

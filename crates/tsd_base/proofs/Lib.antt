@@ -1,3 +1,4 @@
+pub mod DotsLemmas
 pub mod EntryLemmas
 pub mod NamesLemmas
 pub mod Numerals

@@ -45,6 +45,15 @@ impl Dots {
         Ok(())
     }
 
+    /// Adds later points behind the last one. It fails only for want of memory, and then nothing changes.
+    pub fn append(&mut self, later: &Dots) -> Result<(), AllocError>
+        requires { All (λ d. IsAboveAll d.0 self.old) later.now }
+        ensures ok { OnOk result (self.new ≡ self.old ++ later.now) }
+        ensures err { OnErr result (self.new ≡ self.old) }
+    {
+        extend(&mut self.list, later.list())
+    }
+
     /// The points, at rising times.
     #[inline]
     pub fn list(&self) -> &[(u64, i64)]
@@ -53,6 +62,15 @@ impl Dots {
     {
         self.list.as_slice()
     }
+}
+
+/// Adds points behind the last one. It fails only for want of memory, and then nothing changes.
+fn extend(list: &mut Vec<(u64, i64)>, more: &[(u64, i64)]) -> Result<(), AllocError>
+    ensures ok { OnOk result (list.new.items ≡ list.old.items ++ more.now) }
+    ensures err { OnErr result (list.new.items ≡ list.old.items) }
+{
+    list.extend_from_slice(more)?;
+    Ok(())
 }
 
 #[cfg(test)]
@@ -65,6 +83,10 @@ mod tests {
         dots.push(1, -5)?;
         dots.push(7, 0)?;
         assert_eq!(rt; dots.list(), &[(1, -5), (7, 0)][..]);
+        let mut later = Dots::make(rt.alloc());
+        later.push(8, 3)?;
+        dots.append(&later)?;
+        assert_eq!(rt; dots.list(), &[(1, -5), (7, 0), (8, 3)][..]);
         Ok(())
     }
 }
