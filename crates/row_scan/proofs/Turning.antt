@@ -1,0 +1,87 @@
+-- One turn of a scan.
+use Rattle.std.proofs.Common.{◌≡◌, ℕ, ◌-◌, ◌≤◌, List, [], length, true, false, refl, sym, subst, arith}
+use Rattle.std.proofs.lemmas.Bool.{false≢true}
+use Rattle.std.specs.Prelude.{Option, Some, Result, Ok, Err, IsErr}
+use Rattle.row_key.specs.declared.keys.RowKey.{RowKey}
+use Rattle.row_key.specs.declared.tables.Table.TheVariants.{Points}
+use Rattle.row_key.specs.Key.{IsKey, key_bytes}
+use Rattle.cell_model.specs.declared.cells.Row.{Row}
+use Rattle.cell_model.specs.declared.cells.Found.{Found}
+use Rattle.cell_model.specs.declared.events.Step.TheVariants.{NextRow}
+use Rattle.cell_model.specs.declared.events.Reply.TheVariants.{Next}
+use Rattle.cell_model.specs.declared.answers.RowsFault.{RowsFault}
+use Rattle.std.specs.Ordering.{is_lt}
+use Rattle.cell_model.specs.Store.{bytes_cmp, next_row_of}
+use Rattle.cell_model.specs.History.{History, first, store_after, entry_at}
+use Rattle.cell_model.specs.Lawful.{IsLawful}
+use Rattle.cell_model.specs.Ranges.{SameMetric}
+use Rattle.cell_model.specs.Readings.{point_row}
+use Rattle.cell_model.specs.Seen.{Seen, Waited, Stepped, IsPossible}
+use Rattle.cell_model.specs.Deeds.{Made}
+use Rattle.row_scan.specs.Scans.{Left, MadeSo, TurnMade}
+use Rattle.row_scan.proofs.Bytes.{key_length, prefix_between}
+use Rattle.row_scan.proofs.NextRow.{Between, next_between, next_has}
+use Rattle.row_scan.proofs.Lower.{first_lawful, each_entry, sound_after, wait_made, step_made}
+
+-- nothing was made yet
+pub nothing_made : (s : Seen) → Made s [] s
+nothing_made s = wait_made s s (record { base = refl; caller = refl; absorbed = refl; length = omega arith; kept = λ p e saw. saw; no_own = λ p e saw own. saw; alone = refl; still = λ a. refl }) (λ p. p)
+
+-- where a step wasn't made, nothing was
+pub none_made : (left : Left) (old new : Seen) (r : Result (Option Found) RowsFault) → IsErr r → Waited old new → (IsPossible old → IsPossible new) → MadeSo old (TurnMade left r) new
+none_made left old new (Ok found) is w lives = absurd (false≢true is)
+none_made left old new (Err e) is w lives = ([], wait_made old new w lives, refl)
+
+-- and where it was, that one alone
+pub one_made : (left : Left) (old new : Seen) (from to : List ℕ) (found : Option Found) → from ≡ left.from → to ≡ left.to → Stepped old (NextRow Points from to) (Next found) new → IsPossible new → MadeSo old (TurnMade left (Ok found)) new
+one_made left old new from to found from_is to_is st p = (_, step_made old new _ _ st p, (_, refl, ((λ i. NextRow Points (from_is i) (to_is i)), refl)))
+
+-- what a next row found in a lawful history
+pub next_at : (h : History) (place caller : ℕ) (from to : List ℕ) (o : Option Found) → IsLawful h → entry_at h place ≡ Some (record { caller = caller; step = NextRow Points from to; reply = Next o })
+    → next_row_of (store_after (first (place - 1) h)) Points from to ≡ o
+next_at h place caller from to o l at =
+    let r = each_entry h place _ l at in
+    let legal : Next o ≡ Next (next_row_of (store_after (first (place - 1) h)) Points from to) = r.reply in cc
+
+-- a row that was found is that of a key, and in the range
+pub record HasKey (from to : List ℕ) (row : Row) : Type 0 where
+  pub key : RowKey
+  pub is_key : IsKey key
+  pub row_is : row ≡ point_row (key_bytes key)
+  pub between : Between from to row
+
+points_row : (row : Row) (bytes : List ℕ) → row.table ≡ Points → row.bytes ≡ bytes → row ≡ point_row bytes
+points_row row bytes e b i = record { table = e i; bytes = b i }
+
+pub found_key : (h : History) (n : ℕ) (from to : List ℕ) (f : Found) → IsLawful h → next_row_of (store_after (first n h)) Points from to ≡ Some f → HasKey from to f.row
+found_key h n from to f l is =
+    let s = store_after (first n h) in
+    let b = next_between s from to f is in
+    let has = next_has s from to f is in
+    let r = (sound_after (first n h) (first_lawful h n l)).rows f.row has.0 has.1 b.in_points has.2 in
+    record { key = r.key; is_key = r.is_key; row_is = points_row f.row (key_bytes r.key) b.in_points r.row_is; between = b }
+
+turned_key : (old new : Seen) (from to : List ℕ) (f : Found) → Stepped old (NextRow Points from to) (Next (Some f)) new → IsPossible new → HasKey from to f.row
+turned_key old new from to f st p = found_key p.history (new.length - 1) from to f p.lawful (next_at p.history new.length old.caller from to (Some f) p.lawful (p.fits.seen _ _ st.stepped))
+
+pub turned_short : (old new : Seen) (from to : List ℕ) (f : Found) → Stepped old (NextRow Points from to) (Next (Some f)) new → IsPossible new → length f.row.bytes ≤ 55
+turned_short old new from to f st p = let k = turned_key old new from to f st p in subst (λ (r : Row). length r.bytes ≤ 55) (sym k.row_is) (key_length k.key k.is_key)
+
+pub turned_metric : (old new : Seen) (from to : List ℕ) (f : Found) → SameMetric from to → Stepped old (NextRow Points from to) (Next (Some f)) new → IsPossible new → SameMetric f.row.bytes to
+turned_metric old new from to f same st p =
+    let b = (turned_key old new from to f st p).between in
+    let w = prefix_between same.metric same.from_rest same.to_rest f.row.bytes (subst (λ (x : List ℕ). is_lt (bytes_cmp f.row.bytes x) ≡ false) same.from_is b.from_on) (subst (λ (x : List ℕ). is_lt (bytes_cmp f.row.bytes x) ≡ true) same.to_is b.below) in
+    record { metric = same.metric; from_rest = w.0; to_rest = same.to_rest; three = same.three; from_is = w.1; to_is = same.to_is }
+
+-- the same with other names for the parts
+pub behind_short : (old new : Seen) (from to bytes : List ℕ) (o : Option Found) (f : Found) → o ≡ Some f → bytes ≡ f.row.bytes → Stepped old (NextRow Points from to) (Next o) new → IsPossible new → length bytes ≤ 55
+behind_short old new from to bytes o f is bytes_are st p =
+    subst (λ (x : List ℕ). length x ≤ 55) (sym bytes_are) (turned_short old new from to f (subst (λ (x : Option Found). Stepped old (NextRow Points from to) (Next x) new) is st) p)
+
+pub behind_metric : (left : Left) (old new : Seen) (from to bytes : List ℕ) (o : Option Found) (f : Found) → SameMetric left.from left.to → from ≡ left.from → to ≡ left.to → o ≡ Some f → bytes ≡ f.row.bytes
+    → Stepped old (NextRow Points from to) (Next o) new → IsPossible new → SameMetric bytes left.to
+behind_metric left old new from to bytes o f same from_is to_is is bytes_are st p =
+    subst (λ (x : List ℕ). SameMetric x left.to) (sym bytes_are) (turned_metric old new left.from left.to f same
+    (subst (λ (x : Option Found). Stepped old (NextRow Points left.from left.to) (Next x) new) is
+    (subst (λ (x : List ℕ). Stepped old (NextRow Points x left.to) (Next o) new) from_is
+    (subst (λ (x : List ℕ). Stepped old (NextRow Points from x) (Next o) new) to_is st))) p)

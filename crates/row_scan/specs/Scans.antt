@@ -1,0 +1,80 @@
+-- A scan: steps by next row, each from behind the row that the last one found.
+use Rattle.std.specs.Prelude.{◌≡◌, ℕ, ◌≤◌, List, [], ◌∷◌, ◌++◌, IsTrue, Contains, Option, None, Some, Result, Ok, Err}
+use Rattle.row_key.specs.declared.tables.Table.TheVariants.{Points}
+use Rattle.row_key.specs.declared.keys.RowKey.{RowKey}
+use Rattle.row_key.specs.Key.{IsKey, key_bytes}
+use Rattle.cell_model.specs.declared.cells.Row.{Row}
+use Rattle.cell_model.specs.declared.cells.Found.{Found}
+use Rattle.cell_model.specs.declared.events.Step.{Step}
+use Rattle.cell_model.specs.declared.events.Step.TheVariants.{NextRow}
+use Rattle.cell_model.specs.declared.events.Reply.TheVariants.{Next}
+use Rattle.cell_model.specs.declared.events.Placed.{Placed}
+use Rattle.cell_model.specs.declared.answers.RowsFault.{RowsFault}
+use Rattle.cell_model.specs.Store.{Store, value_at, is_between}
+use Rattle.cell_model.specs.Readings.{point_row}
+use Rattle.cell_model.specs.Seen.{Seen}
+use Rattle.cell_model.specs.Deeds.{Made}
+
+-- what is left of a scan: the point rows from `from` on and below `to`
+pub record Left : Type 0 where
+  pub from : List ℕ
+  pub to : List ℕ
+
+-- the row is one of the metric, in an hour that begins at one of the seconds from `first` to `last`
+pub record IsRowOf (metric first last : ℕ) (row : Row) : Type 0 where
+  pub key : RowKey
+  pub is_key : IsKey key
+  pub row_is : row ≡ point_row (key_bytes key)
+  pub metric_is : key.metric ≡ metric
+  pub from_on : first ≤ key.base
+  pub up_to : key.base ≤ last
+
+-- of the rows with a key, those of the metric in these hours are left, and no other
+pub record IsStart (metric first last : ℕ) (left : Left) : Type 0 where
+  pub all : (row : Row) → IsRowOf metric first last row → IsTrue (is_between Points left.from left.to row)
+  pub only : (key : RowKey) → IsKey key → IsTrue (is_between Points left.from left.to (point_row (key_bytes key))) → IsRowOf metric first last (point_row (key_bytes key))
+
+-- what is left behind a row: the least bytes above the row's are the first
+abbrev pub behind : Left → Row → Left
+behind left row = record { from = row.bytes ++ 0 ∷ []; to = left.to }
+
+-- what is left after a turn
+abbrev pub after_turn : Left → Result (Option Found) RowsFault → Left
+after_turn left (Ok (Some found)) = behind left found.row
+after_turn left (Ok None) = left
+after_turn left (Err fault) = left
+
+-- the entry looks for the next of the rows that are left, and found this one
+abbrev pub IsNext : Left → Option Found → Placed → Type 0
+IsNext left found p = (p.entry.step ≡ NextRow Points left.from left.to) × (p.entry.reply ≡ Next found)
+
+-- the call made entries of which this holds, and no other
+abbrev pub MadeSo : Seen → (List Placed → Type 0) → Seen → Type 0
+MadeSo old P new = (list : List Placed) × Made old list new × P list
+
+-- a turn makes one next row, and its answer is what that found; a fault has made nothing
+abbrev pub TurnMade : Left → Result (Option Found) RowsFault → List Placed → Type 0
+TurnMade left (Ok found) list = (p : Placed) × (list ≡ p ∷ []) × IsNext left found p
+TurnMade left (Err fault) list = list ≡ []
+
+-- the step isn't one by which a scan goes on
+abbrev pub IsOther : Step → Type 0
+IsOther (NextRow table from to) = ⊥
+IsOther _ = Unit {0}
+
+abbrev pub AreOther : List Placed → Type 0
+AreOther list = (p : Placed) → Contains list p → IsOther p.entry.step
+
+-- The next rows among the entries make a whole scan of what is left: each looks behind the row that the one before it found, and the last found none.
+pub data Scanned : Left → List Placed → List Found → Type 0 where
+  ended : {left : Left} {p : Placed} {own : List Placed} → IsNext left None p → AreOther own → Scanned left (p ∷ own) []
+  found : {left : Left} {p : Placed} {own : List Placed} {f : Found} {founds : List Found} → IsNext left (Some f) p → Scanned (behind left f.row) own founds → Scanned left (p ∷ own) (f ∷ founds)
+  other : {left : Left} {p : Placed} {own : List Placed} {founds : List Found} → IsOther p.entry.step → Scanned left own founds → Scanned left (p ∷ own) founds
+
+-- The entries so far found these rows: with any whole scan of what is now left they make one of what was left at first.
+abbrev pub Scanning : Left → List Placed → List Found → Left → Type 0
+Scanning first own founds now = (more : List Placed) (rest : List Found) → Scanned now more rest → Scanned first (own ++ more) (founds ++ rest)
+
+-- the row is there
+abbrev pub HasCell : Store → Row → Type 0
+HasCell s row = (qual : List ℕ) × (value : List ℕ) × (value_at s row qual ≡ Some value)

@@ -1,0 +1,11 @@
+//! The rows of a metric in a range of hours, and the data points of one row.
+#![tactic(auto)]
+
+pub mod laws;
+pub mod points;
+pub mod scan;
+#[cfg(test)]
+mod tests;
+
+pub use points::row_points;
+pub use scan::Scan;

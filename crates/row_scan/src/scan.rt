@@ -1,0 +1,104 @@
+//! Scans over the rows of one metric.
+ghost use Rattle.std.specs.Prelude.{◌≡◌, ◌++◌, ◌∷◌, [], ◌≤◌, length, OnOk, OnErr, IfErr};
+ghost use Rattle.row_key.specs.Key.{hour_bytes};
+ghost use Rattle.cell_model.specs.Ranges.{SameMetric};
+ghost use Rattle.cell_model.specs.Seen.{IsPossible, RoseIfStopped};
+ghost use Rattle.row_scan.specs.Scans.{IsStart, Left, MadeSo, TurnMade, after_turn};
+
+use arrayvec::ArrayVec;
+use cell_model::{Found, Rows, RowsFault};
+use qual_codec::Bytes;
+use row_key::Table;
+use std::alloc::Global;
+use std::marker::Model;
+
+/// The longest key of a point row has 55 bytes, and a scan goes on one byte behind it.
+const LONGEST_START: usize = 56;
+
+/// What is left of a scan over the rows of one metric, in a range of hours.
+///
+/// Contracts see it as the bytes at which the rows that are left begin and end.
+#[derive(Drop)]
+pub struct Scan {
+    from: ArrayVec<u8, LONGEST_START>,
+    to: Bytes,
+}
+
+impl Model for Scan {
+    ghost use Rattle.row_scan.specs.Scans.{Left};
+    ghost use Rattle.cell_model.specs.Ranges.{SameMetric};
+
+    ghost Value = { Left };
+
+    ghost view = { λ s. record { from = s.from.items; to = s.to } };
+
+    ghost invariant = { λ s. SameMetric s.from.items s.to };
+}
+
+/// The bytes with which the rows of a metric and an hour begin.
+fn hour_start(metric: u32, base: u32) -> [u8; 7]
+    ensures { result ≡ hour_bytes metric base }
+{
+    let [_, a, b, c] = metric.to_be_bytes();
+    let [d, e, f, g] = base.to_be_bytes();
+    [a, b, c, d, e, f, g]
+}
+
+/// These bytes, which fit.
+fn held(bytes: &[u8]) -> ArrayVec<u8, LONGEST_START>
+    requires { length bytes.now ≤ 56 }
+    ensures { result.items ≡ bytes.now }
+{
+    let mut held = ArrayVec::new();
+    let _ = held.try_extend_from_slice(bytes);
+    held
+}
+
+impl Scan {
+    /// A scan over the rows of a metric in the hours that begin at the seconds from `first_base` to `last_base`, both included.
+    pub fn start(metric: u32, first_base: u32, last_base: u32) -> Scan
+        ensures { metric ≤ 16777215 → IsStart metric first_base last_base result }
+    {
+        // A second behind the last hour will do: the next hour may have no number.
+        let end = last_base.saturating_add(1);
+        let first_row = hour_start(metric, first_base);
+        let end_row = hour_start(metric, end);
+        Scan {
+            from: held(&first_row),
+            to: Bytes::short(&end_row),
+        }
+    }
+
+    /// Goes on behind a row of the same metric.
+    fn go_behind(&mut self, row: &[u8])
+        requires short { length row.now ≤ 55 }
+        requires metric { SameMetric row.now self.old.to }
+        ensures from { self.new.from ≡ row.now ++ 0 ∷ [] }
+        ensures to { self.new.to ≡ self.old.to }
+    {
+        self.from = held(row);
+        self.from.push(0);
+    }
+
+    /// The next row with its cells, or None where no more is left. It makes one `next_row`.
+    ///
+    /// After a fault nothing was made, and the scan may go on: `OutOfMemory` for want of memory, `Stopped` where the step was stopped.
+    pub fn turn<R: Rows>(&mut self, alloc: Global, rows: &mut R) -> Result<Option<Found>, RowsFault>
+        ensures made { MadeSo (R.seen rows.old) (TurnMade self.old result) (R.seen rows.new) }
+        ensures left { self.new ≡ after_turn self.old result }
+        ensures possible { OnOk result (IsPossible (R.seen rows.new)) }
+        ensures lives { OnErr result (IsPossible (R.seen rows.old) → IsPossible (R.seen rows.new)) }
+        ensures grows { R.stops rows.old ≤ R.stops rows.new }
+        ensures stopped { IfErr result (RoseIfStopped (R.stops rows.old) (R.stops rows.new)) }
+        ensures spare { OnOk result (2 ≤ R.spare rows.new) }
+    {
+        let Ok(from) = Bytes::of(alloc, self.from.as_slice()) else {
+            return Err(RowsFault::OutOfMemory);
+        };
+        let found = rows.next_row(alloc, Table::Points, &from, &self.to)?;
+        if let Some(found) = &found {
+            self.go_behind(found.row.bytes.list());
+        }
+        Ok(found)
+    }
+}
