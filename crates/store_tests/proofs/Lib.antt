@@ -1,0 +1,4 @@
+mod Lower
+pub mod Passing
+pub mod Known
+pub mod Allowing

@@ -1,0 +1,4 @@
+pub mod Others
+pub mod Listings
+pub mod Races
+pub mod Merges
