@@ -1,1 +1,2 @@
+pub mod Aggregators
 pub mod Subs

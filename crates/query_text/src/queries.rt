@@ -113,11 +113,64 @@ pub struct Sub {
     pub filters: FilterList,
 }
 
+/// Sub queries in the order of a text, which contracts see as a list.
+#[derive(Debug, Drop)]
+pub struct SubList {
+    list: Vec<Sub>,
+}
+
+impl Model for SubList {
+    ghost use Rattle.std.specs.Prelude.{List};
+    ghost use Rattle.query_text.specs.declared.queries.Sub.{Sub};
+
+    ghost Value = { List Sub };
+
+    ghost view = { λ subs. subs.list.items };
+}
+
+impl SubList {
+    /// These sub queries.
+    pub fn of(list: Vec<Sub>) -> SubList
+        ensures { result ≡ list.items }
+    {
+        SubList { list }
+    }
+
+    /// The sub queries.
+    pub fn list(&self) -> &[Sub]
+        ensures { result.now ≡ self.now }
+    {
+        self.list.as_slice()
+    }
+
+    /// The sub queries, given back.
+    pub fn into_list(self) -> Vec<Sub>
+        ensures { result.items ≡ self }
+    {
+        let SubList { list } = self;
+        list
+    }
+}
+
+/// A query: sub queries over one range of times.
+#[derive(Debug, Drop)]
+pub struct Query {
+    /// The first time, in milliseconds since 1970.
+    pub start: u64,
+    /// The last time, which is included.
+    pub end: u64,
+    /// Whether times are answered in milliseconds; else in seconds.
+    pub ms: bool,
+    pub subs: SubList,
+}
+
 /// Why a text is no query.
 #[derive(Clone, Copy, Debug, PartialEq, Eq)]
 pub enum QueryFault {
     /// The text of a sub query can't be read from the byte at this place, from 0, on.
     BadM { at: usize },
+    /// What stands before the first `:` is no aggregator.
+    UnknownAggregator,
     /// There was no memory for the query.
     OutOfMemory,
 }

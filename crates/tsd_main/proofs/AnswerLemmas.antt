@@ -1,178 +1,223 @@
--- What was collected, as the series of the chosen points.
-use Rattle.std.proofs.Common.{◌≡◌, ℕ, ◌^◌, ◌<◌, ℤ, Bool, true, false, T, cond, ◌&&◌, ◌||◌, List, [], ◌∷◌, ◌++◌, Some, None, map, Less, All, refl, sym, ap, subst, ◌∙◌, arith}
-use Rattle.std.specs.Prelude.{◌%◌, is_some, option_and_then}
-use Rattle.std.specs.declared.cmp.Ordering.{Ordering}
-use Rattle.std.specs.BTreeMap.{BTreeMap, IsOrdered, get, keys}
-use Rattle.std.specs.Cmp.{IsTotalOrder, nat_eq_equiv}
-use Rattle.std.specs.FinMap.{IsAntisymmetric, entries, entries_sorted, from_entries, get-from_entries, contains_key-keys}
-use Rattle.std.specs.FinMap.Entries.{find, is_sorted, below_all, same_entries, is_some-find}
-use Rattle.std.specs.List.{AllByRecursion, AllZip, list_any}
-use Rattle.std.specs.List.Sorted.{IsStrictlySortedBy}
-use Rattle.std.specs.Map.{keys_of}
-use Rattle.std.specs.Ordering.{nat_cmp, eq_by_cmp, is_lt}
-use Rattle.std.proofs.lemmas.Bool.{cond-true}
-use Rattle.std.proofs.lemmas.Bool.Decides.{nat_tests}
-use Rattle.std.proofs.lemmas.List.Elements.{All-map, All-weaker, All-from_recursion, recursion_from_All}
-use Rattle.std.proofs.lemmas.Map.Keys.{sorted_head, sorted_tail}
-use Rattle.std.proofs.lemmas.Map.Made.{is_some-lookup}
-use Rattle.std.proofs.lemmas.Map.Views.{All-found, All-keys_from_lookup}
-use Rattle.lerp_aggregate.specs.Aggregation.{value_at, aggregated}
-use Rattle.tsd_base.specs.declared.kinds.Aggregator.TheVariants.{Zimsum}
-use Rattle.lerp_aggregate.specs.Laws.{AreAlike, DependsOnValuesAlone}
-use Rattle.tsd_base.specs.Dots.{IsAboveAll}
+-- What a query over stored points prints.
+use Rattle.std.proofs.Common.{◌≡◌, ℕ, ◌-◌, Bool, true, false, cond, List, [], ◌∷◌, ◌++◌, refl, sym, ap, subst, ◌∙◌, arith, append-nil}
+use Rattle.std.specs.Prelude.{Option, None, Some, Result, Ok, Err, ◌%◌, All, Contains, codes, map, option_and_then, is_some}
+use Rattle.std.specs.List.{flat_map, list_any}
+use Rattle.std.proofs.lemmas.List.Elements.{All-from_recursion, Contains-append_right}
+use Rattle.tsd_base.specs.Alphabet.{IsName}
 use Rattle.tsd_base.specs.Points.{DataPoint}
-use Rattle.tsd_base.specs.Readings.{last_points, chosen, series_of, dots_of}
-use Rattle.tsd_base.specs.TagList.{tags_cmp, is_same_tags}
-use Rattle.tsd_base.specs.TagOrder.{tags_cmp_total, tags_cmp_exact, tags_ties, is_same_tags_equiv}
-use Rattle.tsd_base.specs.Tags.{Pair}
+use Rattle.tsd_base.specs.Tags.{is_same}
+use Rattle.tsd_base.specs.declared.kinds.Kind.{Kind}
+use Rattle.tsd_base.specs.declared.kinds.Kind.TheVariants.{Metric}
+use Rattle.cell_model.specs.declared.events.Placed.{Placed}
+use Rattle.cell_model.specs.Deeds.{Made}
+use Rattle.cell_model.specs.History.{History, first, store_after}
+use Rattle.cell_model.specs.Ids.{id_number, id_of}
+use Rattle.cell_model.specs.Lawful.{IsLawful}
+use Rattle.cell_model.specs.Seen.{Seen, Fits}
+use Rattle.json_reply.specs.Replies.{Group, IsReady, plain}
+use Rattle.json_reply.specs.declared.reply.Reply.{Reply}
+use Rattle.query_text.specs.declared.queries.Query as text
+use Rattle.query_text.specs.declared.queries.Sub.{Sub}
+use Rattle.query_run.specs.declared.fault.AskFault.{AskFault}
+use Rattle.query_run.specs.declared.fault.AskFault.TheVariants.{TooManyBuckets, Unknown, Duplicate, Overflow, OutOfMemory, Stopped}
+use Rattle.query_run.specs.Answers.{answer, as_point}
+use Rattle.query_run.specs.Asked.{Answers, Cause}
+use Rattle.query_run.specs.Asked.Answers.{none, more}
+use Rattle.query_run.specs.Faults.{AskRose}
+use Rattle.query_run.specs.Laws.{AnswerIsUnordered}
+use Rattle.query_run.specs.Parts.{AreQuerySteps, NameOf, Part, PartStands}
+use Rattle.query_run.specs.Queries.{QuerySays, answer_over, barred, names_in, wanted}
+use Rattle.uid_table.specs.Steps.{DidLook}
 use Rattle.tsd_main.specs.declared.query.Query.{Query}
-use Rattle.tsd_main.specs.declared.collected.Collected.{Collected}
-use Rattle.tsd_main.specs.Answers.{grouped, answer_of}
-use Rattle.tsd_main.specs.Collecting.{value_in, Collects}
-use Rattle.tsd_main.specs.Gathering.{IsCoarse}
-use Rattle.tsd_main.specs.Outcomes.{replied}
-use Rattle.tsd_main.specs.Printing.{query_outcome}
-use Rattle.tsd_main.proofs.ChosenLemmas.{value_at-last_points, any_series-last_points, holds-last_value}
+use Rattle.tsd_main.specs.Ids.{id_in}
+use Rattle.tsd_main.specs.declared.printed.Printed.{Printed}
+use Rattle.tsd_main.specs.Outcomes.{answer_of, refused, replied}
+use Rattle.tsd_main.specs.Printing.{outcome_of, query_outcome}
+use Rattle.tsd_main.specs.Replying.{CanCome, RefusesAsked, in_seconds}
+use Rattle.tsd_main.specs.Storing.{IsStored}
+use Rattle.tsd_main.proofs.Asking.{answer_is, ids_stand, kept}
+use Rattle.tsd_main.proofs.Clashless.{no_clash}
+use Rattle.tsd_main.proofs.Entering.{looked_at}
+use Rattle.tsd_main.proofs.Follows.{went}
+use Rattle.tsd_main.proofs.Lower.{id_kept, not_Some, each_entry, deeds_each, here}
+use Rattle.tsd_main.proofs.MetricLemmas.{known_is}
+use Rattle.tsd_main.proofs.Seconds.{answer_holds, coarse_answer, in_coarse, kept_hold, plain_seconds, ready_seconds}
+use Rattle.tsd_main.proofs.SeriesLemmas.{coarse_points, whole_points}
 
-below_from_Less : (a b : ℕ) → nat_cmp a b ≡ Less → a < b
-below_from_Less a b h = grind (arith, nat_tests)
+-- the query that is asked for a sub query in a range
+abbrev pub asked_query : Query → text.Query
+asked_query q = record { start = q.start; end = q.end; ms = true; subs = q.sub ∷ [] }
 
--- among keys in order each is above those before it
-at_middle : (P : ℕ → Type 0) (dots rest : List (ℕ × ℤ)) (d : ℕ × ℤ) → AllByRecursion P (keys_of (dots ++ d ∷ rest)) → P d.0
-at_middle P [] rest d h = h.0
-at_middle P (p ∷ dots) rest d h = at_middle P dots rest d h.1
+pub asked_is : (q : Query) (a : text.Query) → a.start ≡ q.start → a.end ≡ q.end → a.ms ≡ true → a.subs ≡ q.sub ∷ [] → a ≡ asked_query q
+asked_is q a s e m b = λ i. record { start = s i; end = e i; ms = m i; subs = b i }
 
-pub IsAboveAll-from_sorted : (dots rest : List (ℕ × ℤ)) (d : ℕ × ℤ) → IsStrictlySortedBy nat_cmp (keys_of (dots ++ d ∷ rest)) → IsAboveAll d.0 dots
-IsAboveAll-from_sorted [] rest d h = tt
-IsAboveAll-from_sorted (p ∷ dots) rest d h = (
-  below_from_Less p.0 d.0 (at_middle (λ y. nat_cmp p.0 y ≡ Less) dots rest d (sorted_head nat_cmp p.0 _ h)),
-  IsAboveAll-from_sorted dots rest d (sorted_tail nat_cmp p.0 _ h),
-)
+module _ (q : Query) (points : List DataPoint) (old new : Seen) (is_name : IsName q.sub.metric) (stored : IsStored points old) where
+  abbrev points_kept : List DataPoint
+  points_kept = kept q.start q.end q.sub.metric points
 
--- ---- keys in order, as the entries of a set
-abbrev units : {K : Type 0} → List K → List (K × Unit {0})
-units ks = map (λ k. (k, tt)) ks
+  abbrev Known : Bool → Type 0
+  Known b = list_any (λ p. is_same p.metric q.sub.metric) points ≡ b
 
-keys-units : {K : Type 0} (ks : List K) → map (λ e. e.0) (units ks) ≡ ks
-keys-units [] = refl
-keys-units (k ∷ ks) = ap (λ ls. k ∷ ls) (keys-units ks)
+  metric_id : (b : Bool) → is_some (id_in stored.names.metrics q.sub.metric) ≡ b → Known b
+  metric_id b is = sym (known_is points stored.names q.sub.metric stored.noted) ∙ is
 
-both_true : (a b : Bool) → T a → T b → T (a && b)
-both_true true b p q = q
-both_true false b p q = absurd p
+  -- one sub query makes one part
+  pub record OnePart (parts : List Part) (groups : List Group) (h : History) : Type 0 where
+    pub part : Part
+    pub parts_are : parts ≡ part ∷ []
+    pub stands : PartStands (wanted (asked_query q) q.sub) (names_in q.sub) part new.length h
+    pub answer_is_ : answer true q.sub.how q.sub.metric (map as_point part.shown) ≡ Ok groups
 
-module _ {K : Type 0} (R : K → K → Ordering) where
-  below_all-units : (k : K) (ks : List K) → AllByRecursion (λ y. R k y ≡ Less) ks → T (below_all R k (units ks))
-  below_all-units k [] h = tt
-  below_all-units k (l ∷ ks) h = both_true _ _ (subst (λ r. T (is_lt r)) (sym h.0) tt) (below_all-units k ks h.1)
+  one_part : (h : History) {parts : List Part} {groups : List Group} → Answers (wanted (asked_query q)) names_in barred (answer_over (asked_query q)) new.length h (q.sub ∷ []) parts groups → OnePart parts groups h
+  one_part h (more {groups = groups} b stands is none) = record { part = _; parts_are = refl; stands = stands; answer_is_ = is ∙ ap Ok (sym (append-nil groups)) }
 
-  is_sorted-units : (ks : List K) → IsStrictlySortedBy R ks → T (is_sorted R (units ks))
-  is_sorted-units [] h = tt
-  is_sorted-units (k ∷ ks) h = both_true _ _ (below_all-units k ks (sorted_head R k ks h)) (is_sorted-units ks (sorted_tail R k ks h))
+  no_part : (h : History) {parts : List Part} {groups : List Group} → Answers (wanted (asked_query q)) names_in barred (answer_over (asked_query q)) new.length h [] parts groups → parts ≡ []
+  no_part h none = refl
 
-  find-units : (ks : List K) (q : K) → find R q (units ks) ≡ cond (list_any (eq_by_cmp R q) ks) (Some tt) None
-  find-units [] q = refl
-  find-units (k ∷ ks) q =
-      elim (eq_by_cmp R q k) as (λ b. cond b (Some tt) (find R q (units ks)) ≡ cond (b || list_any (eq_by_cmp R q) ks) (Some tt) None) [
-        | true ↦ refl
-        | false ↦ find-units ks q
-      ]
+  own_of_one : (part : Part) → flat_map (λ (p : Part). p.own) (part ∷ []) ≡ part.own
+  own_of_one part = append-nil part.own
 
-  module _ {X : Type 0} where
-    below_all-keys : (k : K) (es : List (K × X)) → below_all R k (units (keys_of es)) ≡ below_all R k es
-    below_all-keys k [] = refl
-    below_all-keys k (e ∷ es) = ap (λ b. is_lt (R k e.0) && b) (below_all-keys k es)
+  module _ (part : Part) (made : Made old part.own new) (steps : AreQuerySteps part.own) (h : History) (lawful : IsLawful h) (fits : Fits new h) where
+    resolved_known : PartStands (wanted (asked_query q) q.sub) (names_in q.sub) part new.length h → Known true
+    resolved_known stands =
+        let id = stands.resolved (Metric, q.sub.metric) (here (Metric, q.sub.metric) []) in
+        let w = went old new part.own h made stored.by lawful fits in
+        metric_id true (ap is_some (sym (stored.ids h lawful w.fitted Metric q.sub.metric is_name) ∙ sym (ids_stand points (coarse_points points stored.coarse) old new part.own stored made steps h lawful fits Metric q.sub.metric) ∙ id.1))
 
-    is_sorted-keys : (es : List (K × X)) → is_sorted R (units (keys_of es)) ≡ is_sorted R es
-    is_sorted-keys [] = refl
-    is_sorted-keys (e ∷ es) = λ i. below_all-keys e.0 es i && is_sorted-keys es i
+    answer_kept : AnswerIsUnordered → PartStands (wanted (asked_query q) q.sub) (names_in q.sub) part new.length h → answer true q.sub.how q.sub.metric (map as_point part.shown) ≡ answer true q.sub.how q.sub.metric points_kept
+    answer_kept unordered stands =
+        answer_is points (coarse_points points stored.coarse) old new part.own stored made steps h lawful fits q.start q.end q.sub.metric part refl stands.covers unordered q.sub.how
 
-  -- two lists of keys in order with the same keys
-  same_keys : IsTotalOrder R → IsAntisymmetric R → (ks ls : List K) → T (is_sorted R (units ks)) → T (is_sorted R (units ls))
-      → ((q : K) → list_any (eq_by_cmp R q) ks ≡ list_any (eq_by_cmp R q) ls) → ks ≡ ls
-  same_keys total exact ks ls s t same =
-      sym (keys-units ks)
-      ∙ ap (map (λ e. e.0)) (same_entries R total exact (units ks) (units ls) s t (λ q. find-units ks q ∙ ap (λ b. cond b (Some tt) None) (same q) ∙ sym (find-units ls q)))
-      ∙ keys-units ls
+    -- a name that was not found has no id
+    not_found : (d : Placed) → Contains part.own d → DidLook d Metric q.sub.metric None → Known false
+    not_found d has look = at (id_in stored.names.metrics q.sub.metric) refl
+      where
+        at : (o : Option ℕ) → id_in stored.names.metrics q.sub.metric ≡ o → Known false
+        at None is = metric_id false (ap is_some is)
+        at (Some id) is =
+            let w = went old new part.own h made stored.by lawful fits in
+            let before : id_of (first old.length h) Metric q.sub.metric ≡ Some id = stored.ids h lawful w.fitted Metric q.sub.metric is_name ∙ is in
+            let own = deeds_each h old.caller old.length new.length d (subst (λ (xs : List Placed). Contains xs d) (sym (made.made h fits)) has) in
+            let above = own.above in
+            let later = id_kept h old.length (d.place - 1) Metric q.sub.metric id lawful is_name (omega (arith, above)) before in
+            let legal = each_entry h d.place d.entry lawful own.stands in
+            absurd (not_Some id (sym later ∙ ap (option_and_then id_number) (looked_at (store_after (first (d.place - 1) h)) d.place d Metric q.sub.metric None legal.reply look)))
 
-any_tags : (ps : List DataPoint) (q : List Pair) → list_any (eq_by_cmp tags_cmp q) (keys_of (map (λ (p : DataPoint). (p.tags, p.time)) ps)) ≡ list_any (λ p. is_same_tags p.tags q) ps
-any_tags [] q = refl
-any_tags (p ∷ ps) q = λ i. (sym (tags_ties q p.tags) ∙ is_same_tags_equiv.symm q p.tags) i || any_tags ps q i
+  -- ---- an answer
+  pub record Told (answered : Result (List Group) ℕ) : Type 0 where
+    pub known : Known true
+    pub is : answer true q.sub.how q.sub.metric points_kept ≡ answered
 
-any_series_of : (ps : List DataPoint) (q : List Pair) → list_any (eq_by_cmp tags_cmp q) (series_of ps) ≡ list_any (λ p. is_same_tags p.tags q) ps
-any_series_of ps q =
-    let es = map (λ (p : DataPoint). (p.tags, p.time)) ps in
-    sym (contains_key-keys (from_entries {R = tags_cmp} es) q) ∙ ap is_some (get-from_entries tags_cmp_total es q) ∙ is_some-find tags_cmp q es ∙ any_tags ps q
+  pub told_ok : AnswerIsUnordered → (reply : Reply) → QuerySays (asked_query q) old (Ok reply) new → Told (Ok (map plain reply.groups.items))
+  told_ok unordered reply says =
+      let p = says.made.since.lives stored.by.possible in
+      let one = one_part p.history (says.answers p.history p.lawful p.fits) in
+      let own : flat_map (λ (p : Part). p.own) says.parts ≡ one.part.own = ap (flat_map (λ (p : Part). p.own)) one.parts_are ∙ own_of_one one.part in
+      let made = subst (λ xs. Made old xs new) own says.made in
+      let steps = subst (λ xs. AreQuerySteps xs) own says.steps in
+      record {
+        known = resolved_known one.part made steps p.history p.lawful p.fits one.stands;
+        is = sym (answer_kept one.part made steps p.history p.lawful p.fits unordered one.stands) ∙ one.answer_is_;
+      }
 
-abbrev Series : Type 0
-Series = BTreeMap (List Pair) (List (ℕ × ℤ))
+  -- in seconds
+  pub told_outcome : (reply : Reply) → Told (Ok (map plain reply.groups.items)) → replied (Ok (map plain (map in_seconds reply.groups.items))) ≡ query_outcome q points
+  told_outcome reply t =
+      ap (λ gs. replied (Ok gs)) (plain_seconds reply.groups.items) ∙ ap (λ r. replied (in_coarse r)) (sym t.is) ∙ ap replied (sym (coarse_answer q.sub.how q.sub.metric points_kept))
+      ∙ sym (ap (λ b. cond b (replied (answer_of q.start q.end q.sub.how q.sub.metric points)) (refused (codes "query: unknown metric " ++ q.sub.metric))) t.known)
 
-series_are : (series : Series) (ps : List DataPoint) → IsOrdered tags_cmp series → ((q : List Pair) → is_some (get tags_cmp series q) ≡ list_any (λ p. is_same_tags p.tags q) ps) → keys series ≡ series_of ps
-series_are series ps ordered same =
-    let made = from_entries {R = tags_cmp} (map (λ (p : DataPoint). (p.tags, p.time)) ps) in
-    same_keys tags_cmp tags_cmp_total tags_cmp_exact (keys series) (series_of ps)
-    (is_sorted-units tags_cmp (keys series) ordered)
-    (subst T (sym (is_sorted-keys tags_cmp (entries made))) (entries_sorted made))
-    (λ q. sym (is_some-lookup (eq_by_cmp tags_cmp q) series.entries) ∙ same q ∙ sym (any_series_of ps q))
+  pub told_ready : (reply : Reply) → Told (Ok (map plain reply.groups.items)) → All IsReady reply.groups.items → All IsReady (map in_seconds reply.groups.items)
+  told_ready reply t ready =
+      All-from_recursion IsReady (map in_seconds reply.groups.items)
+      (ready_seconds reply.groups.items ready
+      (answer_holds (λ time. time % 1000 ≡ 0) q.sub.how q.sub.metric points_kept
+      (All-from_recursion (λ p. p.time % 1000 ≡ 0) points_kept (kept_hold (λ p. p.time % 1000 ≡ 0) q.start q.end q.sub.metric points (whole_points points stored.coarse)))
+      (map plain reply.groups.items) t.is))
 
--- ---- the points of each series
-alike_places : {X : Type 0} (f : List Pair × X → List (ℕ × ℤ)) (g : List Pair → List (ℕ × ℤ)) (es : List (List Pair × X)) → AllByRecursion (λ e. AreAlike (f e) (g e.0)) es → AllZip AreAlike (map f es) (map g (keys_of es))
-alike_places f g [] h = tt
-alike_places f g (e ∷ es) h = (h.0, alike_places f g es h.1)
+  -- ---- a refusal
+  abbrev pub CauseOf : Part → History → AskFault → Type 0
+  CauseOf part h fault = Cause (wanted (asked_query q)) names_in barred (answer_over (asked_query q)) q.sub part new.length h fault
 
-AllByRecursion-unmap : {X Y : Type 0} (P : Y → Type 0) (f : X → Y) (xs : List X) → AllByRecursion P (map f xs) → AllByRecursion (λ x. P (f x)) xs
-AllByRecursion-unmap P f [] h = tt
-AllByRecursion-unmap P f (x ∷ xs) h = (h.0, AllByRecursion-unmap P f xs h.1)
+  -- it is of the one sub query
+  record OneCause (fault : AskFault) : Type 0 where
+    pub part : Part
+    pub made : Made old part.own new
+    pub steps : AreQuerySteps part.own
+    pub history : History
+    pub lawful : IsLawful history
+    pub fits : Fits new history
+    pub cause : CauseOf part history fault
 
-weaker : (P Q : DataPoint → Type 0) → ((p : DataPoint) → P p → Q p) → (ps : List DataPoint) → AllByRecursion P ps → AllByRecursion Q ps
-weaker P Q f [] h = tt
-weaker P Q f (p ∷ ps) h = (f p h.0, weaker P Q f ps h.1)
+  one_sub : (done rest : List Sub) (s : Sub) → q.sub ∷ [] ≡ done ++ s ∷ rest → (done ≡ []) × (s ≡ q.sub)
+  one_sub [] rest s e = (refl, cc)
+  one_sub (d ∷ []) rest s e = absurd cc
+  one_sub (d ∷ x ∷ done) rest s e = absurd cc
 
-value_in-found : (series : Series) (tags : List Pair) (values : List (ℕ × ℤ)) (t : ℕ) → get tags_cmp series tags ≡ Some values → value_at values t ≡ value_in series tags t
-value_in-found series tags values t found = sym (ap (λ o. option_and_then (λ (v : List (ℕ × ℤ)). value_at v t) o) found)
+  one_cause : (fault : AskFault) → QuerySays (asked_query q) old (Err fault) new → OneCause fault
+  one_cause fault says =
+      let p = says.made.since.lives stored.by.possible in
+      let cut = one_sub says.done says.rest says.sub says.cut in
+      let parts : says.parts ≡ [] =
+      no_part p.history (subst (λ (subs : List Sub). Answers (wanted (asked_query q)) names_in barred (answer_over (asked_query q)) new.length p.history subs says.parts says.groups) cut.0 (says.before p.history p.lawful p.fits)) in
+      let own : flat_map (λ (p : Part). p.own) says.parts ++ says.part.own ≡ says.part.own = ap (λ (ps : List Part). flat_map (λ (p : Part). p.own) ps ++ says.part.own) parts in
+      record {
+        part = says.part;
+        made = subst (λ xs. Made old xs new) own says.made;
+        steps = subst (λ xs. AreQuerySteps xs) own says.steps;
+        history = p.history;
+        lawful = p.lawful;
+        fits = p.fits;
+        cause = subst (λ (s : Sub). Cause (wanted (asked_query q)) names_in barred (answer_over (asked_query q)) s says.part new.length p.history fault) cut.1 (says.cause p.history p.lawful p.fits);
+      }
 
-module _ (query : Query) (points : List DataPoint) (c : Collected) (collects : Collects query points c) (ordered : IsOrdered tags_cmp c.series) where
-  abbrev counted : List DataPoint
-  counted = chosen query.start query.end query.metric (last_points points)
+  one_name : (before after : List NameOf) (n : NameOf) → (Metric, q.sub.metric) ∷ [] ≡ before ++ n ∷ after → (Metric, q.sub.metric) ≡ n
+  one_name [] after n e = cc
+  one_name (b ∷ []) after n e = absurd cc
+  one_name (b ∷ c ∷ before) after n e = absurd cc
 
-  keys_are : keys c.series ≡ series_of counted
-  keys_are = series_are c.series counted ordered (λ q. collects.series q ∙ sym (any_series-last_points query.start query.end query.metric points q))
+  -- a metric that was not found is unknown
+  unknown_metric : (kind : Kind) (name : List ℕ) → OneCause (Unknown kind name) → Known false × (name ≡ q.sub.metric)
+  unknown_metric kind name c =
+      let u = c.cause.1 in
+      let same = one_name u.before u.after (kind, name) u.cut in
+      let d = u.none in (
+        not_found c.part c.made c.steps c.history c.lawful c.fits d.0 d.1 (subst (λ (n : NameOf). DidLook d.0 n.0 n.1 None) (sym same) d.2),
+        ap (λ (n : NameOf). n.1) (sym same),
+      )
 
-  values_are : (tags : List Pair) (values : List (ℕ × ℤ)) → get tags_cmp c.series tags ≡ Some values → AreAlike values (dots_of counted tags)
-  values_are tags values found t =
-      value_in-found c.series tags values t found ∙ collects.values tags t
-      ∙ sym (value_at-last_points query.start query.end query.metric points (weaker IsCoarse (λ p. p.fine ≡ false) (λ p h. h.form) points collects.coarse) tags t)
+  overflown : AnswerIsUnordered → (time : ℕ) → OneCause (Overflow time) → Told (Err time)
+  overflown unordered time c = record {
+    known = resolved_known c.part c.made c.steps c.history c.lawful c.fits c.cause.1;
+    is = sym (answer_kept c.part c.made c.steps c.history c.lawful c.fits unordered c.cause.1) ∙ c.cause.2;
+  }
 
-  groups_are : DependsOnValuesAlone → grouped query.metric (keys c.series) (aggregated Zimsum (map (λ e. e.1) c.series.entries)) ≡ answer_of query.start query.end query.metric points
-  groups_are depends =
-      let all : AllByRecursion (λ e. AreAlike e.1 (dots_of counted e.0)) c.series.entries =
-      recursion_from_All (λ e. AreAlike e.1 (dots_of counted e.0)) c.series.entries
-      (All-weaker (λ e. get tags_cmp c.series e.0 ≡ Some e.1) (λ e. AreAlike e.1 (dots_of counted e.0)) (λ e found. values_are e.0 e.1 found) c.series.entries (All-found tags_cmp_total c.series ordered)) in
-      let dots = depends Zimsum _ _ (alike_places (λ e. e.1) (dots_of counted) c.series.entries all) in
-      ap (grouped query.metric (keys c.series)) dots ∙ ap (λ series. grouped query.metric series (aggregated Zimsum (map (dots_of counted) series))) keys_are
+  -- what is printed
+  pub refusal_outcome : AnswerIsUnordered → (fault : AskFault) (printed : Printed) → QuerySays (asked_query q) old (Err fault) new → RefusesAsked fault printed → outcome_of printed ≡ query_outcome q points
+  refusal_outcome unordered (Unknown kind name) printed says refuses =
+      let u = unknown_metric kind name (one_cause (Unknown kind name) says) in
+      refuses ∙ ap (λ m. refused (codes "query: unknown metric " ++ m)) u.1
+      ∙ sym (ap (λ b. cond b (replied (answer_of q.start q.end q.sub.how q.sub.metric points)) (refused (codes "query: unknown metric " ++ q.sub.metric))) u.0)
+  refusal_outcome unordered (Overflow time) printed says refuses =
+      let t = overflown unordered time (one_cause (Overflow time) says) in
+      refuses ∙ ap (λ r. replied (in_coarse r)) (sym t.is) ∙ ap replied (sym (coarse_answer q.sub.how q.sub.metric points_kept))
+      ∙ sym (ap (λ b. cond b (replied (answer_of q.start q.end q.sub.how q.sub.metric points)) (refused (codes "query: unknown metric " ++ q.sub.metric))) t.known)
+  refusal_outcome unordered (TooManyBuckets count) printed says refuses = absurd refuses
+  refusal_outcome unordered (Duplicate time a b) printed says refuses = absurd refuses
+  refusal_outcome unordered OutOfMemory printed says refuses = absurd refuses
+  refusal_outcome unordered Stopped printed says refuses = absurd refuses
 
-  -- the answer over what was collected
-  pub answer_is : DependsOnValuesAlone → c.known ≡ true → replied (grouped query.metric (keys c.series) (aggregated Zimsum (map (λ e. e.1) c.series.entries))) ≡ query_outcome query points
-  answer_is depends known =
-      ap replied (groups_are depends) ∙ sym (cond-true _ _ _ (sym collects.known ∙ known))
-
-  module _ (P : ℕ → Type 0) (all : AllByRecursion (λ p. P p.time) points) where
-    times_hold : (tags : List Pair) (values : List (ℕ × ℤ)) → get tags_cmp c.series tags ≡ Some values → All (λ dot. P dot.0) values
-    times_hold tags values found =
-        All-from_recursion (λ dot. P dot.0) values (AllByRecursion-unmap P (λ dot. dot.0) values
-        (recursion_from_All P (keys_of values)
-        (All-keys_from_lookup nat_eq_equiv P values
-        (λ t is. holds-last_value query.start query.end query.metric P points tags t all (sym (ap is_some (value_in-found c.series tags values t found ∙ collects.values tags t)) ∙ is)))))
-
-    -- what holds of the points' times holds of what was collected
-    lists_hold : All (λ dots. All (λ dot. P dot.0) dots) (map (λ e. e.1) c.series.entries)
-    lists_hold =
-        All-map (λ dots. All (λ dot. P dot.0) dots) (λ e. e.1) c.series.entries
-        (All-weaker (λ e. get tags_cmp c.series e.0 ≡ Some e.1) (λ e. All (λ dot. P dot.0) e.1) (λ e found. times_hold e.0 e.1 found)
-        c.series.entries (All-found tags_cmp_total c.series ordered))
-
-  pub times_are_low : All (λ dots. All (λ dot. dot.0 < 2 ^ 43) dots) (map (λ e. e.1) c.series.entries)
-  times_are_low = lists_hold (λ time. time < 2 ^ 43) (weaker IsCoarse (λ p. p.time < 2 ^ 43) (λ p h. let most = h.most in omega (arith, most)) points collects.coarse)
-
-  pub times_are_whole : All (λ dots. All (λ dot. dot.0 % 1000 ≡ 0) dots) (map (λ e. e.1) c.series.entries)
-  times_are_whole = lists_hold (λ time. time % 1000 ≡ 0) (weaker IsCoarse (λ p. p.time % 1000 ≡ 0) (λ p h. h.whole) points collects.coarse)
+  -- no other fault comes
+  pub can_come : (fault : AskFault) → QuerySays (asked_query q) old (Err fault) new → AskRose 0 0 fault → CanCome fault
+  can_come (Unknown kind name) says rose = tt
+  can_come (Overflow time) says rose = tt
+  can_come OutOfMemory says rose = tt
+  can_come (TooManyBuckets count) says rose = let c = one_cause (TooManyBuckets count) says in absurd (no_fault c.cause.1)
+    where
+      no_fault : {fault : AskFault} → None ≡ Some fault → ⊥
+      no_fault e = cc
+  can_come (Duplicate time a b) says rose =
+      let c = one_cause (Duplicate time a b) says in
+      let f = c.cause.2 in
+      let among : Contains c.part.own f.at = subst (λ (xs : List Placed). Contains xs f.at) (sym f.cut) (Contains-append_right f.earlier (f.at ∷ f.later) f.at (here f.at f.later)) in
+      no_clash points (coarse_points points stored.coarse) old new c.part.own stored c.made c.steps c.history c.lawful c.fits f.at among f.found f.reply (wanted (asked_query q) q.sub) time a b f.clash
+  can_come Stopped says rose = absurd (omega (arith, rose))

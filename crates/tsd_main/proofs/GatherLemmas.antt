@@ -1,19 +1,22 @@
 -- What is gathered, point by point.
 use Rattle.std.proofs.Common.{◌≡◌, ℕ, Bool, true, false, cond, List, [], ◌∷◌, ◌++◌, Option, Some, None, map, refl, sym, ap, subst, ◌∙◌}
-use Rattle.std.specs.Prelude.{ℤ, Ok, filter, is_some}
+use Rattle.std.specs.Prelude.{ℤ, Ok, Err, filter, is_some}
 use Rattle.std.specs.List.{AllByRecursion, flat_map}
 use Rattle.std.specs.HashMap.{get}
 use Rattle.std.specs.Cmp.Lexicographic.{nat_list_eq_equiv}
 use Rattle.std.proofs.lemmas.Bool.{and_parts, and_from, true≢false}
 use Rattle.tsd_base.specs.Points.{DataPoint}
 use Rattle.tsd_base.specs.TagOrder.{is_same_tags_equiv, tags_same}
+use Rattle.tsd_base.specs.declared.kinds.Kind.{Kind}
 use Rattle.cell_model.specs.Layout.{names_of}
-use Rattle.tsd_main.specs.declared.names.Names.{Names}
+use Rattle.cell_solo.specs.Turns.{Play, sight}
+use Rattle.tsd_main.specs.Storing.{IsNaming, Notes}
+use Rattle.tsd_main.specs.Ids.{Names}
 use Rattle.tsd_main.specs.declared.gathered.Gathered.{Gathered}
 use Rattle.tsd_main.specs.Naming.{no_names, noted_all, names_in, and_then_noted}
 use Rattle.tsd_main.specs.Series.{Series, is_same_series, series_of_point}
 use Rattle.tsd_main.specs.Gathering.{values_of, unless_empty, IsCoarse, Gathers}
-use Rattle.tsd_main.proofs.ChosenLemmas.{same_bytes}
+use Rattle.tsd_main.proofs.LastPoints.{same_bytes}
 use Rattle.tsd_main.specs.Known.{IsKnown, AreKnown}
 use Rattle.tsd_main.proofs.KnownLemmas.{notes_all, noted_all-known}
 use Rattle.tsd_main.proofs.NotedLemmas.{noted_all-append}
@@ -104,28 +107,47 @@ one_more : (points : List DataPoint) (p : DataPoint) (s : Series) (b : Bool) →
 one_more points p s true e = unless_empty-last (values_of points (series_of_point p)) (dot p) ∙ ap (λ t. unless_empty (values_of points t ++ dot p ∷ [])) (same_series (series_of_point p) s e)
 one_more points p s false e = refl
 
--- a point was put behind those of its series
-pub reads_point : (points : List DataPoint) (old new : Gathered) (p : DataPoint) → Gathers points old → IsCoarse p → noted_all old.names (names_of p) ≡ Ok new.names
+-- one more point of a series: what is gathered but for the store
+record OneMore (points : List DataPoint) (p : DataPoint) (new : Gathered) : Type 0 where
+  pub series : (s : Series) → get is_same_series new.series s ≡ unless_empty (values_of (points ++ p ∷ []) s)
+  pub coarse : AllByRecursion IsCoarse (points ++ p ∷ [])
+
+more_of : (points : List DataPoint) (old new : Gathered) (p : DataPoint) → Gathers points old → IsCoarse p
     → ((s : Series) → get is_same_series new.series s ≡ cond (is_same_series (series_of_point p) s) (Some (or_nil (get is_same_series old.series (series_of_point p)) ++ dot p ∷ [])) (get is_same_series old.series s))
-    → (noted_all old.names (names_of p) ≡ Ok new.names) × Gathers (points ++ p ∷ []) new
-reads_point points old new p h coarse named step = (
-  named,
-  record {
-    names = ap (noted_all no_names) (names_last points p) ∙ noted_all-append (flat_map names_of points) (names_of p) no_names ∙ ap (λ r. and_then_noted r (λ more. noted_all more (names_of p))) h.names ∙ named;
-    series = λ s.
-        step s ∙ ap (λ o. cond (is_same_series (series_of_point p) s) (Some (or_nil o ++ dot p ∷ [])) (get is_same_series old.series s)) (h.series (series_of_point p))
-        ∙ ap (λ xs. cond (is_same_series (series_of_point p) s) (Some (xs ++ dot p ∷ [])) (get is_same_series old.series s)) (or_nil-unless (values_of points (series_of_point p)))
-        ∙ ap (λ o. cond (is_same_series (series_of_point p) s) (Some (values_of points (series_of_point p) ++ dot p ∷ [])) o) (h.series s)
-        ∙ one_more points p s (is_same_series (series_of_point p) s) refl ∙ sym (ap unless_empty (values_last points p s));
-    coarse = all_last IsCoarse points p h.coarse coarse;
-  },
-)
+    → OneMore points p new
+more_of points old new p h coarse step = record {
+  series = λ s.
+      step s ∙ ap (λ o. cond (is_same_series (series_of_point p) s) (Some (or_nil o ++ dot p ∷ [])) (get is_same_series old.series s)) (h.series (series_of_point p))
+      ∙ ap (λ xs. cond (is_same_series (series_of_point p) s) (Some (xs ++ dot p ∷ [])) (get is_same_series old.series s)) (or_nil-unless (values_of points (series_of_point p)))
+      ∙ ap (λ o. cond (is_same_series (series_of_point p) s) (Some (values_of points (series_of_point p) ++ dot p ∷ [])) o) (h.series s)
+      ∙ one_more points p s (is_same_series (series_of_point p) s) refl ∙ sym (ap unless_empty (values_last points p s));
+  coarse = all_last IsCoarse points p h.coarse coarse;
+}
+
+noted_more : (points : List DataPoint) (p : DataPoint) (names more : Names) → noted_all no_names (flat_map names_of points) ≡ Ok names → noted_all names (names_of p) ≡ Ok more
+    → noted_all no_names (flat_map names_of (points ++ p ∷ [])) ≡ Ok more
+noted_more points p names more before one =
+    ap (noted_all no_names) (names_last points p) ∙ noted_all-append (flat_map names_of points) (names_of p) no_names ∙ ap (λ r. and_then_noted r (λ more. noted_all more (names_of p))) before ∙ one
+
+-- a point was read behind those of its series
+pub reads_point : (points : List DataPoint) (old new : Gathered) (p : DataPoint) (h : Gathers points old) → IsCoarse p → Notes (sight old.store) (names_of p) None (sight new.store)
+    → ((s : Series) → get is_same_series new.series s ≡ cond (is_same_series (series_of_point p) s) (Some (or_nil (get is_same_series old.series (series_of_point p)) ++ dot p ∷ [])) (get is_same_series old.series s))
+    → (more : Gathers (points ++ p ∷ []) new) × (noted_all h.names (names_of p) ≡ Ok more.names)
+reads_point points old new p h coarse notes step =
+    let noted = notes h.names h.naming in
+    let m = more_of points old new p h coarse step in
+    (record { names = noted.0; noted = noted_more points p h.names noted.0 h.noted noted.1; naming = noted.2; series = m.series; coarse = m.coarse }, noted.1)
 
 -- a point of a series that was read
-pub reads_known : (points : List DataPoint) (old new : Gathered) (p : DataPoint) (list : List (ℕ × ℤ)) → Gathers points old → IsCoarse p → get is_same_series old.series (series_of_point p) ≡ Some list → new.names ≡ old.names
+pub reads_known : (points : List DataPoint) (old new : Gathered) (p : DataPoint) (list : List (ℕ × ℤ)) (h : Gathers points old) → IsCoarse p → get is_same_series old.series (series_of_point p) ≡ Some list → new.store ≡ old.store
     → ((s : Series) → get is_same_series new.series s ≡ cond (is_same_series (series_of_point p) s) (Some (list ++ dot p ∷ [])) (get is_same_series old.series s))
-    → (noted_all old.names (names_of p) ≡ Ok new.names) × Gathers (points ++ p ∷ []) new
+    → (more : Gathers (points ++ p ∷ []) new) × (noted_all h.names (names_of p) ≡ Ok more.names)
 reads_known points old new p list h coarse found same step =
-    let known = known_series old.names points (series_of_point p) list (notes_all no_names (flat_map names_of points) old.names h.names).known (sym (h.series (series_of_point p)) ∙ found) in
-    reads_point points old new p h coarse (noted_all-known old.names (names_of p) known ∙ ap Ok (sym same))
-    (λ s. step s ∙ ap (λ o. cond (is_same_series (series_of_point p) s) (Some (or_nil o ++ dot p ∷ [])) (get is_same_series old.series s)) (sym found))
+    let known = known_series h.names points (series_of_point p) list (notes_all no_names (flat_map names_of points) h.names h.noted).known (sym (h.series (series_of_point p)) ∙ found) in
+    let noted = noted_all-known h.names (names_of p) known in
+    let m = more_of points old new p h coarse (λ s. step s ∙ ap (λ o. cond (is_same_series (series_of_point p) s) (Some (or_nil o ++ dot p ∷ [])) (get is_same_series old.series s)) (sym found)) in
+    (record { names = h.names; noted = noted_more points p h.names h.names h.noted noted; naming = subst (λ (x : Play). IsNaming h.names (sight x)) (sym same) h.naming; series = m.series; coarse = m.coarse }, noted)
+
+-- for one of the names of a point there is no id
+pub reads_full : (points : List DataPoint) (old new : Gathered) (p : DataPoint) (kind : Kind) (h : Gathers points old) → Notes (sight old.store) (names_of p) (Some kind) (sight new.store) → noted_all h.names (names_of p) ≡ Err kind
+reads_full points old new p kind h notes = notes h.names h.naming

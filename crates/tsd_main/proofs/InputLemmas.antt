@@ -2,7 +2,7 @@
 use Rattle.std.proofs.Common.{◌≡◌, ℕ, ◌+◌, ◌<◌, ◌≤◌, false, List, [], ◌∷◌, ◌++◌, length, take, drop, refl, sym, ap, subst, ◌∙◌, append_assoc, append-nil, add-zero, arith, cond, lt-ltb, length-append}
 use Rattle.std.specs.Prelude.{slice_index, codes, Option, Some, None, Result, Ok, Err}
 use Rattle.tsd_main.specs.declared.gathered.Gathered.{Gathered}
-use Rattle.tsd_main.specs.declared.names.Names.{Names}
+use Rattle.tsd_main.specs.Ids.{Names}
 use Rattle.tsd_main.specs.declared.input.BadLine.{BadLine}
 use Rattle.tsd_main.specs.Blocks.{has_line_end}
 use Rattle.std.specs.Io.KnownBytes.{Appends, Consumes}
@@ -55,10 +55,10 @@ refused_line names Blank number text rest e = absurd (none_is_not_some e)
 refused_line names (Taken p) number text rest e = full_line p number (noted_all names (names_of p)) text rest e
 refused_line names (Refused t) number text rest e = ap (λ o. Err (number, or_nothing o)) e
 
-pub refused_behind : (lines : List Line) (c : Gathered) (line : Line) (others : List Line) (bad : BadLine) → IsRead lines c → IsBad c.names line (1 + length lines) bad → points_from 1 no_names (lines ++ line ∷ others) ≡ Err (bad.number, bad.text.items)
+pub refused_behind : (lines : List Line) (c : Gathered) (line : Line) (others : List Line) (bad : BadLine) → (r : IsRead lines c) → IsBad r.gathers.names line (1 + length lines) bad → points_from 1 no_names (lines ++ line ∷ others) ≡ Err (bad.number, bad.text.items)
 refused_behind lines c line others bad r b =
     r.first 1 (line ∷ others)
-    ∙ ap (with_points r.points) (refused_line c.names (judged line) (1 + length lines) bad.text.items (λ more. points_from (1 + length lines + 1) more others) b.0)
+    ∙ ap (with_points r.points) (refused_line r.gathers.names (judged line) (1 + length lines) bad.text.items (λ more. points_from (1 + length lines + 1) more others) b.0)
     ∙ ap (λ n. Err (n, bad.text.items)) (sym b.1)
 
 -- ---- one more line
@@ -73,11 +73,11 @@ one_behind number lines line = let grown = length-append lines (line ∷ []) in 
 pub blank_read : (line : Line) (number : ℕ) (c : Gathered) → judged line ≡ Blank → ReadsLine line number c c None
 blank_read line number c is lines r = record {
   points = r.points;
+  gathers = r.gathers;
   first = λ n more.
       ap (points_from n no_names) (append_assoc lines (line ∷ []) more) ∙ r.first n (line ∷ more)
-      ∙ ap (λ j. with_points r.points (with_line j (n + length lines) c.names (λ names. points_from (n + length lines + 1) names more))) is
-      ∙ ap (λ k. with_points r.points (points_from k c.names more)) (one_behind n lines line);
-  gathers = r.gathers;
+      ∙ ap (λ j. with_points r.points (with_line j (n + length lines) r.gathers.names (λ names. points_from (n + length lines + 1) names more))) is
+      ∙ ap (λ k. with_points r.points (points_from k r.gathers.names more)) (one_behind n lines line);
 }
 
 pub point_read : (line : Line) (number : ℕ) (old new : Gathered) (p : DataPoint) → judged line ≡ Taken p → AddsPoint old p None new → ReadsLine line number old new None
@@ -85,17 +85,17 @@ point_read line number old new p is adds lines r =
     let added = adds r.points r.gathers in
     record {
       points = r.points ++ p ∷ [];
+      gathers = added.0;
       first = λ n more.
           ap (points_from n no_names) (append_assoc lines (line ∷ []) more) ∙ r.first n (line ∷ more)
-          ∙ ap (λ j. with_points r.points (with_line j (n + length lines) old.names (λ names. points_from (n + length lines + 1) names more))) is
-          ∙ ap (λ o. with_points r.points (with_point p (n + length lines) o (λ names. points_from (n + length lines + 1) names more))) added.0
-          ∙ with_points_twice r.points (p ∷ []) (points_from (n + length lines + 1) new.names more)
-          ∙ ap (λ k. with_points (r.points ++ p ∷ []) (points_from k new.names more)) (one_behind n lines line);
-      gathers = added.1;
+          ∙ ap (λ j. with_points r.points (with_line j (n + length lines) r.gathers.names (λ names. points_from (n + length lines + 1) names more))) is
+          ∙ ap (λ o. with_points r.points (with_point p (n + length lines) o (λ names. points_from (n + length lines + 1) names more))) added.1
+          ∙ with_points_twice r.points (p ∷ []) (points_from (n + length lines + 1) added.0.names more)
+          ∙ ap (λ k. with_points (r.points ++ p ∷ []) (points_from k added.0.names more)) (one_behind n lines line);
     }
 
-pub point_full : (line : Line) (old new : Gathered) (p : DataPoint) (kind : Kind) (text : List ℕ) → judged line ≡ Taken p → AddsPoint old p (Some kind) new → text ≡ exhausted_text kind → refusal old.names (judged line) ≡ Some text
-point_full line old new p kind text is adds told = ap (refusal old.names) is ∙ ap full_text adds ∙ ap Some (sym told)
+pub point_full : (line : Line) (old new : Gathered) (p : DataPoint) (kind : Kind) (text : List ℕ) → judged line ≡ Taken p → AddsPoint old p (Some kind) new → text ≡ exhausted_text kind → (lines : List Line) → (r : IsRead lines old) → refusal r.gathers.names (judged line) ≡ Some text
+point_full line old new p kind text is adds told lines r = ap (refusal r.gathers.names) is ∙ ap full_text (adds r.points r.gathers) ∙ ap Some (sym told)
 
 -- an LF behind n bytes of the rest, of which a slice is a copy
 pub record Cut (rest slice : List ℕ) (n : ℕ) : Type 0 where
@@ -122,11 +122,12 @@ read_on bytes rest slice n lines c d count t f one =
 
 -- one more line is refused
 pub refuse_on : (bytes rest slice : List ℕ) (n : ℕ) (lines : List Line) (c : Gathered) (count : ℕ) (bad : BadLine) → Cut rest slice n → ReadsFurther bytes rest lines c count
-    → IsBad c.names (whole_line (take n slice)) (count + 1) bad → (more : List ℕ) → points_from 1 no_names (lines ++ lines_of (bytes ++ more)) ≡ Err (bad.number, bad.text.items)
+    → ((before : List Line) → (r : IsRead before c) → IsBad r.gathers.names (whole_line (take n slice)) (count + 1) bad) → (more : List ℕ) → points_from 1 no_names (lines ++ lines_of (bytes ++ more)) ≡ Err (bad.number, bad.text.items)
 refuse_on bytes rest slice n lines c count bad t f b more =
     let line : Line = whole_line (take n rest) in
     let others : List Line = lines_of (drop (n + 1) rest ++ more) in
-    let is_bad : IsBad c.names line (1 + length (lines ++ f.more)) bad = (ap (λ l. refusal c.names (judged l)) (sym (cut_line t)) ∙ b.0, b.1 ∙ (let was = f.count_is in omega (arith, was))) in
+    let told = b (lines ++ f.more) f.reads in
+    let is_bad : IsBad f.reads.gathers.names line (1 + length (lines ++ f.more)) bad = (ap (λ l. refusal f.reads.gathers.names (judged l)) (sym (cut_line t)) ∙ told.0, told.1 ∙ (let was = f.count_is in omega (arith, was))) in
     ap (λ ls. points_from 1 no_names (lines ++ ls)) (f.splits more ∙ ap (λ ls. f.more ++ ls) (lines_cut rest more n t.within t.none t.ten)) ∙ ap (points_from 1 no_names) (sym (append_assoc lines f.more (line ∷ others)))
     ∙ refused_behind (lines ++ f.more) c line others bad f.reads is_bad
 
@@ -150,8 +151,8 @@ nothing_read taken left c empty = record {
     splits = splits_none [];
     reads = record {
       points = [];
-      first = λ number more. sym (no_points (points_from (number + 0) c.names more) ∙ ap (λ n. points_from n c.names more) (add-zero number) ∙ ap (λ names. points_from number names more) (sym (ok_is no_names c.names empty.names)));
       gathers = empty;
+      first = λ number more. sym (no_points (points_from (number + 0) empty.names more) ∙ ap (λ n. points_from n empty.names more) (add-zero number) ∙ ap (λ names. points_from number names more) (sym (ok_is no_names empty.names empty.noted)));
     };
     count_is = refl;
   };
@@ -184,7 +185,7 @@ too_long_further input rest count c bad f none long text number more =
     let l = b.long in
     let count_is = f.count_is in
     ap (points_from 1 no_names) (f.splits more ∙ ap (λ ls. f.more ++ ls) b.is)
-    ∙ refused_behind f.more c b.line b.others bad f.reads (ap (refusal c.names) (long_judged b.line (omega (arith, l, long))) ∙ ap Some (sym text), number ∙ omega (arith, count_is))
+    ∙ refused_behind f.more c b.line b.others bad f.reads (ap (refusal f.reads.gathers.names) (long_judged b.line (omega (arith, l, long))) ∙ ap Some (sym text), number ∙ omega (arith, count_is))
 
 -- further bytes were taken
 pub taken_further : (input rest bytes : List ℕ) (count : ℕ) (c : Gathered) → ReadsFurther input rest [] c count → ReadsFurther (input ++ bytes) (rest ++ bytes) [] c count
@@ -221,7 +222,8 @@ pub last_refused : (input rest : List ℕ) (count : ℕ) (c d : Gathered) (bad :
     → points_of input ≡ Err (bad.number, bad.text.items)
 last_refused input rest count c d bad f none b =
     let count_is = f.count_is in
-    ap (points_from 1 no_names) (ended_lines input rest f.more f.splits none) ∙ refused_behind f.more c (last_line rest) [] bad f.reads (b.0, b.1 ∙ omega (arith, count_is))
+    let told = b f.more f.reads in
+    ap (points_from 1 no_names) (ended_lines input rest f.more f.splits none) ∙ refused_behind f.more c (last_line rest) [] bad f.reads (told.0, told.1 ∙ omega (arith, count_is))
 
 -- what was taken in two turns
 pub taken_more : (taken taken' taken'' left left' left'' : Option (List ℕ)) (c : Gathered) (buffer bytes : List ℕ) (lines count more : ℕ) → HasRead taken taken' left left' c buffer lines count

@@ -7,7 +7,7 @@ use Rattle.std.proofs.lemmas.Bool.{true≢false}
 use Rattle.tsd_base.specs.declared.kinds.Kind.{Kind}
 use Rattle.tsd_base.specs.declared.kinds.Kind.TheVariants.{Metric, TagKey, TagValue}
 use Rattle.cell_model.specs.Machine.{MOST_IDS}
-use Rattle.tsd_main.specs.declared.names.Names.{Names}
+use Rattle.tsd_main.specs.Ids.{Names}
 use Rattle.tsd_main.specs.Ids.{id_in}
 use Rattle.tsd_main.specs.Naming.{list_of, with_list, with_listed, noted, noted_all, and_then_noted}
 use Rattle.tsd_main.specs.Known.{IsKnown, AreKnown}

@@ -4,7 +4,7 @@ use Rattle.std.specs.Prelude.{Result, Ok, Err}
 use Rattle.tsd_base.specs.declared.kinds.Kind.{Kind}
 use Rattle.tsd_base.specs.declared.kinds.Kind.TheVariants.{TagKey, TagValue}
 use Rattle.tsd_base.specs.TagList.{Pair}
-use Rattle.tsd_main.specs.declared.names.Names.{Names}
+use Rattle.tsd_main.specs.Ids.{Names}
 use Rattle.tsd_main.specs.Naming.{noted, noted_all, and_then_noted}
 use Rattle.tsd_main.specs.Numbered.{tag_names, told}
 

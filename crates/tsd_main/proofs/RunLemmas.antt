@@ -1,6 +1,8 @@
 -- What is printed, and its status.
-use Rattle.std.proofs.Common.{◌≡◌, ℕ, ◌*◌, Bool, true, false, cond, List, [], ◌++◌, refl, sym, ap, subst, ◌∙◌}
-use Rattle.std.specs.Prelude.{Option, Some, None, Result, Ok, Err}
+use Rattle.std.proofs.Common.{◌≡◌, ⊎_elim, ℕ, ◌*◌, ◌<◌, Bool, true, false, cond, List, [], ◌++◌, refl, sym, ap, subst, ◌∙◌, arith}
+use Rattle.std.specs.Prelude.{Option, Some, None, Result, Ok, Err, codes, decimal}
+use Rattle.std.proofs.KnownBytes.{Appends-nil, Consumes-nil}
+use Rattle.std.proofs.lemmas.Bool.{false≢true}
 use Rattle.std.specs.Io.KnownBytes.{Appends}
 use Rattle.std.specs.List.{list_any}
 use Rattle.tsd_base.specs.Tags.{is_same}
@@ -12,15 +14,20 @@ use Rattle.tsd_main.specs.declared.input.InputFault.{InputFault}
 use Rattle.tsd_main.specs.declared.input.InputFault.TheVariants as fault
 use Rattle.tsd_main.specs.declared.printed.Printed.{Printed}
 use Rattle.tsd_main.specs.Commands.{Batch}
-use Rattle.tsd_main.specs.Queries.{metric_of}
-use Rattle.tsd_main.specs.QueriesRead.{IsQueryOf}
+use Rattle.tsd_main.specs.Queries.{Asked, asked_of}
+use Rattle.tsd_main.specs.QueriesRead.{GivesQuery, IsQueryOf}
+use Rattle.tsd_main.specs.declared.gathered.Gathered.{Gathered}
+use Rattle.tsd_main.specs.declared.input.BadLine.{BadLine}
+use Rattle.tsd_main.specs.declared.query.NoQuery.{NoQuery}
+use Rattle.tsd_main.specs.declared.query.NoQuery.TheVariants as query
+use Rattle.tsd_main.specs.Inputs.{IsPointsOf, ReadsInputTo}
 use Rattle.tsd_main.specs.Lines.{points_of}
 use Rattle.json_reply.specs.Replies.{Group}
-use Rattle.tsd_main.specs.Answers.{answer_of}
-use Rattle.tsd_main.specs.Outcomes.{Outcome, outcome, over_input, over_points, answered, replied}
+use Rattle.tsd_base.specs.declared.kinds.Aggregator.{Aggregator}
+use Rattle.tsd_main.specs.Outcomes.{Outcome, answer_of, outcome, over_input, over_points, answered, refused, refused_line, replied}
 use Rattle.tsd_main.specs.Printing.{outcome_of}
-use Rattle.tsd_main.specs.Runs.{Decides, Decided, ReadsInput, Works, Answers, Runs}
-use Rattle.tsd_main.specs.Working.{WorksQuery, DecidesQuery, DecidedQuery, over_lines}
+use Rattle.tsd_main.specs.Runs.{Decides, Decided, ReadsInput, Taken, Works, Answers, Runs}
+use Rattle.tsd_main.specs.Working.{RefusesQuery, WorksQuery, DecidesQuery, DecidedQuery, over_lines}
 
 -- a status that something printed has
 abbrev pub IsPrinted : Status → Type 0
@@ -40,19 +47,19 @@ cond_printed : (b : Bool) (x y : Outcome) → IsPrinted x.status → IsPrinted y
 cond_printed true x y p q = p
 cond_printed false x y p q = q
 
-answered_printed : (start end : ℕ) (metric : List ℕ) (points : List DataPoint) → IsPrinted (answered start end metric points).status
-answered_printed start end metric points = cond_printed (list_any (λ p. is_same p.metric metric) points) (replied (answer_of start end metric points)) _ (replied_printed (answer_of start end metric points)) tt
+answered_printed : (start end : ℕ) (how : Aggregator) (metric : List ℕ) (points : List DataPoint) → IsPrinted (answered start end how metric points).status
+answered_printed start end how metric points = cond_printed (list_any (λ p. is_same p.metric metric) points) (replied (answer_of start end how metric points)) _ (replied_printed (answer_of start end how metric points)) tt
 
-over_points_printed : (batch : Batch) (metric : List ℕ) (r : Result (List DataPoint) (ℕ × List ℕ)) → IsPrinted (over_points batch metric r).status
-over_points_printed batch metric (Ok points) = answered_printed (batch.start * 1000) (batch.end * 1000) metric points
-over_points_printed batch metric (Err line) = tt
+over_points_printed : (batch : Batch) (asked : Asked) (r : Result (List DataPoint) (ℕ × List ℕ)) → IsPrinted (over_points batch asked r).status
+over_points_printed batch asked (Ok points) = answered_printed (batch.start * 1000) (batch.end * 1000) asked.0 asked.1 points
+over_points_printed batch asked (Err line) = tt
 
-over_input_printed : (batch : Batch) (m : Result (List ℕ) (List ℕ)) (input : List ℕ) → IsPrinted (over_input batch m input).status
-over_input_printed batch (Ok metric) input = over_points_printed batch metric (points_of input)
+over_input_printed : (batch : Batch) (m : Result Asked (List ℕ)) (input : List ℕ) → IsPrinted (over_input batch m input).status
+over_input_printed batch (Ok asked) input = over_points_printed batch asked (points_of input)
 over_input_printed batch (Err text) input = tt
 
 outcome_printed : (command : Option Batch) (input : List ℕ) → IsPrinted (outcome command input).status
-outcome_printed (Some batch) input = over_input_printed batch (metric_of batch.query) input
+outcome_printed (Some batch) input = over_input_printed batch (asked_of batch.query) input
 outcome_printed None input = tt
 
 decided_printed : (command : Option Batch) (input : List ℕ) (ended : Bool) (o : Outcome) → Decides command input ended o → IsPrinted o.status
@@ -90,10 +97,10 @@ module _ (command : Option Batch) (taken taken' left left' held held' : Option (
 
 -- a batch's outcome is that of its query
 query_outcome_is : (batch : Batch) (query : Query) (input : List ℕ) → IsQueryOf query batch → outcome (Some batch) input ≡ over_lines query (points_of input)
-query_outcome_is batch query input q = ap (λ m. over_input batch m input) q.metric ∙ of_points (points_of input)
+query_outcome_is batch query input q = ap (λ m. over_input batch m input) q.asked ∙ of_points (points_of input)
   where
-    of_points : (r : Result (List DataPoint) (ℕ × List ℕ)) → over_points batch query.metric r ≡ over_lines query r
-    of_points (Ok points) = ap (λ n. answered n (batch.end * 1000) query.metric points) (sym q.start) ∙ ap (λ n. answered query.start n query.metric points) (sym q.end)
+    of_points : (r : Result (List DataPoint) (ℕ × List ℕ)) → over_points batch (query.sub.how, query.sub.metric) r ≡ over_lines query r
+    of_points (Ok points) = ap (λ n. answered n (batch.end * 1000) query.sub.how query.sub.metric points) (sym q.start) ∙ ap (λ n. answered query.start n query.sub.how query.sub.metric points) (sym q.end)
     of_points (Err line) = refl
 
 query_decides : (batch : Batch) (query : Query) (input : List ℕ) (ended : Bool) (o : Outcome) → IsQueryOf query batch → DecidesQuery query input ended o → Decides (Some batch) input ended o
@@ -101,7 +108,7 @@ query_decides batch query input true o q d = query_outcome_is batch query input 
 query_decides batch query input false o q d = λ more. query_outcome_is batch query (input ++ more) q ∙ d more
 
 pub reads_input : (batch : Batch) (query : Query) → IsQueryOf query batch → ReadsInput (Some batch)
-reads_input batch query q = record { batch = batch; command_is = refl; metric = query.metric; query = q.metric }
+reads_input batch query q = record { batch = batch; command_is = refl; asked = (query.sub.how, query.sub.metric); query = q.asked }
 
 query_decided : (batch : Batch) (query : Query) (input : List ℕ) (ended : Bool) (result : Result Printed InputFault) → IsQueryOf query batch → DecidedQuery query input ended result → Decided (Some batch) input ended result
 query_decided batch query input ended (Ok printed) q d = (query_decides batch query input ended (outcome_of printed) q d.0, d.1)
@@ -117,3 +124,61 @@ works_query batch query taken taken' left left' result q w = record {
   bytes = record { takes = w.takes; leaves = w.leaves; end = w.end; asked = λ _. reads_input batch query q; most = w.most; early = w.early };
   decided = query_decided batch query w.input w.ended result q w.decided;
 }
+
+-- ---- what is refused before the answer
+module _ (taken left : Option (List ℕ)) where
+  -- there was no memory before anything was taken
+  pub no_memory : (query : Query) → WorksQuery query taken taken left left (Err fault.OutOfMemory)
+  no_memory query = record { input = []; ended = false; takes = Appends-nil taken; leaves = Consumes-nil left; end = λ e. absurd (false≢true e); most = omega arith; early = λ e. absurd (false≢true e); decided = tt }
+
+  nothing_taken : (command : Option Batch) → Taken command taken taken left left [] false
+  nothing_taken command = record {
+    takes = Appends-nil taken;
+    leaves = Consumes-nil left;
+    end = λ e. absurd (false≢true e);
+    asked = λ either. ⊎_elim (λ (some : 0 < 0). absurd (omega (arith, some))) (λ (e : false ≡ true). absurd (false≢true e)) either;
+    most = omega arith;
+    early = λ e. absurd (false≢true e);
+  }
+
+  pub no_memory_for_query : (command : Option Batch) → Works command taken taken left left (Err fault.OutOfMemory)
+  no_memory_for_query command = record { input = []; ended = false; bytes = nothing_taken command; decided = tt }
+
+  -- the text asks for no query
+  refuses_text : (batch : Batch) (text : List ℕ) (printed : Printed) → asked_of batch.query ≡ Err text → outcome_of printed ≡ refused (codes "query: " ++ text) → Works (Some batch) taken taken left left (Ok printed)
+  refuses_text batch text printed asked is = record {
+    input = [];
+    ended = false;
+    bytes = nothing_taken (Some batch);
+    decided = (λ more. ap (λ m. over_input batch m more) asked ∙ sym is, λ done. absurd (not_done (sym done ∙ ap (λ (o : Outcome). o.status) is)));
+  }
+    where
+      not_done : Done ≡ Refused → ⊥
+      not_done e = cc
+
+  pub refuses_query : (batch : Batch) (fault : NoQuery) (printed : Printed) → GivesQuery (Err fault) batch → RefusesQuery fault printed → Works (Some batch) taken taken left left (Ok printed)
+  refuses_query batch query.NotBuilt printed asked is = refuses_text batch (codes "not built") printed asked is
+  refuses_query batch (query.BadM at) printed asked is = refuses_text batch (codes "bad query at byte " ++ decimal at) printed asked is
+  refuses_query batch query.UnknownAggregator printed asked is = refuses_text batch (codes "unknown aggregator") printed asked is
+  refuses_query batch query.OutOfMemory printed asked is = absurd is
+
+-- a line is refused
+pub line_refused : (query : Query) (taken taken' left left' : Option (List ℕ)) (g : Gathered) (bad : BadLine) (printed : Printed) → ReadsInputTo taken taken' left left' g (Ok (Some bad))
+    → outcome_of printed ≡ refused_line bad.number bad.text.items → WorksQuery query taken taken' left left' (Ok printed)
+line_refused query taken taken' left left' g bad printed r is = record {
+  input = r.input;
+  ended = r.ended;
+  takes = r.takes;
+  leaves = r.leaves;
+  end = r.end;
+  most = r.most;
+  early = r.early;
+  decided = (decides r.input r.ended r.reads, λ done. absurd (not_done (sym done ∙ ap (λ (o : Outcome). o.status) is)));
+}
+  where
+    decides : (input : List ℕ) (ended : Bool) → IsPointsOf input ended (Err (bad.number, bad.text.items)) → DecidesQuery query input ended (outcome_of printed)
+    decides input true points = ap (over_lines query) points ∙ sym is
+    decides input false points = λ more. ap (over_lines query) (points more) ∙ sym is
+
+    not_done : Done ≡ Refused → ⊥
+    not_done e = cc

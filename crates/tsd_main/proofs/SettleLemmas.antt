@@ -7,6 +7,10 @@ use Rattle.std.specs.BTreeMap.{BTreeMap, get}
 use Rattle.std.specs.Cmp.{unsigned_tied, nat_eq_equiv}
 use Rattle.std.specs.Map.{lookup}
 use Rattle.std.specs.Ordering.{nat_cmp}
+use Rattle.std.specs.declared.cmp.Ordering.TheVariants.{Less}
+use Rattle.std.specs.List.Sorted.{IsStrictlySortedBy}
+use Rattle.std.specs.Map.{keys_of}
+use Rattle.std.proofs.lemmas.Map.Keys.{sorted_head, sorted_tail}
 use Rattle.std.proofs.lemmas.Bool.{ltb-true, eqb-true}
 use Rattle.std.proofs.lemmas.Bool.Decides.{nat_tests}
 use Rattle.std.proofs.lemmas.List.Elements.{recursion_from_All}
@@ -98,3 +102,19 @@ settled_as_is dots values same h time = ap (λ ds. value_at ds time) same ∙ la
 
 pub take_next : {A : Type 0} (xs : List A) (i : ℕ) (d : A) → i < length xs → take (i + 1) xs ≡ take i xs ++ get_or xs i d ∷ []
 take_next xs i d less = ap (λ k. take k xs) (add-one i) ∙ take-suc xs i d less
+
+-- ---- the entries of a map rise
+below_from_Less : (a b : ℕ) → nat_cmp a b ≡ Less → a < b
+below_from_Less a b h = grind (arith, nat_tests)
+
+-- among keys in order each is above those before it
+at_middle : (P : ℕ → Type 0) (dots rest : List (ℕ × ℤ)) (d : ℕ × ℤ) → AllByRecursion P (keys_of (dots ++ d ∷ rest)) → P d.0
+at_middle P [] rest d h = h.0
+at_middle P (p ∷ dots) rest d h = at_middle P dots rest d h.1
+
+pub IsAboveAll-from_sorted : (dots rest : List (ℕ × ℤ)) (d : ℕ × ℤ) → IsStrictlySortedBy nat_cmp (keys_of (dots ++ d ∷ rest)) → IsAboveAll d.0 dots
+IsAboveAll-from_sorted [] rest d h = tt
+IsAboveAll-from_sorted (p ∷ dots) rest d h = (
+  below_from_Less p.0 d.0 (at_middle (λ y. nat_cmp p.0 y ≡ Less) dots rest d (sorted_head nat_cmp p.0 _ h)),
+  IsAboveAll-from_sorted dots rest d (sorted_tail nat_cmp p.0 _ h),
+)

@@ -1,15 +1,15 @@
 -- The value at a time, and what a list has.
 use Rattle.std.proofs.Common.{◌≡◌, ℕ, zero, suc, ◌<◌, ℤ, Bool, true, false, cond, List, [], ◌∷◌, Option, Some, None, refl, sym, ap, ◌∙◌, inl, inr, arith}
-use Rattle.std.specs.Prelude.{◌⊎◌, ◌%◌, ◌≤◌, nat_eq, slice_index_or, Contains}
+use Rattle.std.specs.Prelude.{◌⊎◌, nat_eq, slice_index_or, Contains}
 use Rattle.std.specs.Cmp.{nat_eq_equiv}
 use Rattle.std.specs.Option.{option_or}
 use Rattle.std.proofs.lemmas.Bool.{cases_Bool, eqb-true}
 use Rattle.std.proofs.lemmas.Bool.Decides.{nat_tests}
-use Rattle.std.proofs.lemmas.List.Elements.{All-contains, All-from_recursion, Contains-append_cases, Contains-append_right, Contains-get_or}
+use Rattle.std.proofs.lemmas.List.Elements.{All-contains, All-from_recursion, Contains-append_cases, Contains-append_right}
 use Rattle.lerp_aggregate.specs.Aggregation.{value_at}
-use Rattle.series_rows.specs.Series.{AreSeconds}
 use Rattle.tsd_base.specs.Dots.{IsRising}
-use Rattle.tsd_main.specs.Holding.{AreWhole}
+use Rattle.tsd_base.specs.Moments.{IsTime}
+use Rattle.tsd_main.specs.Putting.{AreTimes}
 use Rattle.tsd_main.specs.Settling.{last_at}
 
 -- the first of a list, or one of the others
@@ -57,8 +57,7 @@ last_contains (d ∷ values) time value is = by_rest (last_at values time) (nat_
     by_rest None false same later told = absurd cc
 
 -- settled values have the times of the values
-pub settled_seconds : (dots values : List (ℕ × ℤ)) → IsRising dots → ((time : ℕ) → value_at dots time ≡ last_at values time) → AreWhole values → AreSeconds dots
-settled_seconds dots values rising settled whole = λ k d within.
-    let x : ℕ × ℤ = slice_index_or dots k d in
-    let last : last_at values x.0 ≡ Some x.1 = sym (settled x.0) ∙ contains_value dots x.0 x.1 rising (Contains-get_or dots k d within) in
-    All-contains (λ (e : ℕ × ℤ). (e.0 % 1000 ≡ 0) × (e.0 ≤ 4294967295000)) values (x.0, x.1) (All-from_recursion (λ (e : ℕ × ℤ). (e.0 % 1000 ≡ 0) × (e.0 ≤ 4294967295000)) values whole) (last_contains values x.0 x.1 last)
+pub settled_times : (dots values : List (ℕ × ℤ)) → IsRising dots → ((time : ℕ) → value_at dots time ≡ last_at values time) → AreTimes values → (d : ℕ × ℤ) → Contains dots d → IsTime d.0 false
+settled_times dots values rising settled times d has =
+    let last : last_at values d.0 ≡ Some d.1 = sym (settled d.0) ∙ contains_value dots d.0 d.1 rising has in
+    All-contains (λ (e : ℕ × ℤ). IsTime e.0 false) values (d.0, d.1) (All-from_recursion (λ (e : ℕ × ℤ). IsTime e.0 false) values times) (last_contains values d.0 d.1 last)

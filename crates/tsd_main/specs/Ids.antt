@@ -1,6 +1,15 @@
--- The id of a name in a list.
+-- Names and their ids: the id of a name is its place, from 1, among the names of its kind in the order in which they first come.
 use Rattle.std.specs.Prelude.{ℕ, ◌+◌, List, [], ◌∷◌, Option, None, Some, option_map, if◌then◌else◌}
 use Rattle.tsd_base.specs.TagList.{is_same}
+
+-- the names of each kind that have ids
+pub record Names : Type 0 where
+  pub metrics : List (List ℕ)
+  pub keys : List (List ℕ)
+  pub values : List (List ℕ)
+
+abbrev pub no_names : Names
+no_names = record { metrics = []; keys = []; values = [] }
 
 -- the place of a name, from 1
 abbrev pub id_in : List (List ℕ) → List ℕ → Option ℕ

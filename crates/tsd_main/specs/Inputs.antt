@@ -3,7 +3,7 @@ use Rattle.std.specs.Prelude.{◌≡◌, ℕ, ◌+◌, ◌^◌, ◌<◌, ◌≤�
 use Rattle.std.specs.Io.KnownBytes.{Appends, Consumes, IsAtEnd}
 use Rattle.tsd_base.specs.Points.{DataPoint}
 use Rattle.tsd_main.specs.declared.gathered.Gathered.{Gathered}
-use Rattle.tsd_main.specs.declared.names.Names.{Names}
+use Rattle.tsd_main.specs.Ids.{Names}
 use Rattle.tsd_main.specs.declared.input.BadLine.{BadLine}
 use Rattle.tsd_main.specs.declared.input.InputFault.{InputFault}
 use Rattle.tsd_main.specs.declared.input.InputFault.TheVariants.{Failed, Full, OutOfMemory}
@@ -18,8 +18,8 @@ use Rattle.tsd_base.specs.declared.kinds.Kind.{Kind}
 -- None of the lines is refused, and their points were gathered. Whatever lines come behind them, these points come first.
 pub record IsRead (lines : List Line) (g : Gathered) : Type 0 where
   pub points : List DataPoint
-  pub first : (number : ℕ) (more : List Line) → points_from number no_names (lines ++ more) ≡ with_points points (points_from (number + length lines) g.names more)
   pub gathers : Gathers points g
+  pub first : (number : ℕ) (more : List Line) → points_from number no_names (lines ++ more) ≡ with_points points (points_from (number + length lines) gathers.names more)
 
 -- the text with which a line is refused, where these names have ids before it
 abbrev pub full_text : Result Names Kind → Option (List ℕ)
@@ -38,7 +38,7 @@ IsBad names line number bad = (refusal names (judged line) ≡ Some bad.text.ite
 -- behind lines that were read one more was read, or it is refused
 abbrev pub ReadsLine : Line → ℕ → Gathered → Gathered → Option BadLine → Type 0
 ReadsLine line number old new None = (lines : List Line) → IsRead lines old → IsRead (lines ++ line ∷ []) new
-ReadsLine line number old new (Some bad) = IsBad old.names line number bad
+ReadsLine line number old new (Some bad) = (lines : List Line) → (read : IsRead lines old) → IsBad read.gathers.names line number bad
 
 -- The bytes begin with these lines, and the rest is what stands behind their last LF.
 abbrev pub Splits : List ℕ → List Line → List ℕ → Type 0

@@ -2,8 +2,7 @@
 use Rattle.std.specs.Prelude.{◌≡◌, ℕ, true, List, is_some}
 use Rattle.std.specs.List.{AllByRecursion}
 use Rattle.tsd_base.specs.declared.kinds.Kind.{Kind}
-use Rattle.tsd_main.specs.declared.names.Names.{Names}
-use Rattle.tsd_main.specs.Ids.{id_in}
+use Rattle.tsd_main.specs.Ids.{Names, id_in}
 use Rattle.tsd_main.specs.Naming.{list_of}
 
 -- the name has an id

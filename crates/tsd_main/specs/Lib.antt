@@ -1,19 +1,13 @@
 pub mod Ids
-pub mod Listing
 pub mod Naming
 pub mod Numbered
 pub mod Series
 pub mod Gathering
 pub mod Settling
 pub mod Known
-pub mod Pairs
-pub mod Holding
-pub mod Finding
-pub mod Answers
 pub mod Batches
 pub mod Blocks
 pub mod Buffers
-pub mod Collecting
 pub mod Commands
 pub mod Inputs
 pub mod Judgements
@@ -25,3 +19,6 @@ pub mod QueriesRead
 pub mod Runs
 pub mod Statuses
 pub mod Working
+pub mod Storing
+pub mod Putting
+pub mod Replying

@@ -7,7 +7,7 @@ use Rattle.tsd_base.specs.Points.{DataPoint, point_of}
 use Rattle.tsd_base.specs.Words.{parts_of}
 use Rattle.tsd_base.specs.declared.kinds.Kind.{Kind}
 use Rattle.cell_model.specs.Layout.{names_of}
-use Rattle.tsd_main.specs.declared.names.Names.{Names}
+use Rattle.tsd_main.specs.Ids.{Names}
 use Rattle.tsd_main.specs.Naming.{no_names, noted_all, exhausted_text}
 
 -- the bytes of a line without its LF, and whether it has one

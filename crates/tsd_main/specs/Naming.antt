@@ -6,11 +6,7 @@ use Rattle.tsd_base.specs.Faults.{kind_text}
 use Rattle.tsd_base.specs.TagList.{Pair}
 use Rattle.cell_model.specs.Layout.{names_of}
 use Rattle.cell_model.specs.Machine.{MOST_IDS}
-pub use Rattle.tsd_main.specs.Ids.{id_in}
-use Rattle.tsd_main.specs.declared.names.Names.{Names}
-
-abbrev pub no_names : Names
-no_names = record { metrics = []; keys = []; values = [] }
+pub use Rattle.tsd_main.specs.Ids.{Names, id_in, no_names}
 
 -- the names of a kind
 abbrev pub list_of : Names → Kind → List (List ℕ)

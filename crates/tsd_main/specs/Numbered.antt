@@ -4,7 +4,7 @@ use Rattle.std.specs.List.{flat_map}
 use Rattle.tsd_base.specs.declared.kinds.Kind.{Kind}
 use Rattle.tsd_base.specs.declared.kinds.Kind.TheVariants.{TagKey, TagValue}
 use Rattle.tsd_base.specs.TagList.{Pair}
-use Rattle.tsd_main.specs.declared.names.Names.{Names}
+use Rattle.tsd_main.specs.Ids.{Names}
 
 -- none where all names have ids, else the kind of the first one for which there is none
 abbrev pub told : Option Kind → Names → Result Names Kind

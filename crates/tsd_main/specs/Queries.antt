@@ -1,16 +1,24 @@
 -- The text of a query, as far as it is built.
-use Rattle.std.specs.Prelude.{ℕ, Bool, not, ◌&&◌, nat_eq, List, ◌++◌, drop, codes, decimal, Result, Ok, Err, if◌then◌else◌}
-use Rattle.std.specs.List.{list_any, starts_with}
-use Rattle.tsd_base.specs.Alphabet.{is_name}
+use Rattle.std.specs.Prelude.{ℕ, List, [], ◌++◌, codes, decimal, Result, Ok, Err, if◌then◌else◌}
+use Rattle.tsd_base.specs.declared.kinds.Aggregator.{Aggregator}
+use Rattle.query_text.specs.Subs.{asks_more, m_of}
+use Rattle.query_text.specs.declared.queries.QueryFault.{QueryFault}
+use Rattle.query_text.specs.declared.queries.QueryFault.TheVariants.{BadM, UnknownAggregator, OutOfMemory}
 
-abbrev pub has_byte : ℕ → List ℕ → Bool
-has_byte byte text = list_any (λ b. nat_eq b byte) text
+-- an aggregator, and the metric whose series it makes one
+abbrev pub Asked : Type 0
+Asked = Aggregator × List ℕ
 
--- `zimsum:` and then no `:` and no `{`
-abbrev pub is_built : List ℕ → Bool
-is_built text = starts_with nat_eq text (codes "zimsum:") && (not (has_byte 58 (drop 7 text)) && not (has_byte 123 (drop 7 text)))
+-- what is told of a text that is no query; none wants memory
+abbrev pub fault_text : QueryFault → List ℕ
+fault_text (BadM at) = codes "bad query at byte " ++ decimal at
+fault_text UnknownAggregator = codes "unknown aggregator"
+fault_text OutOfMemory = []
 
--- the metric of a query, or the text of its refusal
-abbrev pub metric_of : List ℕ → Result (List ℕ) (List ℕ)
-metric_of text =
-    if is_built text then (if is_name (drop 7 text) then Ok (drop 7 text) else Err (codes "bad query at byte " ++ decimal 7)) else Err (codes "not built")
+abbrev pub or_text : Result Asked QueryFault → Result Asked (List ℕ)
+or_text (Ok asked) = Ok asked
+or_text (Err fault) = Err (fault_text fault)
+
+-- what a text asks, or the text of its refusal
+abbrev pub asked_of : List ℕ → Result Asked (List ℕ)
+asked_of text = if asks_more text then Err (codes "not built") else or_text (m_of text)

@@ -7,7 +7,7 @@ use Rattle.tsd_main.specs.declared.input.InputFault.{InputFault}
 use Rattle.tsd_main.specs.declared.input.InputFault.TheVariants.{Failed, Full, OutOfMemory}
 use Rattle.tsd_main.specs.declared.printed.Printed.{Printed}
 use Rattle.tsd_main.specs.Commands.{Batch}
-use Rattle.tsd_main.specs.Queries.{metric_of}
+use Rattle.tsd_main.specs.Queries.{Asked, asked_of}
 use Rattle.tsd_main.specs.Inputs.{IsUnrefused}
 use Rattle.tsd_main.specs.Outcomes.{Outcome, outcome}
 use Rattle.tsd_main.specs.Printing.{outcome_of}
@@ -21,8 +21,8 @@ Decides command input false o = (more : List ℕ) → outcome command (input ++ 
 pub record ReadsInput (command : Option Batch) : Type 0 where
   pub batch : Batch
   pub command_is : command ≡ Some batch
-  pub metric : List ℕ
-  pub query : metric_of batch.query ≡ Ok metric
+  pub asked : Asked
+  pub query : asked_of batch.query ≡ Ok asked
 
 -- The input so far decides nothing: more of it is asked.
 abbrev pub AsksOn : Option Batch → List ℕ → Type 0

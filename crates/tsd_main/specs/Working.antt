@@ -18,6 +18,7 @@ use Rattle.tsd_main.specs.Printing.{outcome_of, query_outcome}
 abbrev pub RefusesQuery : NoQuery → Printed → Type 0
 RefusesQuery query.NotBuilt printed = outcome_of printed ≡ refused (codes "query: " ++ codes "not built")
 RefusesQuery (query.BadM at) printed = outcome_of printed ≡ refused (codes "query: " ++ (codes "bad query at byte " ++ decimal at))
+RefusesQuery query.UnknownAggregator printed = outcome_of printed ≡ refused (codes "query: " ++ codes "unknown aggregator")
 RefusesQuery query.OutOfMemory printed = ⊥
 
 -- the outcome of a query over the points of lines, or over the first line that is refused

@@ -1,84 +1,94 @@
-//! The answer of a query over what was collected.
-ghost use Rattle.std.specs.Prelude.{◌≡◌, ◌%◌, ◌<◌, ◌^◌, [], ◌∷◌, ◌++◌, List, map, All, codes, Ok, Err, IfOk};
-ghost use Rattle.std.specs.BTreeMap.{IsOrdered, keys};
-ghost use Rattle.lerp_aggregate.specs.Aggregation.{aggregated};
-ghost use Rattle.tsd_base.specs.declared.kinds.Aggregator.TheVariants.{Zimsum};
+//! The answer of a query over the points that were read.
+ghost use Rattle.std.specs.Prelude.{◌≡◌, ◌≤◌, ◌∷◌, [], ◌++◌, true, List, codes, Err, IfOk};
+ghost use Rattle.cell_solo.specs.Turns.{sight};
+ghost use Rattle.query_run.specs.Queries.{IsPlain};
 ghost use Rattle.tsd_base.specs.Points.{DataPoint};
-ghost use Rattle.tsd_base.specs.TagList.{tags_cmp};
-ghost use Rattle.tsd_main.specs.Answers.{group_of, grouped};
-ghost use Rattle.tsd_main.specs.Collecting.{Collects};
+ghost use Rattle.tsd_main.specs.Gathering.{Gathers};
 ghost use Rattle.tsd_main.specs.Outcomes.{refused, replied};
 ghost use Rattle.tsd_main.specs.Printing.{outcome_of, query_outcome};
+ghost use Rattle.tsd_main.specs.Replying.{CanCome, RefusesAsked};
+ghost use Rattle.tsd_main.specs.Storing.{IsStored};
 
-use crate::collected::Collected;
+use crate::gathered::Gathered;
 use crate::printed::{Printed, push_number};
+use crate::putting::put_all;
 use crate::query::Query;
-use crate::reply::{group_of, printed_groups};
-use lerp_aggregate::aggregation::{AggFault, aggregate};
-use lerp_aggregate::laws::aggregation_depends_on_values;
+use crate::reply::{in_seconds, printed_reply};
+use crate::store::Store;
+use query_run::laws::answer_is_unordered;
+use query_run::{AskFault, ask};
+use query_text::queries::{Query as Asked, SubList};
 use std::alloc::{AllocError, Global};
-use std::collections::BTreeMap;
-use tsd_base::kinds::Aggregator;
 use tsd_base::names::Name;
-use tsd_base::series::Dots;
-use tsd_base::tagged::Tags;
 
-/// What is printed of the points that were collected. It fails only for want of memory.
-pub fn answer(alloc: Global, query: &Query, collected: Collected) -> Result<Printed, AllocError>
-    requires { (points : List DataPoint) × Collects query.now points collected }
-    ensures { IfOk result (λ printed. (points : List DataPoint) → Collects query.now points collected → outcome_of printed ≡ query_outcome query.now points) }
+/// What is printed of a query over the points that were read: they are put into the store, and the query is asked there.
+/// It fails only for want of memory.
+pub fn answer(alloc: Global, query: Query, gathered: Gathered) -> Result<Printed, AllocError>
+    requires plain { IsPlain query.sub }
+    requires range { query.start ≤ query.end }
+    requires last { query.end ≤ 4294967295000 }
+    requires gathers { (points : List DataPoint) × Gathers points gathered }
+    ensures { IfOk result (λ printed. (points : List DataPoint) → Gathers points gathered → outcome_of printed ≡ query_outcome query points) }
 {
-    let Collected { known, series } = collected;
-    if !known {
-        return unknown_metric(alloc, &query.metric);
-    }
-    let (series, lists) = spread(alloc, series)?;
-    // A law for the proof; it does nothing.
-    aggregation_depends_on_values();
-    reply(alloc, &query.metric, &series, &lists)
+    let Gathered { mut store, series } = gathered;
+    // For the proof: no two series are the same.
+    let _ = series.iter();
+    put_all(alloc, &mut store, series)?;
+    answer_from(alloc, query, &mut store)
 }
 
-/// The answer over these series, each with its points.
-fn reply(
-    alloc: Global,
-    metric: &Name,
-    series: &[Tags],
-    lists: &[Dots],
-) -> Result<Printed, AllocError>
-    requires low { All (λ dots. All (λ dot. dot.0 < 2 ^ 43) dots) lists.now }
-    requires whole { All (λ dots. All (λ dot. dot.0 % 1000 ≡ 0) dots) lists.now }
-    ensures { IfOk result (λ printed. outcome_of printed ≡ replied (grouped metric.now series.now (aggregated Zimsum lists.now))) }
+/// What is printed of a query over the points of a store.
+fn answer_from(alloc: Global, query: Query, store: &mut Store) -> Result<Printed, AllocError>
+    requires plain { IsPlain query.sub }
+    requires range { query.start ≤ query.end }
+    requires last { query.end ≤ 4294967295000 }
+    requires stored { (points : List DataPoint) × IsStored points (sight store.old) }
+    ensures { IfOk result (λ printed. (points : List DataPoint) → IsStored points (sight store.old) → outcome_of printed ≡ query_outcome query points) }
 {
-    if series.is_empty() {
-        return no_group(alloc);
-    }
-    match aggregate(alloc, lists, Aggregator::Zimsum) {
-        Ok(dots) => one_group(alloc, metric, series, dots),
-        Err(AggFault::Overflow { time }) => overflow(alloc, time),
-        Err(AggFault::OutOfMemory) => Err(AllocError),
+    // For the proof: the metric is a name, and a law.
+    let _ = query.sub.metric.bytes();
+    answer_is_unordered();
+    let asked = asked(alloc, query)?;
+    match ask(alloc, store, &asked) {
+        Ok(mut reply) => {
+            in_seconds(&mut reply.groups);
+            printed_reply(alloc, &reply)
+        }
+        Err(fault) => refusal(alloc, fault),
     }
 }
 
-/// The array of no groups.
-fn no_group(alloc: Global) -> Result<Printed, AllocError>
-    ensures { IfOk result (λ printed. outcome_of printed ≡ replied (Ok [])) }
+/// The query with its times in milliseconds, as it is asked.
+fn asked(alloc: Global, query: Query) -> Result<Asked, AllocError>
+    ensures start { IfOk result (λ asked. asked.start ≡ query.start) }
+    ensures end { IfOk result (λ asked. asked.end ≡ query.end) }
+    ensures ms { IfOk result (λ asked. asked.ms ≡ true) }
+    ensures subs { IfOk result (λ asked. asked.subs ≡ query.sub ∷ []) }
 {
-    printed_groups(alloc, Vec::new(alloc))
+    let Query { sub, start, end } = query;
+    let mut subs = Vec::new(alloc);
+    subs.push(sub)?;
+    Ok(Asked {
+        start,
+        end,
+        ms: true,
+        subs: SubList::of(subs),
+    })
 }
 
-/// The array of one group.
-fn one_group(
-    alloc: Global,
-    metric: &Name,
-    series: &[Tags],
-    dots: Dots,
-) -> Result<Printed, AllocError>
-    requires { All (λ dot. dot.0 % 1000 ≡ 0) dots }
-    ensures { IfOk result (λ printed. outcome_of printed ≡ replied (Ok (group_of metric.now series.now dots ∷ []))) }
+/// What is printed where the query has no answer.
+fn refusal(alloc: Global, fault: AskFault) -> Result<Printed, AllocError>
+    requires { CanCome fault }
+    ensures { IfOk result (RefusesAsked fault) }
 {
-    let mut groups = Vec::new(alloc);
-    groups.push(group_of(alloc, metric, series, dots)?)?;
-    printed_groups(alloc, groups)
+    match fault {
+        AskFault::Unknown { name, .. } => unknown_metric(alloc, &name),
+        AskFault::Overflow { time } => overflow(alloc, time),
+        AskFault::OutOfMemory => Err(AllocError),
+        AskFault::TooManyBuckets { .. } | AskFault::Duplicate { .. } | AskFault::Stopped => {
+            unreachable!()
+        }
+    }
 }
 
 fn unknown_metric(alloc: Global, metric: &Name) -> Result<Printed, AllocError>
@@ -95,19 +105,4 @@ fn overflow(alloc: Global, time: u64) -> Result<Printed, AllocError>
     let mut text = Vec::from_slice(alloc, b"query: overflow at ")?;
     push_number(&mut text, time)?;
     Printed::refused(text)
-}
-
-/// The series in order, and the points of each in order of time.
-fn spread(alloc: Global, series: BTreeMap<Tags, Dots>) -> Result<(Vec<Tags>, Vec<Dots>), AllocError>
-    ensures tags { IfOk result (λ both. both.0.items ≡ keys series) }
-    ensures lists { IfOk result (λ both. both.1.items ≡ map (λ entry. entry.1) series.entries) }
-    ensures ordered { IsOrdered tags_cmp series }
-{
-    let mut tags = Vec::with_capacity(alloc, series.len())?;
-    let mut lists = Vec::with_capacity(alloc, series.len())?;
-    for (key, dots) in series {
-        tags.push(key)?;
-        lists.push(dots)?;
-    }
-    Ok((tags, lists))
 }

@@ -1,11 +1,12 @@
-//! The points of all lines, series by series, and the ids of their names.
+//! The points of all lines, series by series, and the store that has their names.
 ghost use Rattle.std.specs.Prelude.{◌≡◌, [], ◌∷◌, false, Some, IfOk, OnOk, if◌then◌else◌};
 ghost use Rattle.std.specs.HashMap.{get};
 ghost use Rattle.tsd_base.specs.Points.{data_point};
 ghost use Rattle.tsd_main.specs.Gathering.{Gathers, AddsPoint};
 ghost use Rattle.tsd_main.specs.Series.{Series, is_same_series};
 
-use crate::names::Names;
+use crate::naming::note_series;
+use crate::store::{Store, empty};
 use crate::values::Values;
 use std::alloc::{AllocError, Global};
 use std::collections::HashMap;
@@ -17,21 +18,21 @@ use tsd_base::tagged::Tags;
 /// What was read so far.
 #[derive(Drop)]
 pub struct Gathered {
-    /// The names of the points, with their ids.
-    pub names: Names,
+    /// The store, in which the names of the points have their ids.
+    pub store: Store,
     /// The values of each series: of a metric with its tags.
     pub series: HashMap<(Name, Tags), Values>,
 }
 
 impl Gathered {
-    /// Nothing was read.
-    pub fn make(alloc: Global) -> Gathered
-        ensures { Gathers [] result }
+    /// Nothing was read. It fails only for want of memory.
+    pub fn make(alloc: Global) -> Result<Gathered, AllocError>
+        ensures { IfOk result (Gathers []) }
     {
-        Gathered {
-            names: Names::make(alloc),
+        Ok(Gathered {
+            store: empty(alloc)?,
             series: HashMap::new(alloc),
-        }
+        })
     }
 
     /// Reads one more point, in seconds. The answer is a kind that has no id left for one of the point's names: that of the
@@ -47,14 +48,15 @@ impl Gathered {
             value,
             ..
         } = point;
-        // For the proof: tags rise by key.
+        // For the proof: these are a name and tags.
+        let _ = metric.bytes();
         let _ = tags.pairs();
         let series = (metric, tags);
         if let Some(values) = self.series.get_mut(&series) {
             values.push(time, value)?;
             return Ok(None);
         }
-        if let Some(kind) = self.names.note_series(alloc, &series.0, &series.1)? {
+        if let Some(kind) = note_series(alloc, &mut self.store, &series.0, &series.1)? {
             return Ok(Some(kind));
         }
         begin(alloc, &mut self.series, series, time, value)?;

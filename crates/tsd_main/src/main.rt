@@ -3,21 +3,19 @@
 
 mod answer;
 mod buffer;
-mod collected;
 mod command;
 mod gathered;
-mod ids;
 mod input;
 mod judging;
-mod names;
+mod naming;
 mod printed;
+mod putting;
 mod query;
 mod reply;
 mod run;
 mod settling;
-mod shared;
 mod status;
-mod stored;
+mod store;
 #[cfg(test)]
 mod tests;
 mod values;

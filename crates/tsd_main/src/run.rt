@@ -1,5 +1,6 @@
 //! The top call: everything that the program does.
 ghost use Rattle.std.specs.Prelude.{◌≡◌, ◌≤◌, map, string_bytes, Some, Err, IfOk};
+ghost use Rattle.query_run.specs.Queries.{IsPlain};
 ghost use Rattle.tsd_io.specs.Causes.{Rose};
 ghost use Rattle.tsd_main.specs.Batches.{plain_batch};
 ghost use Rattle.tsd_main.specs.Commands.{command_of, usage_line};
@@ -9,7 +10,6 @@ ghost use Rattle.tsd_main.specs.Runs.{Runs, Works};
 ghost use Rattle.tsd_main.specs.Working.{RefusesQuery, WorksQuery};
 
 use crate::answer::answer;
-use crate::collected::collect;
 use crate::command::{Batch, USAGE, read_command};
 use crate::gathered::Gathered;
 use crate::input::{BadLine, InputFault, read_points};
@@ -87,26 +87,24 @@ fn run_batch<S: Source>(
     ensures failed { result ≡ Err InputFault.Failed → Rose (S.faults input.old) (S.faults input.new) }
 {
     match read_query(alloc, batch) {
-        Ok(query) => run_query(alloc, &query, input),
+        Ok(query) => run_query(alloc, query, input),
         Err(fault) => Ok(bad_query(alloc, fault)?),
     }
 }
 
 /// Reads the points of the input, and answers the query.
-fn run_query<S: Source>(alloc: Global, query: &Query, input: &mut S) -> Result<Printed, InputFault>
-    requires range { query.now.start ≤ query.now.end }
-    requires end { query.now.end ≤ 4294967295000 }
-    ensures works { WorksQuery query.now (S.taken input.old) (S.taken input.new) (S.left input.old) (S.left input.new) result }
+fn run_query<S: Source>(alloc: Global, query: Query, input: &mut S) -> Result<Printed, InputFault>
+    requires plain { IsPlain query.sub }
+    requires range { query.start ≤ query.end }
+    requires end { query.end ≤ 4294967295000 }
+    ensures works { WorksQuery query (S.taken input.old) (S.taken input.new) (S.left input.old) (S.left input.new) result }
     ensures later { S.faults input.old ≤ S.faults input.new }
     ensures failed { result ≡ Err InputFault.Failed → Rose (S.faults input.old) (S.faults input.new) }
 {
-    let mut gathered = Gathered::make(alloc);
+    let mut gathered = Gathered::make(alloc)?;
     match read_points(alloc, input, &mut gathered)? {
         Some(bad) => Ok(bad_line(alloc, &bad)?),
-        None => {
-            let collected = collect(alloc, query, gathered)?;
-            Ok(answer(alloc, query, collected)?)
-        }
+        None => Ok(answer(alloc, query, gathered)?),
     }
 }
 
@@ -121,6 +119,7 @@ fn bad_query(alloc: Global, fault: NoQuery) -> Result<Printed, AllocError>
             text.extend_from_slice(b"bad query at byte ")?;
             push_number(&mut text, at as u64)?;
         }
+        NoQuery::UnknownAggregator => text.extend_from_slice(b"unknown aggregator")?,
         NoQuery::OutOfMemory => return Err(AllocError),
     }
     Printed::refused(text)

@@ -69,14 +69,18 @@ fn other_words_print_the_usage(rt: HostRuntime) -> Result<(), Fail> {
 
 #[test]
 fn queries_are_refused_before_lines(rt: HostRuntime) -> Result<(), Fail> {
-    let cases: [(&str, &[u8]); 7] = [
-        ("batch;1;10;sum:m", b"query: not built\n"),
-        ("batch;1;10;zimsum", b"query: not built\n"),
-        ("batch;1;10;zimsum:rate:m", b"query: not built\n"),
+    let cases: [(&str, &[u8]); 11] = [
+        ("batch;1;10;foo:m", b"query: unknown aggregator\n"),
+        ("batch;1;10;foo:rate:m", b"query: unknown aggregator\n"),
+        ("batch;1;10;Sum:m", b"query: unknown aggregator\n"),
+        ("batch;1;10;sum:rate:m", b"query: not built\n"),
         ("batch;1;10;zimsum:m{h=a}", b"query: not built\n"),
+        ("batch;1;10;zimsum", b"query: bad query at byte 6\n"),
+        ("batch;1;10;foo{a=b}", b"query: bad query at byte 3\n"),
         ("batch;1;10;zimsum:", b"query: bad query at byte 7\n"),
-        ("batch;1;10;zimsum:a b", b"query: bad query at byte 7\n"),
-        ("batch;1;10;", b"query: not built\n"),
+        ("batch;1;10;sum:a b", b"query: bad query at byte 4\n"),
+        ("batch;1;10;", b"query: bad query at byte 0\n"),
+        ("batch;1;10;:m", b"query: unknown aggregator\n"),
     ];
     for (words, output) in cases {
         expect(
@@ -190,6 +194,41 @@ fn answers_are_sums_of_chosen_points(rt: HostRuntime) -> Result<(), Fail> {
 }
 
 #[test]
+fn each_aggregator_makes_one_value_at_each_time(rt: HostRuntime) -> Result<(), Fail> {
+    let input: &[u8] = b"m 100 10 h=a\nm 105 7 h=b\nm 110 20 h=a\n";
+    let cases: [(&str, &[u8]); 6] = [
+        (
+            "batch;100;110;sum:m",
+            b"[{\"aggregateTags\":[\"h\"],\"dps\":{\"100\":10,\"105\":22,\"110\":20},\"metric\":\"m\",\"tags\":{}}]\n",
+        ),
+        (
+            "batch;100;110;avg:m",
+            b"[{\"aggregateTags\":[\"h\"],\"dps\":{\"100\":10,\"105\":11,\"110\":20},\"metric\":\"m\",\"tags\":{}}]\n",
+        ),
+        (
+            "batch;100;110;min:m",
+            b"[{\"aggregateTags\":[\"h\"],\"dps\":{\"100\":10,\"105\":7,\"110\":20},\"metric\":\"m\",\"tags\":{}}]\n",
+        ),
+        (
+            "batch;100;110;mimmax:m",
+            b"[{\"aggregateTags\":[\"h\"],\"dps\":{\"100\":10,\"105\":7,\"110\":20},\"metric\":\"m\",\"tags\":{}}]\n",
+        ),
+        (
+            "batch;100;110;count:m",
+            b"[{\"aggregateTags\":[\"h\"],\"dps\":{\"100\":1,\"105\":1,\"110\":1},\"metric\":\"m\",\"tags\":{}}]\n",
+        ),
+        (
+            "batch;100;110;none:m",
+            b"[{\"aggregateTags\":[],\"dps\":{\"100\":10,\"110\":20},\"metric\":\"m\",\"tags\":{\"h\":\"a\"}},{\"aggregateTags\":[],\"dps\":{\"105\":7},\"metric\":\"m\",\"tags\":{\"h\":\"b\"}}]\n",
+        ),
+    ];
+    for (words, output) in cases {
+        expect(&rt, rt.alloc(), words, input, output, Status::Done)?;
+    }
+    Ok(())
+}
+
+#[test]
 fn queries_are_refused_over_their_points(rt: HostRuntime) -> Result<(), Fail> {
     expect(
         &rt,
@@ -275,7 +314,7 @@ fn devices_that_fail_are_told(rt: HostRuntime) -> Result<(), Fail> {
     // A query or a line that is refused comes before a source that fails.
     let (status, _) = ran(
         alloc,
-        "batch;1;10;sum:m",
+        "batch;1;10;foo:m",
         b"",
         Vec::new(alloc),
         vec![in alloc; 1]?,

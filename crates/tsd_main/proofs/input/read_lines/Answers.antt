@@ -1,8 +1,20 @@
-use Rattle.std.proofs.Common.{◌∙◌, ◌+◌, ◌≡◌, ap, sym, arith, subst, List, ℕ, take, drop, length, length-drop}
-use Rattle.tsd_main.specs.Inputs.{ReadsLine}
+use Rattle.std.proofs.Common.{◌∙◌, ◌+◌, ◌≡◌, [], append-nil, ap, sym, arith, subst, List, ℕ, take, drop, length, length-drop}
+use Rattle.tsd_main.specs.Inputs.{IsRead, ReadsLine}
+use Rattle.tsd_main.specs.Lines.{Line}
 use Rattle.tsd_main.proofs.LineLemmas.{whole_line}
-use Rattle.tsd_main.proofs.InputLemmas.{ReadsFurther, Cut, read_on, refuse_on}
+use Rattle.tsd_main.proofs.InputLemmas.{ReadsFurther, Cut, read_on, refuse_on, splits_none}
 use Rattle.tsd_main.proofs.input.read_lines.Goals as goal
+
+pub loop-end-init : goal.loop-end-init
+loop-end-init c = record {
+  count = omega arith;
+  reads = λ lines count_is read. record {
+    more = [];
+    splits = splits_none c.args.buffer.now;
+    reads = subst (λ (ls : List Line). IsRead ls c.args.gathered.now) (sym (append-nil lines)) read;
+    count_is = ap length (append-nil lines) ∙ count_is;
+  };
+}
 
 pub returns-in-Some-2-clause-reads : goal.returns-in-Some-2-clause-reads
 returns-in-Some-2-clause-reads c = λ lines count_is read.

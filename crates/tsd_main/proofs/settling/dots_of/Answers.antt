@@ -4,7 +4,7 @@ use Rattle.std.specs.List.Sorted.{IsStrictlySortedBy}
 use Rattle.std.specs.Map.{keys_of}
 use Rattle.std.specs.Ordering.{nat_cmp}
 use Rattle.std.proofs.lemmas.Int.{to_z-of_z}
-use Rattle.tsd_main.proofs.AnswerLemmas.{IsAboveAll-from_sorted}
+use Rattle.tsd_main.proofs.SettleLemmas.{IsAboveAll-from_sorted}
 use Rattle.tsd_main.proofs.settling.dots_of.Goals as goal
 
 pub push-requires : goal.push-requires

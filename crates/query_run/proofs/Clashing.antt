@@ -1,0 +1,154 @@
+-- The first row with a clash, as the entries of a sub query tell it.
+use Rattle.std.proofs.Common.{◌≡◌, ◌⊎◌, inl, inr, ℕ, ◌+◌, ◌-◌, ◌*◌, ◌<◌, ◌≤◌, List, [], ◌∷◌, refl, sym, ap, subst, ◌∙◌, arith}
+use Rattle.std.specs.Prelude.{ℤ, Contains, Option, None, Some}
+use Rattle.tsd_base.specs.declared.kinds.Kind.{Kind}
+use Rattle.tsd_base.specs.declared.kinds.Kind.TheVariants.{Metric, TagKey}
+use Rattle.tsd_base.specs.TagList.{Pair}
+use Rattle.row_key.specs.declared.keys.RowKey.{RowKey}
+use Rattle.row_key.specs.Key.{IsKey, key_bytes}
+use Rattle.qual_codec.specs.declared.cells.Dot.{Dot}
+use Rattle.cell_model.specs.declared.cells.Row.{Row}
+use Rattle.cell_model.specs.declared.cells.Found.{Found}
+use Rattle.cell_model.specs.declared.events.Placed.{Placed}
+use Rattle.cell_model.specs.Store.{value_at}
+use Rattle.cell_model.specs.History.{History, first, store_after}
+use Rattle.cell_model.specs.Ids.{id_of, name_of, id_bytes}
+use Rattle.cell_model.specs.Lawful.{IsLawful}
+use Rattle.cell_model.specs.Readings.{Reading, Named}
+use Rattle.cell_model.specs.Seen.{Seen, Fits}
+use Rattle.cell_model.specs.Deeds.{Made}
+use Rattle.uid_table.specs.Steps.{DidLook}
+use Rattle.row_scan.specs.Scans.{HasCell}
+use Rattle.row_scan.specs.Kept.{values_at, first_clash}
+use Rattle.query_run.specs.Parts.{HasClash, FirstClash}
+use Rattle.query_run.specs.Queries.{is_wanted}
+use Rattle.query_run.specs.Naming.{IdOf}
+use Rattle.query_run.specs.RowDots.{IsIn}
+use Rattle.query_run.specs.Collecting.{KeyOf, Counted, RowClashes, FoundClash}
+use Rattle.query_run.proofs.Lower as lower
+use Rattle.query_run.proofs.Titles.{tags_exist}
+use Rattle.query_run.proofs.RowReadings.{asks, is_asked, ReadsDot, dot_reads, clean_row, same_dots}
+use Rattle.query_run.proofs.Standing.{shown_behind}
+
+-- ---- a row that was found stood
+
+pub record StoodFound (h : History) (now : ℕ) (f : Found) : Type 0 where
+  pub when : ℕ
+  pub up_to : when ≤ now
+  pub has : HasCell (store_after (first when h)) f.row
+
+pub found_stood : (spare id start end : ℕ) (old new : Seen) (own : List Placed) (founds : List Found) (ids : List IdOf) (h : History) → Counted spare id start end own founds ids → Made old own new → IsLawful h → Fits new h → (f : Found) → Contains founds f → StoodFound h new.length f
+found_stood spare id start end old new own founds ids h c made lawful fits f i =
+    let w = c.by f i in
+    let at = (lower.made_stands old new own h made fits).each w.0 w.2 in
+    let place = w.0.place in
+    let within = at.0 in
+    record { when = w.0.place - 1; up_to = omega (arith, within); has = lower.next_has (store_after (first (w.0.place - 1) h)) w.1.from w.1.to f (lower.placed_next h w.0 w.1 (Some f) lawful at.1 w.3) }
+
+pub row_names : (h : History) (now id start end : ℕ) (f : Found) (key : RowKey) → IsLawful h → StoodFound h now f → KeyOf id start end f key → lower.StoodRow (first now h) (key_bytes key)
+row_names h now id start end f key lawful s of =
+    let has = s.has in
+    lower.row_stood h s.when now (key_bytes key) has.0 has.1 lawful s.up_to (subst (λ (r : Row). value_at (store_after (first s.when h)) r has.0 ≡ Some has.1) of.row_is has.2)
+
+-- ---- the reading at the clash
+
+same_Some : {X : Type 0} (x y : X) → ◌≡◌ {A = Option X} (Some x) (Some y) → x ≡ y
+same_Some x y e = cc
+
+none_some : {X : Type 0} (x : X) → ◌≡◌ {A = Option X} None (Some x) → ⊥
+none_some x e = cc
+
+-- a clash has a value
+first_value : (vs : List ℤ) (c : ℤ × ℤ) → first_clash vs ≡ Some c → (v : ℤ) × Contains vs v
+first_value [] c e = absurd (none_some c e)
+first_value (v ∷ vs) c e = (v, lower.here v vs)
+
+one_key_each : (g : History) (key : RowKey) (s : lower.StoodRow g (key_bytes key)) → IsKey key → (p q : ℕ × ℕ) (name : List ℕ) → Contains key.pairs.items p → Contains key.pairs.items q → name_of g TagKey p.0 ≡ Some name → name_of g TagKey q.0 ≡ Some name → p.0 ≡ q.0
+one_key_each g key s is p q name c d x y =
+    let same = lower.one_key key s.key is s.is_key s.row_is in
+    let a = (s.tags p (subst (λ (k : RowKey). Contains k.pairs.items p) same c)).0 in
+    let b = (s.tags q (subst (λ (k : RowKey). Contains k.pairs.items q) same d)).0 in
+    let an : a.name ≡ name = same_Some a.name name (sym a.name_is ∙ x) in
+    let bn : b.name ≡ name = same_Some b.name name (sym b.name_is ∙ y) in
+    same_Some p.0 q.0 (sym a.id_is ∙ ap (id_of g TagKey) (an ∙ sym bn) ∙ b.id_is)
+
+stood_tags : (g : History) (key : RowKey) → lower.StoodRow g (key_bytes key) → IsKey key → (tags : List Pair) × Named (name_of g) key.pairs.items tags
+stood_tags g key s is =
+    tags_exist (name_of g) key.pairs.items (one_key_each g key s is) is.rising (λ p c.
+    let same = lower.one_key key s.key is s.is_key s.row_is in
+    let t = s.tags p (subst (λ (k : RowKey). Contains k.pairs.items p) same c) in
+    ((t.0.name, t.1.name), (t.0.name_is, t.1.name_is)))
+
+pub has_clash : (g : History) (start end : ℕ) (metric : List ℕ) (id : ℕ) (f : Found) (time : ℕ) (a b : ℤ) → name_of g Metric id ≡ Some metric → (r : RowClashes id start end f time a b) → lower.StoodRow g (key_bytes r.key)
+    → HasClash (name_of g) (is_wanted start end metric) f time a b
+has_clash g start end metric id f time a b named r s =
+    let c = r.clash in
+    let v = first_value (values_at c.offset c.all) (a, b) c.values in
+    let d = lower.value_dot c.all c.offset v.0 v.1 in
+    let tags = stood_tags g r.key s r.of.is_key in
+    let reading : Reading = record { metric = metric; tags = tags.0; time = time; value = d.dot.value } in
+    let reads : ReadsDot (name_of g) r.key c.all reading = record {
+      dot = d.dot;
+      there = d.among;
+      metric_is = ap (name_of g Metric) r.of.metric_is ∙ named;
+      tags_are = tags.1;
+      time_is = c.time_is ∙ ap (λ n. r.key.base * 1000 + n) (sym d.offset_is);
+      value_is = refl;
+    } in
+    record {
+      key = r.key;
+      is_key = r.of.is_key;
+      row_is = ap (λ (w : Row). w.bytes) r.of.row_is;
+      offset = c.offset;
+      time_is = c.time_is;
+      dots = c.all;
+      are_dots = c.are;
+      values = c.values;
+      reading = reading;
+      reads = dot_reads (name_of g) id start end f r.key c.all reading r.of c.are reads;
+      at_time = refl;
+      asked = is_asked start end metric reading refl c.within;
+    }
+
+-- and none of its clashes is earlier
+pub least_clash : (names : Kind → ℕ → Option (List ℕ)) (start end : ℕ) (metric : List ℕ) (id : ℕ) (f : Found) (time : ℕ) (a b : ℤ) → RowClashes id start end f time a b → (t : ℕ) (c d : ℤ) → HasClash names (is_wanted start end metric) f t c d → time ≤ t
+least_clash names start end metric id f time a b r t c d x = at (below_or t time)
+  where
+    below_or : (m n : ℕ) → (m < n) ⊎ (n ≤ m)
+    below_or m n = grind arith
+
+    keys : x.key ≡ r.key
+    keys = lower.one_key x.key r.key x.is_key r.of.is_key (sym x.row_is ∙ ap (λ (w : Row). w.bytes) r.of.row_is)
+
+    t_is : t ≡ r.key.base * 1000 + x.offset
+    t_is = x.time_is ∙ ap (λ (k : RowKey). k.base * 1000 + x.offset) keys
+
+    within : IsIn start end t
+    within = subst (IsIn start end) x.at_time (asks start end metric x.reading x.asked).within
+
+    at : (t < time) ⊎ (time ≤ t) → time ≤ t
+    at (inl lt) =
+        let e = r.clash.time_is in
+        let i = t_is in
+        let lower_offset : x.offset < r.clash.offset = omega (arith, lt, e, i) in
+        let low = within.0 in
+        let none = r.clash.least x.offset (omega (arith, low, i)) lower_offset in
+        let dots = same_dots f.cells x.dots r.clash.all x.are_dots r.clash.are in
+        absurd (none_some (c, d) (sym none ∙ ap (λ (l : List Dot). first_clash (values_at x.offset l)) (sym dots) ∙ x.values))
+    at (inr le) = le
+
+-- ---- the first of all
+
+pub first_clash_of : (g : History) (start end : ℕ) (metric : List ℕ) (id : ℕ) (p : Placed) (own : List Placed) (time : ℕ) (a b : ℤ) → DidLook p Metric metric (Some (id_bytes id)) → name_of g Metric id ≡ Some metric → (f : FoundClash id start end own time a b)
+    → lower.StoodRow g (key_bytes f.clash.key) → FirstClash (name_of g) (is_wanted start end metric) (p ∷ own) time a b
+first_clash_of g start end metric id p own time a b looked named f s = record {
+  earlier = p ∷ f.earlier;
+  at = f.last;
+  later = [];
+  cut = ap (λ (l : List Placed). p ∷ l) f.cut;
+  clean = λ found shows. let w = shown_behind p Metric metric _ f.earlier found looked shows in clean_row (name_of g) id start end metric found (f.clean w.0 found w.1 w.2);
+  found = f.found;
+  reply = f.reply;
+  clash = has_clash g start end metric id f.found time a b named f.clash s;
+  least = least_clash (name_of g) start end metric id f.found time a b f.clash;
+}

@@ -1,0 +1,97 @@
+-- One row that was found, and what is taken of it.
+use Rattle.std.proofs.Common.{◌≡◌, ℕ, ◌+◌, ◌*◌, ◌<◌, ◌≤◌, List, [], ◌∷◌, sym, ap, subst, ◌∙◌, arith}
+use Rattle.std.specs.Prelude.{ℤ, All, Contains, Err}
+use Rattle.std.specs.List.{AllByRecursion}
+use Rattle.std.proofs.lemmas.List.Elements.{recursion_from_All}
+use Rattle.row_key.specs.declared.keys.RowKey.{RowKey}
+use Rattle.row_key.specs.Key.{IsKey, key_bytes}
+use Rattle.tsd_base.specs.Dots.{IsAboveAll}
+use Rattle.cell_model.specs.declared.cells.Row.{Row}
+use Rattle.cell_model.specs.declared.cells.Found.{Found}
+use Rattle.cell_model.specs.declared.answers.RowsFault.{RowsFault}
+use Rattle.cell_model.specs.declared.answers.RowsFault.TheVariants as rows
+use Rattle.cell_model.specs.Readings.{point_row}
+use Rattle.cell_model.specs.Seen.{Seen}
+use Rattle.span_merge.specs.Spans.{Span, dots_of}
+use Rattle.query_run.specs.declared.fault.AskFault.{AskFault}
+use Rattle.query_run.specs.declared.fault.AskFault.TheVariants.{TooManyBuckets, Unknown, Duplicate, Overflow, OutOfMemory, Stopped}
+use Rattle.query_run.specs.declared.collecting.Collected.{Collected}
+use Rattle.query_run.specs.Faults.{ask_fault}
+use Rattle.query_run.specs.Naming.{IdOf, Names, KnowsPair, NamesRead, NamesCut, ids_of, known}
+use Rattle.query_run.specs.RowDots.{HasDots, DotsAsked}
+use Rattle.query_run.specs.Collecting.{KeyOf, FoundRow, StandsBehind, Adds, RowTaken, RowCut, RowAsked}
+use Rattle.query_run.proofs.Lower as lower
+use Rattle.query_run.proofs.NameReads.{read_nothing, read_then_cut, cut_among}
+
+pub key_same : (s : Seen) (id start end : ℕ) (f : Found) (key : RowKey) → (x : FoundRow s id start end f) → IsKey key → f.row.bytes ≡ key_bytes key → x.key ≡ key
+key_same s id start end f key x is row = lower.one_key x.key key x.of.is_key is (sym (ap (λ (r : Row). r.bytes) x.of.row_is) ∙ row)
+
+-- the key that was read is the row's
+pub key_of_row : (s : Seen) (id start end : ℕ) (f : Found) (key : RowKey) → FoundRow s id start end f → IsKey key → f.row.bytes ≡ key_bytes key → KeyOf id start end f key
+key_of_row s id start end f key x is row = subst (KeyOf id start end f) (key_same s id start end f key x is row) x.of
+
+pub row_knows : (s : Seen) (id start end : ℕ) (f : Found) (key : RowKey) (pairs : List (ℕ × ℕ)) → FoundRow s id start end f → IsKey key → f.row.bytes ≡ key_bytes key → pairs ≡ key.pairs.items
+    → (p : ℕ × ℕ) → Contains pairs p → KnowsPair s p
+row_knows s id start end f key pairs x is row same p c =
+    x.knows p (subst (λ (l : List (ℕ × ℕ)). Contains l p) (same ∙ ap (λ (k : RowKey). k.pairs.items) (sym (key_same s id start end f key x is row))) c)
+
+no_names : (s : Seen) (names : Names) (asked : List IdOf) → NamesCut s names asked s
+no_names s names asked = cut_among s s names [] asked (λ i c. absurd (lower.not_in i c)) (read_then_cut s s names names [] (read_nothing s names))
+
+-- ---- a fault of its points
+
+pub dots_failed : (s : Seen) (id start end : ℕ) (f : Found) (key : RowKey) (before after : Collected) (fault : AskFault) → KeyOf id start end f key → DotsAsked f.cells key.base start end (Err fault) → RowAsked id start end f s before (Err fault) s after
+dots_failed s id start end f key before after (Duplicate time a b) of asked = (lower.nothing_made s, record { key = key; of = of; clash = asked })
+dots_failed s id start end f key before after OutOfMemory of asked = record { key = key; of = of; named = no_names s (known before.names) (ids_of key.pairs.items) }
+dots_failed s id start end f key before after (TooManyBuckets count) of asked = absurd asked
+dots_failed s id start end f key before after (Unknown kind name) of asked = absurd asked
+dots_failed s id start end f key before after (Overflow time) of asked = absurd asked
+dots_failed s id start end f key before after Stopped of asked = absurd asked
+
+-- ---- a fault of its names
+
+pub names_failed : (s t : Seen) (id start end : ℕ) (f : Found) (key : RowKey) (pairs : List (ℕ × ℕ)) (before after : Collected) (e : RowsFault) → KeyOf id start end f key → pairs ≡ key.pairs.items → NamesCut s (known before.names) (ids_of pairs) t
+    → RowAsked id start end f s before (Err (ask_fault e)) t after
+names_failed s t id start end f key pairs before after e of same cut = at e
+  where
+    all : RowCut id start end f s (known before.names) t
+    all = record { key = key; of = of; named = subst (λ (l : List (ℕ × ℕ)). NamesCut s (known before.names) (ids_of l) t) same cut }
+
+    at : (e : RowsFault) → RowAsked id start end f s before (Err (ask_fault e)) t after
+    at rows.OutOfMemory = all
+    at rows.Stopped = all
+
+-- ---- no memory for the points
+
+pub add_failed : (s t : Seen) (id start end : ℕ) (f : Found) (key : RowKey) (pairs : List (ℕ × ℕ)) (before after : Collected) (names : Names) → KeyOf id start end f key → pairs ≡ key.pairs.items → NamesRead s (known before.names) (ids_of pairs) t names
+    → RowAsked id start end f s before (Err OutOfMemory) t after
+add_failed s t id start end f key pairs before after names of same read =
+    names_failed s t id start end f key pairs before after rows.OutOfMemory of same (read_then_cut s t (known before.names) names (ids_of pairs) read)
+
+-- ---- all was taken
+
+pub row_taken : (s t : Seen) (id start end : ℕ) (f : Found) (key : RowKey) (pairs again : List (ℕ × ℕ)) (dots : List (ℕ × ℤ)) (before after : List Span) (names names_after : Names) → KeyOf id start end f key → pairs ≡ key.pairs.items → again ≡ key.pairs.items
+    → NamesRead s names (ids_of pairs) t names_after → HasDots f.cells key.base start end dots → Adds before again dots after → RowTaken id start end f s before names t after names_after
+row_taken s t id start end f key pairs again dots before after names names_after of same still read has adds = record {
+  key = key;
+  of = of;
+  named = subst (λ (l : List (ℕ × ℕ)). NamesRead s names (ids_of l) t names_after) same read;
+  dots = dots;
+  has = has;
+  adds = subst (λ (l : List (ℕ × ℕ)). Adds before l dots after) still adds;
+}
+
+-- ---- the points are above those of earlier hours
+
+above_more : (low time : ℕ) (dots : List (ℕ × ℤ)) → low ≤ time → AllByRecursion (λ (d : ℕ × ℤ). d.0 < low) dots → IsAboveAll time dots
+above_more low time [] le all = tt
+above_more low time (d ∷ dots) le all = let first = all.0 in (omega (arith, first, le), above_more low time dots le all.1)
+
+pub may_add : (f : Found) (key : RowKey) (start end : ℕ) (pairs : List (ℕ × ℕ)) (spans : List Span) (dots : List (ℕ × ℤ)) → StandsBehind spans f → IsKey key → f.row ≡ point_row (key_bytes key) → pairs ≡ key.pairs.items → HasDots f.cells key.base start end dots
+    → All (λ d. IsAboveAll d.0 (dots_of spans pairs)) dots
+may_add f key start end pairs spans dots behind is row same has =
+    lower.all_of (λ d. IsAboveAll d.0 (dots_of spans pairs)) dots (λ d c.
+    let w = has.each d c in
+    let time : d.0 ≡ key.base * 1000 + w.0.item.offset = ap (λ (x : ℕ × ℤ). x.0) w.2 in
+    subst (λ (l : List (ℕ × ℕ)). IsAboveAll d.0 (dots_of spans l)) (sym same)
+    (above_more (key.base * 1000) d.0 (dots_of spans key.pairs.items) (omega (arith, time)) (recursion_from_All (λ (x : ℕ × ℤ). x.0 < key.base * 1000) (dots_of spans key.pairs.items) (behind key is row))))

@@ -1,0 +1,318 @@
+-- The scan of a sub query, turn by turn.
+use Rattle.std.proofs.Common.{◌≡◌, ◌≢◌, inl, inr, ℕ, List, [], ◌∷◌, ◌++◌, refl, sym, ap, subst, ◌∙◌, arith, length-append, append_assoc}
+use Rattle.std.specs.Prelude.{ℤ, Contains, Option, None, Some, Ok, Err}
+use Rattle.std.proofs.lemmas.List.Elements.{Contains-append_left, Contains-append_right, Contains-append_cases}
+use Rattle.std.proofs.lemmas.List.{append-nil}
+use Rattle.tsd_base.specs.declared.kinds.Kind.{Kind}
+use Rattle.std.specs.declared.cmp.Ordering.TheVariants.{Less}
+use Rattle.row_key.specs.declared.keys.RowKey.{RowKey}
+use Rattle.qual_codec.specs.declared.cells.Cell.{Cell}
+use Rattle.cell_model.specs.declared.cells.Found.{Found}
+use Rattle.cell_model.specs.declared.events.Placed.{Placed}
+use Rattle.cell_model.specs.declared.events.Reply.TheVariants.{Shown, Next}
+use Rattle.cell_model.specs.declared.answers.RowsFault.{RowsFault}
+use Rattle.cell_model.specs.declared.answers.RowsFault.TheVariants as rows
+use Rattle.cell_model.specs.Layout.{base_time}
+use Rattle.cell_model.specs.Store.{bytes_cmp}
+use Rattle.cell_model.specs.Seen.{Seen, IsPossible}
+use Rattle.cell_model.specs.Deeds.{Made}
+use Rattle.row_scan.specs.Scans.{Left, IsNext, IsStart, IsOther, AreOther, TurnMade, MadeSo, behind}
+use Rattle.span_merge.specs.Spans.{Span}
+use Rattle.query_run.specs.declared.fault.AskFault.{AskFault}
+use Rattle.query_run.specs.declared.fault.AskFault.TheVariants.{TooManyBuckets, Unknown, Duplicate, Overflow, OutOfMemory, Stopped}
+use Rattle.query_run.specs.declared.collecting.Collected.{Collected}
+use Rattle.query_run.specs.Faults.{ask_fault}
+use Rattle.query_run.specs.Parts.{IsQueryStep, AreQuerySteps}
+use Rattle.query_run.specs.Naming.{IdOf, Names, HasName, AreReads, IdReads, ids_of, known}
+use Rattle.query_run.specs.Collecting.{KeyOf, StandsBehind, RowTaken, RowCut, RowClashes, RowAsked, Counted, Gathered, Gathering, HasCollected, ClashOf, WasCut}
+use Rattle.query_run.proofs.Lower as lower
+use Rattle.query_run.proofs.NameReads.{pairs_joined, named_kept}
+use Rattle.query_run.proofs.ScanSteps.{NextFound, next_found, only_behind, below_next, below_rest}
+use Rattle.query_run.proofs.Contents.{stands_behind, gathered_more, row_clean}
+
+-- ---- entries
+
+pub reads_steps : (list : List Placed) → AreReads list → AreQuerySteps list
+reads_steps list r p c = let w = r p c in subst IsQueryStep (sym w.2) tt
+
+next_step : (left : Left) (o : Option Found) (p : Placed) → IsNext left o p → IsQueryStep p.entry.step
+next_step left o p n = subst IsQueryStep (sym n.0) tt
+
+reads_other : (list : List Placed) → AreReads list → AreOther list
+reads_other list r p c = let w = r p c in subst IsOther (sym w.2) tt
+
+pub steps_joined : (xs ys : List Placed) → AreQuerySteps xs → AreQuerySteps ys → AreQuerySteps (xs ++ ys)
+steps_joined xs ys a b p c = elim (Contains-append_cases xs ys p c) [ inl l ↦ a p l | inr r ↦ b p r ]
+
+one_step : (left : Left) (o : Option Found) (p : Placed) → IsNext left o p → AreQuerySteps (p ∷ [])
+one_step left o p n q c = elim (lower.split p q [] c) [ inl same ↦ subst (λ (x : Placed). IsQueryStep x.entry.step) same (next_step left o p n) | inr none ↦ absurd (lower.not_in q none) ]
+
+shown_not_next : (cells : List Cell) (o : Option Found) → Shown cells ≡ Next o → ⊥
+shown_not_next cells o e = cc
+
+same_next : (f g : Found) → Next (Some f) ≡ Next (Some g) → f ≡ g
+same_next f g e = cc
+
+none_not_next : (g : Found) → Next None ≡ Next (Some g) → ⊥
+none_not_next g e = cc
+
+none_some : {X : Type 0} (x : X) → ◌≡◌ {A = Option X} None (Some x) → ⊥
+none_some x e = cc
+
+pub reads_show_none : (list : List Placed) → AreReads list → (p : Placed) (f : Found) → Contains list p → p.entry.reply ≡ Next (Some f) → ⊥
+reads_show_none list r p f c e = let w = r p c in shown_not_next w.1 (Some f) (sym w.3 ∙ e)
+
+-- ---- counting them
+
+-- the next row was found, and then names were read
+pub counted_more : (spare id start end : ℕ) (own list : List Placed) (founds : List Found) (ids others : List IdOf) (left : Left) (p : Placed) (f : Found) (key : RowKey) (names : Names) → Counted 0 id start end own founds ids → IsNext left (Some f) p → KeyOf id start end f key
+    → ((g : Found) → Contains founds g → bytes_cmp g.row.bytes f.row.bytes ≡ Less) → ((i : IdOf) → Contains ids i → HasName names i) → IdReads spare names (ids_of key.pairs.items) others list
+    → Counted spare id start end ((own ++ p ∷ []) ++ list) (founds ++ f ∷ []) (ids ++ others)
+counted_more spare id start end own list founds ids others left p f key names c next of passed had reads = record {
+  steps = steps_joined (own ++ p ∷ []) list (steps_joined own (p ∷ []) c.steps (one_step left (Some f) p next)) (reads_steps list reads.reads);
+  shows = λ q g i e. elim (Contains-append_cases (own ++ p ∷ []) list q i) [
+    | inl l ↦ elim (Contains-append_cases own (p ∷ []) q l) [
+      | inl old ↦ Contains-append_left founds (f ∷ []) g (c.shows q g old e)
+      | inr new ↦ elim (lower.split p q [] new) [
+        | inl same ↦ (let is = same_next f g (sym next.1 ∙ ap (λ (x : Placed). x.entry.reply) same ∙ e) in subst (Contains (founds ++ f ∷ [])) is last)
+        | inr none ↦ absurd (lower.not_in q none)
+      ]
+    ]
+    | inr r ↦ absurd (reads_show_none list reads.reads q g r e)
+  ];
+  by = λ g i. elim (Contains-append_cases founds (f ∷ []) g i) [
+    | inl old ↦ (let w = c.by g old in (w.0, w.1, Contains-append_left (own ++ p ∷ []) list w.0 (Contains-append_left own (p ∷ []) w.0 w.2), w.3))
+    | inr new ↦ elim (lower.split f g [] new) [
+      | inl same ↦ (p, left, Contains-append_left (own ++ p ∷ []) list p (Contains-append_right own (p ∷ []) p (lower.here p [])), subst (λ (x : Found). IsNext left (Some x) p) same next)
+      | inr none ↦ absurd (lower.not_in g none)
+    ]
+  ];
+  keys = λ g i. elim (Contains-append_cases founds (f ∷ []) g i) [
+    | inl old ↦ c.keys g old
+    | inr new ↦ elim (lower.split f g [] new) [ inl same ↦ (key, subst (λ (x : Found). KeyOf id start end x key) same of) | inr none ↦ absurd (lower.not_in g none) ]
+  ];
+  rising = lower.pairs_push (λ (g h : Found). bytes_cmp g.row.bytes h.row.bytes ≡ Less) founds f c.rising passed;
+  count =
+      let a = c.count in
+      let b = reads.count in
+      let l = length-append (own ++ p ∷ []) list in
+      let m = length-append own (p ∷ []) in
+      let n = length-append founds (f ∷ []) in
+      let o = length-append ids others in
+      omega (arith, a, b, l, m, n, o);
+  once = pairs_joined (λ (i j : IdOf). i ≢ j) ids others c.once reads.once (λ i j x y same. let h = had i x in none_some h.0 (sym (ap (λ (z : IdOf). names z.0 z.1) same ∙ reads.fresh j y) ∙ h.1));
+  from = λ i x. elim (Contains-append_cases ids others i x) [
+    | inl old ↦ (let w = c.from i old in (w.0, Contains-append_left founds (f ∷ []) w.0 w.1, w.2))
+    | inr new ↦ (f, last, (key, of, reads.among i new))
+  ];
+}
+  where
+    last : Contains (founds ++ f ∷ []) f
+    last = Contains-append_right founds (f ∷ []) f (lower.here f [])
+
+pub counted_none : (id start end : ℕ) → Counted 0 id start end [] [] []
+counted_none id start end = record {
+  steps = λ p c. absurd (lower.not_in p c);
+  shows = λ p f c e. absurd (lower.not_in p c);
+  by = λ f c. absurd (lower.not_in f c);
+  keys = λ f c. absurd (lower.not_in f c);
+  rising = λ i j d lt within. absurd (omega (arith, within));
+  count = omega arith;
+  once = λ i j d lt within. absurd (omega (arith, within));
+  from = λ i c. absurd (lower.not_in i c);
+}
+
+counted_wider : (id start end : ℕ) (own : List Placed) (founds : List Found) (ids : List IdOf) → Counted 0 id start end own founds ids → Counted 1 id start end own founds ids
+counted_wider id start end own founds ids c =
+    record { steps = c.steps; shows = c.shows; by = c.by; keys = c.keys; rising = c.rising; count = let n = c.count in omega (arith, n); once = c.once; from = c.from }
+
+-- no next row was found
+counted_end : (id start end : ℕ) (own list : List Placed) (founds : List Found) (ids : List IdOf) (left : Left) (p : Placed) → Counted 0 id start end own founds ids → list ≡ p ∷ [] → IsNext left None p → Counted 1 id start end (own ++ list) founds ids
+counted_end id start end own list founds ids left p c is next =
+    subst (λ (l : List Placed). Counted 1 id start end (own ++ l) founds ids) (sym is) (record {
+      steps = steps_joined own (p ∷ []) c.steps (one_step left None p next);
+      shows = λ q g i e. elim (Contains-append_cases own (p ∷ []) q i) [
+        | inl old ↦ c.shows q g old e
+        | inr new ↦ elim (lower.split p q [] new) [ inl same ↦ absurd (none_not_next g (sym next.1 ∙ ap (λ (x : Placed). x.entry.reply) same ∙ e)) | inr none ↦ absurd (lower.not_in q none) ]
+      ];
+      by = λ g i. let w = c.by g i in (w.0, w.1, Contains-append_left own (p ∷ []) w.0 w.2, w.3);
+      keys = c.keys;
+      rising = c.rising;
+      count = let n = c.count in let l = length-append own (p ∷ []) in omega (arith, n, l);
+      once = c.once;
+      from = c.from;
+    })
+
+-- ---- where the scan stands
+
+-- it was started and collected so far
+abbrev pub SoFar : ℕ → ℕ → ℕ → Left → Seen → List Span → Names → Seen → Type 0
+SoFar id start end left old spans names now = (begin : Left) × IsStart id (base_time start) (base_time end) begin × Gathering id start end begin left old spans names now
+
+pub scan_starts : (id start end : ℕ) (left : Left) (s : Seen) (spans : List Span) (names : Names) → IsStart id (base_time start) (base_time end) left → Gathered id start end [] spans names → ((kind : Kind) (i : ℕ) → names kind i ≡ None) → SoFar id start end left s spans names s
+scan_starts id start end left s spans names is content none = (
+  left,
+  is,
+  record {
+    own = [];
+    founds = [];
+    ids = [];
+    made = lower.nothing_made s;
+    counted = counted_none id start end;
+    had = λ i c. absurd (lower.not_in i c);
+    scanning = lower.scan_begins left;
+    only = is.only;
+    passed = λ f c. absurd (lower.not_in f c);
+    content = content;
+    shown = λ kind i name e. absurd (none_some name (sym (none kind i) ∙ e));
+  },
+)
+
+-- a row that a turn found
+pub record Turned (old now next : Seen) (id start end : ℕ) (left : Left) (spans : List Span) (names : Names) (f : Found) : Type 0 where
+  pub far : SoFar id start end left old spans names now
+  pub p : Placed
+  pub made : Made now (p ∷ []) next
+  pub is_next : IsNext left (Some f) p
+  pub possible : IsPossible next
+
+pub turned : (old now next : Seen) (id start end : ℕ) (left : Left) (spans : List Span) (names : Names) (o : Option Found) (f : Found) → SoFar id start end left old spans names now → o ≡ Some f → MadeSo now (TurnMade left (Ok o)) next → IsPossible next
+    → Turned old now next id start end left spans names f
+turned old now next id start end left spans names o f far is (list, made, (p, list_is, n)) possible =
+    record { far = far; p = p; made = subst (λ (l : List Placed). Made now l next) list_is made; is_next = subst (λ (x : Option Found). IsNext left x p) is n; possible = possible }
+
+module _ (old now next : Seen) (id start end : ℕ) (left : Left) (spans : List Span) (names : Names) (f : Found) (t : Turned old now next id start end left spans names f) where
+  abbrev so : Gathering id start end t.far.0 left old spans names now
+  so = t.far.2
+
+  pub row_found : NextFound next id start end left f
+  row_found = next_found now next id start end left t.p f t.made t.is_next t.possible so.only
+
+  below : (g : Found) → Contains so.founds g → bytes_cmp g.row.bytes f.row.bytes ≡ Less
+  below g c = below_next g.row.bytes left f.row (so.passed g c) row_found.from_on
+
+  pub row_behind : StandsBehind spans f
+  row_behind = stands_behind id start end so.founds spans names f row_found.row.key so.content row_found.row.of below
+
+  made_next : Made old (so.own ++ t.p ∷ []) next
+  made_next = lower.made_joined old now next so.own (t.p ∷ []) so.made t.made
+
+  -- all was taken of it
+  pub turn_goes : (after : Seen) (more : List Span) (names_after : Names) → RowTaken id start end f next spans names after more names_after → SoFar id start end (behind left f.row) old more names_after after
+  turn_goes after more names_after r =
+      let g = so in
+      let n = r.named in
+      let both = g.own ++ t.p ∷ [] in (
+        t.far.0,
+        t.far.1,
+        record {
+          own = both ++ n.list;
+          founds = g.founds ++ f ∷ [];
+          ids = g.ids ++ n.ids;
+          made = lower.made_joined old next after both n.list made_next n.made;
+          counted = counted_more 0 id start end g.own n.list g.founds g.ids n.ids left t.p f r.key names g.counted t.is_next r.of below g.had n.reads;
+          had = λ i c. elim (Contains-append_cases g.ids n.ids i c) [
+            | inl o ↦ (let h = g.had i o in (h.0, n.kept i.0 i.1 h.0 h.1))
+            | inr x ↦ n.all i (n.reads.among i x)
+          ];
+          scanning = lower.others_pass t.far.0 (behind left f.row) both n.list (g.founds ++ f ∷ []) (lower.turn_goes_on t.far.0 left g.own (t.p ∷ []) g.founds f g.scanning (t.p, refl, t.is_next)) (reads_other n.list n.reads.reads);
+          only = only_behind id start end left f.row g.only row_found.from_on;
+          passed = λ h c. elim (Contains-append_cases g.founds (f ∷ []) h c) [
+            | inl o ↦ below_rest h.row.bytes left f.row (below h o)
+            | inr x ↦ elim (lower.split f h [] x) [
+              | inl same ↦ subst (λ (y : Found). bytes_cmp y.row.bytes (behind left f.row).from ≡ Less) same (lower.below_behind f.row.bytes)
+              | inr none ↦ absurd (lower.not_in h none)
+            ]
+          ];
+          content = gathered_more id start end g.founds f next after spans more names names_after g.content r;
+          shown = n.shown (named_kept now next names t.made.since.extends g.shown);
+        },
+      )
+
+  no_memory_for : (after : Seen) (fault : AskFault) → ((own : List Placed) → ClashOf id start end own fault) → RowCut id start end f next names after → WasCut id start end old fault after
+  no_memory_for after fault cause r =
+      let g = so in
+      let n = r.named in
+      let both = g.own ++ t.p ∷ [] in
+      record {
+        own = both ++ n.list;
+        founds = g.founds ++ f ∷ [];
+        ids = g.ids ++ n.ids;
+        made = lower.made_joined old next after both n.list made_next n.made;
+        counted = counted_more 1 id start end g.own n.list g.founds g.ids n.ids left t.p f r.key names g.counted t.is_next r.of below g.had n.reads;
+        cause = cause (both ++ n.list);
+      }
+
+  clash_of : (after : Seen) (time : ℕ) (a b : ℤ) → Made next [] after → RowClashes id start end f time a b → WasCut id start end old (Duplicate time a b) after
+  clash_of after time a b made r =
+      let g = so in
+      let both = g.own ++ t.p ∷ [] in
+      let nothing : IdReads 0 names (ids_of r.key.pairs.items) [] [] = record {
+        reads = λ p c. absurd (lower.not_in p c);
+        count = omega arith;
+        once = λ i j d lt within. absurd (omega (arith, within));
+        fresh = λ i c. absurd (lower.not_in i c);
+        among = λ i c. absurd (lower.not_in i c);
+      } in
+      let counted = counted_more 0 id start end g.own [] g.founds g.ids [] left t.p f r.key names g.counted t.is_next r.of below g.had nothing in
+      record {
+        own = both ++ [];
+        founds = g.founds ++ f ∷ [];
+        ids = g.ids ++ [];
+        made = lower.made_joined old next after both [] made_next made;
+        counted = counted_wider id start end (both ++ []) (g.founds ++ f ∷ []) (g.ids ++ []) counted;
+        cause = record {
+          earlier = g.own;
+          last = t.p;
+          cut = append_assoc g.own (t.p ∷ []) [];
+          clean = λ p h c e. row_clean id start end spans names h (g.content.rows h (g.counted.shows p h c e));
+          found = f;
+          reply = t.is_next.1;
+          clash = r;
+        };
+      }
+
+  -- it was refused
+  pub turn_fails : (after : Seen) (before now_collected : Collected) (fault : AskFault) → known before.names ≡ names → RowAsked id start end f next before (Err fault) after now_collected → WasCut id start end old fault after
+  turn_fails after before coll (Duplicate time a b) same (made, r) = clash_of after time a b made r
+  turn_fails after before coll OutOfMemory same r = no_memory_for after OutOfMemory (λ own. tt) (subst (λ (n : Names). RowCut id start end f next n after) same r)
+  turn_fails after before coll Stopped same r = no_memory_for after Stopped (λ own. tt) (subst (λ (n : Names). RowCut id start end f next n after) same r)
+  turn_fails after before coll (TooManyBuckets count) same r = absurd r
+  turn_fails after before coll (Unknown kind name) same r = absurd r
+  turn_fails after before coll (Overflow time) same r = absurd r
+
+-- ---- a turn that failed, and the end
+
+cause_of : (id start end : ℕ) (own : List Placed) (e : RowsFault) → ClashOf id start end own (ask_fault e)
+cause_of id start end own rows.OutOfMemory = tt
+cause_of id start end own rows.Stopped = tt
+
+pub no_turn : (old now next : Seen) (id start end : ℕ) (left : Left) (spans : List Span) (names : Names) (e : RowsFault) → SoFar id start end left old spans names now → MadeSo now (TurnMade left (Err e)) next → WasCut id start end old (ask_fault e) next
+no_turn old now next id start end left spans names e (begin, is, g) (list, made, none) = record {
+  own = g.own ++ [];
+  founds = g.founds;
+  ids = g.ids;
+  made = lower.made_joined old now next g.own [] g.made (subst (λ (l : List Placed). Made now l next) none made);
+  counted = subst (λ (l : List Placed). Counted 1 id start end l g.founds g.ids) (sym (append-nil g.own)) (counted_wider id start end g.own g.founds g.ids g.counted);
+  cause = cause_of id start end (g.own ++ []) e;
+}
+
+pub given_up : (old now : Seen) (id start end : ℕ) (left : Left) (spans : List Span) (names : Names) → SoFar id start end left old spans names now → WasCut id start end old OutOfMemory now
+given_up old now id start end left spans names (begin, is, g) =
+    record { own = g.own; founds = g.founds; ids = g.ids; made = g.made; counted = counted_wider id start end g.own g.founds g.ids g.counted; cause = tt }
+
+pub scan_ends : (old now next : Seen) (id start end : ℕ) (left : Left) (spans : List Span) (names : Names) (o : Option Found) → SoFar id start end left old spans names now → o ≡ None → MadeSo now (TurnMade left (Ok o)) next → HasCollected id start end old spans names next
+scan_ends old now next id start end left spans names o (begin, is, g) none (list, made, (p, list_is, n)) =
+    let next_none : IsNext left None p = subst (λ (x : Option Found). IsNext left x p) none n in
+    record {
+      own = g.own ++ list;
+      founds = g.founds;
+      ids = g.ids;
+      begin = begin;
+      made = lower.made_joined old now next g.own list g.made made;
+      counted = counted_end id start end g.own list g.founds g.ids left p g.counted list_is next_none;
+      starts = is;
+      whole = lower.turn_ends begin left g.own list g.founds g.scanning (p, list_is, next_none);
+      content = g.content;
+      shown = named_kept now next names made.since.extends g.shown;
+    }

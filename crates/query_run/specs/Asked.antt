@@ -1,0 +1,56 @@
+-- What a query is answered, by the entries that its caller makes for it.
+use Rattle.std.specs.Prelude.{◌≡◌, ℕ, Bool, List, [], ◌∷◌, ◌++◌, map, Option, None, Some, Result, Ok, Err}
+use Rattle.std.specs.List.{flat_map}
+use Rattle.cell_model.specs.History.{History, first}
+use Rattle.cell_model.specs.Ids.{name_of}
+use Rattle.cell_model.specs.Readings.{Reading}
+use Rattle.cell_model.specs.Seen.{Seen, InEach}
+use Rattle.cell_model.specs.Deeds.{Made}
+use Rattle.json_reply.specs.Replies.{Group, plain}
+use Rattle.json_reply.specs.declared.reply.Reply.{Reply}
+use Rattle.query_run.specs.declared.fault.AskFault.{AskFault}
+use Rattle.query_run.specs.declared.fault.AskFault.TheVariants.{TooManyBuckets, Unknown, Duplicate, Overflow, OutOfMemory, Stopped}
+use Rattle.query_run.specs.Parts.{NameOf, Part, AreQuerySteps, AllResolved, PartStands, FirstUnknown, FirstClash}
+
+-- of a sub query: which readings are wanted; the names that it has, in order; why it is refused by itself, if it is; and the groups
+-- over readings, or the time of an overflow
+module _ {Sub : Type 0} (wanted : Sub → Reading → Bool) (names_in : Sub → List NameOf) (barred : Sub → Option AskFault) (answer_over : Sub → List Reading → Result (List Group) ℕ) where
+  -- why a sub query is refused, by the entries made for it; each cause comes where those that stand before it here don't
+  abbrev pub Cause : Sub → Part → ℕ → History → AskFault → Type 0
+  Cause s part end h (TooManyBuckets count) = (part.own ≡ []) × (barred s ≡ Some (TooManyBuckets count))
+  Cause s part end h (Unknown kind name) = (barred s ≡ None) × FirstUnknown (names_in s) (kind, name) part.own (first end h)
+  Cause s part end h (Duplicate time a b) = (barred s ≡ None) × AllResolved (first end h) (names_in s) × FirstClash (name_of (first end h)) (wanted s) part.own time a b
+  Cause s part end h (Overflow time) = (barred s ≡ None) × PartStands (wanted s) (names_in s) part end h × (answer_over s part.shown ≡ Err time)
+  Cause s part end h OutOfMemory = Unit {0}
+  Cause s part end h Stopped = Unit {0}
+
+  -- each sub query has its part, and the groups are the answers over what the parts show
+  pub data Answers (end : ℕ) (h : History) : List Sub → List Part → List Group → Type 0 where
+    none : Answers end h [] [] []
+    more : {s : Sub} {part : Part} {groups : List Group} {subs : List Sub} {parts : List Part} {rest : List Group} → barred s ≡ None → PartStands (wanted s) (names_in s) part end h
+        → answer_over s part.shown ≡ Ok groups → Answers end h subs parts rest → Answers end h (s ∷ subs) (part ∷ parts) (groups ++ rest)
+
+  -- all sub queries are answered, by these entries and no other
+  pub record Answered (old : Seen) (subs : List Sub) (groups : List Group) (new : Seen) : Type 0 where
+    pub parts : List Part
+    pub made : Made old (flat_map (λ (p : Part). p.own) parts) new
+    pub steps : AreQuerySteps (flat_map (λ (p : Part). p.own) parts)
+    pub answers : InEach new (λ h. Answers new.length h subs parts groups)
+
+  -- the first sub query that has a fault gives it, and those before it were answered
+  pub record Refused (old : Seen) (subs : List Sub) (fault : AskFault) (new : Seen) : Type 0 where
+    pub done : List Sub
+    pub sub : Sub
+    pub rest : List Sub
+    pub cut : subs ≡ done ++ sub ∷ rest
+    pub parts : List Part
+    pub part : Part
+    pub groups : List Group
+    pub made : Made old (flat_map (λ (p : Part). p.own) parts ++ part.own) new
+    pub steps : AreQuerySteps (flat_map (λ (p : Part). p.own) parts ++ part.own)
+    pub before : InEach new (λ h. Answers new.length h done parts groups)
+    pub cause : InEach new (λ h. Cause sub part new.length h fault)
+
+  abbrev pub AskSays : Seen → List Sub → Result Reply AskFault → Seen → Type 0
+  AskSays old subs (Ok reply) new = Answered old subs (map plain reply.groups.items) new
+  AskSays old subs (Err fault) new = Refused old subs fault new

@@ -1,0 +1,189 @@
+-- The rows of a metric in a range of times, collected as the points of series by the ids of their tags.
+use Rattle.std.specs.Prelude.{◌≡◌, ◌≢◌, ◌⊎◌, ℕ, ℤ, ◌+◌, ◌*◌, ◌<◌, ◌≤◌, IsTrue, List, [], ◌∷◌, ◌++◌, length, All, AllPairs, Contains, None, Some, Result, Ok, Err}
+use Rattle.std.specs.declared.cmp.Ordering.TheVariants.{Less}
+use Rattle.row_key.specs.declared.tables.Table.TheVariants.{Points}
+use Rattle.row_key.specs.declared.keys.RowKey.{RowKey}
+use Rattle.row_key.specs.Key.{IsKey, key_bytes}
+use Rattle.qual_codec.specs.declared.cells.Dot.{Dot}
+use Rattle.qual_codec.specs.Dots.{Reads}
+use Rattle.cell_model.specs.declared.cells.Found.{Found}
+use Rattle.cell_model.specs.declared.events.Placed.{Placed}
+use Rattle.cell_model.specs.declared.events.Reply.TheVariants.{Next}
+use Rattle.cell_model.specs.Store.{bytes_cmp, is_between}
+use Rattle.cell_model.specs.Layout.{base_time}
+use Rattle.cell_model.specs.Readings.{point_row}
+use Rattle.cell_model.specs.Seen.{Seen}
+use Rattle.cell_model.specs.Deeds.{Made}
+use Rattle.row_scan.specs.Scans.{Left, IsNext, IsRowOf, IsStart, Scanned, Scanning}
+use Rattle.row_scan.specs.Kept.{AreDots, values_at, first_clash}
+use Rattle.span_merge.specs.Spans.{Span, dots_of, added}
+use Rattle.query_run.specs.declared.fault.AskFault.{AskFault}
+use Rattle.query_run.specs.declared.fault.AskFault.TheVariants.{Duplicate, OutOfMemory, Stopped}
+use Rattle.query_run.specs.declared.collecting.Collected.{Collected}
+use Rattle.query_run.specs.Parts.{AreQuerySteps}
+use Rattle.query_run.specs.Naming.{IdOf, Names, HasName, KnowsPair, AllNamed, NamesRead, NamesCut, ids_of, known}
+use Rattle.query_run.specs.RowDots.{HasDots, Clashes, IsIn, dot_at}
+
+-- the key is that of the row, which is one of the metric's in the hours from start's to end's
+pub record KeyOf (id start end : ℕ) (f : Found) (key : RowKey) : Type 0 where
+  pub is_key : IsKey key
+  pub row_is : f.row ≡ point_row (key_bytes key)
+  pub metric_is : key.metric ≡ id
+  pub from_on : base_time start ≤ key.base
+  pub up_to : key.base ≤ base_time end
+
+-- such a row, whose cells read, and whose ids are known to be those of names
+pub record FoundRow (s : Seen) (id start end : ℕ) (f : Found) : Type 0 where
+  pub key : RowKey
+  pub of : KeyOf id start end f key
+  pub reads : All (λ c. Reads c.qual c.value) f.cells
+  pub knows : (p : ℕ × ℕ) → Contains key.pairs.items p → KnowsPair s p
+
+-- the points that the row's series has are from before its hour
+abbrev pub StandsBehind : List Span → Found → Type 0
+StandsBehind spans f = (key : RowKey) → IsKey key → f.row ≡ point_row (key_bytes key) → All (λ d. d.0 < key.base * 1000) (dots_of spans key.pairs.items)
+
+-- points are added to a series where there are any
+abbrev pub Adds : List Span → List (ℕ × ℕ) → List (ℕ × ℤ) → List Span → Type 0
+Adds spans pairs dots more = ((dots ≡ []) × (more ≡ spans)) ⊎ ((1 ≤ length dots) × (more ≡ added spans pairs dots))
+
+-- the names of the row's ids were asked for, and its points in the range were added
+pub record RowTaken (id start end : ℕ) (f : Found) (old : Seen) (spans : List Span) (names : Names) (new : Seen) (spans_after : List Span) (names_after : Names) : Type 0 where
+  pub key : RowKey
+  pub of : KeyOf id start end f key
+  pub named : NamesRead old names (ids_of key.pairs.items) new names_after
+  pub dots : List (ℕ × ℤ)
+  pub has : HasDots f.cells key.base start end dots
+  pub adds : Adds spans key.pairs.items dots spans_after
+
+-- the row has two values at this time of the range, and none earlier
+pub record RowClashes (id start end : ℕ) (f : Found) (time : ℕ) (a b : ℤ) : Type 0 where
+  pub key : RowKey
+  pub of : KeyOf id start end f key
+  pub clash : Clashes f.cells key.base start end time a b
+
+pub record RowCut (id start end : ℕ) (f : Found) (old : Seen) (names : Names) (new : Seen) : Type 0 where
+  pub key : RowKey
+  pub of : KeyOf id start end f key
+  pub named : NamesCut old names (ids_of key.pairs.items) new
+
+abbrev pub RowAsked : ℕ → ℕ → ℕ → Found → Seen → Collected → Result (Unit {0}) AskFault → Seen → Collected → Type 0
+RowAsked id start end f old before (Ok x) new after = RowTaken id start end f old before.spans (known before.names) new after.spans (known after.names)
+RowAsked id start end f old before (Err (Duplicate time a b)) new after = Made old [] new × RowClashes id start end f time a b
+RowAsked id start end f old before (Err OutOfMemory) new after = RowCut id start end f old (known before.names) new
+RowAsked id start end f old before (Err Stopped) new after = RowCut id start end f old (known before.names) new
+RowAsked id start end f old before (Err fault) new after = ⊥
+
+-- the id is one of the row's tags
+abbrev pub HasId : ℕ → ℕ → ℕ → Found → IdOf → Type 0
+HasId id start end f i = (key : RowKey) × KeyOf id start end f key × Contains (ids_of key.pairs.items) i
+
+-- The entries found these rows, which rise, and read the names of these ids, each once; spare: how many more entries there may be.
+pub record Counted (spare id start end : ℕ) (own : List Placed) (founds : List Found) (ids : List IdOf) : Type 0 where
+  pub steps : AreQuerySteps own
+  pub shows : (p : Placed) (f : Found) → Contains own p → p.entry.reply ≡ Next (Some f) → Contains founds f
+  pub by : (f : Found) → Contains founds f → (p : Placed) × (left : Left) × Contains own p × IsNext left (Some f) p
+  pub keys : (f : Found) → Contains founds f → (key : RowKey) × KeyOf id start end f key
+  pub rising : AllPairs (λ (f g : Found). bytes_cmp f.row.bytes g.row.bytes ≡ Less) founds
+  pub count : length own ≤ length founds + length ids + spare
+  pub once : AllPairs (λ i j. i ≢ j) ids
+  pub from : (i : IdOf) → Contains ids i → (f : Found) × Contains founds f × HasId id start end f i
+
+-- at no time of the range the row has two values
+pub record RowIsClean (id start end : ℕ) (f : Found) : Type 0 where
+  pub key : RowKey
+  pub of : KeyOf id start end f key
+  pub all : List Dot
+  pub are : AreDots f.cells all
+  pub one : (offset : ℕ) → IsIn start end (key.base * 1000 + offset) → first_clash (values_at offset all) ≡ None
+
+-- and its points in the range are those of its series, and its ids have names
+pub record RowIsIn (id start end : ℕ) (spans : List Span) (names : Names) (f : Found) : Type 0 where
+  pub key : RowKey
+  pub of : KeyOf id start end f key
+  pub all : List Dot
+  pub are : AreDots f.cells all
+  pub one : (offset : ℕ) → IsIn start end (key.base * 1000 + offset) → first_clash (values_at offset all) ≡ None
+  pub there : (x : Dot) → Contains all x → IsIn start end (key.base * 1000 + x.item.offset) → Contains (dots_of spans key.pairs.items) (dot_at key.base x)
+  pub named : (i : IdOf) → Contains (ids_of key.pairs.items) i → HasName names i
+
+-- the point of the series is one of a row that was found
+pub record DotIsFrom (id start end : ℕ) (founds : List Found) (pairs : List (ℕ × ℕ)) (d : ℕ × ℤ) : Type 0 where
+  pub found : Found
+  pub among : Contains founds found
+  pub key : RowKey
+  pub of : KeyOf id start end found key
+  pub pairs_are : key.pairs.items ≡ pairs
+  pub all : List Dot
+  pub are : AreDots found.cells all
+  pub dot : Dot
+  pub there : Contains all dot
+  pub dot_is : d ≡ dot_at key.base dot
+  pub within : IsIn start end d.0
+
+-- the series are those of the rows that were found, each with their points in the range, one or more
+pub record Gathered (id start end : ℕ) (founds : List Found) (spans : List Span) (names : Names) : Type 0 where
+  pub rows : (f : Found) → Contains founds f → RowIsIn id start end spans names f
+  pub from : (s : Span) (d : ℕ × ℤ) → Contains spans s → Contains s.1 d → DotIsFrom id start end founds s.0 d
+  pub some : (s : Span) → Contains spans s → 1 ≤ length s.1
+
+-- of what is left of the scan only rows of the metric in these hours are keys
+abbrev pub OnlyRows : ℕ → ℕ → ℕ → Left → Type 0
+OnlyRows id start end left =
+    (key : RowKey) → IsKey key → IsTrue (is_between Points left.from left.to (point_row (key_bytes key))) → IsRowOf id (base_time start) (base_time end) (point_row (key_bytes key))
+
+-- the scan has come so far
+pub record Gathering (id start end : ℕ) (begin left : Left) (old : Seen) (spans : List Span) (names : Names) (new : Seen) : Type 0 where
+  pub own : List Placed
+  pub founds : List Found
+  pub ids : List IdOf
+  pub made : Made old own new
+  pub counted : Counted 0 id start end own founds ids
+  pub had : (i : IdOf) → Contains ids i → HasName names i
+  pub scanning : Scanning begin own founds left
+  pub only : OnlyRows id start end left
+  pub passed : (f : Found) → Contains founds f → bytes_cmp f.row.bytes left.from ≡ Less
+  pub content : Gathered id start end founds spans names
+  pub shown : AllNamed new names
+
+-- the scan has come to its end
+pub record HasCollected (id start end : ℕ) (old : Seen) (spans : List Span) (names : Names) (new : Seen) : Type 0 where
+  pub own : List Placed
+  pub founds : List Found
+  pub ids : List IdOf
+  pub begin : Left
+  pub made : Made old own new
+  pub counted : Counted 1 id start end own founds ids
+  pub starts : IsStart id (base_time start) (base_time end) begin
+  pub whole : Scanned begin own founds
+  pub content : Gathered id start end founds spans names
+  pub shown : AllNamed new names
+
+-- the last entry shows the first row with a clash, and the clash is the row's first one
+pub record FoundClash (id start end : ℕ) (own : List Placed) (time : ℕ) (a b : ℤ) : Type 0 where
+  pub earlier : List Placed
+  pub last : Placed
+  pub cut : own ≡ earlier ++ last ∷ []
+  pub clean : (p : Placed) (f : Found) → Contains earlier p → p.entry.reply ≡ Next (Some f) → RowIsClean id start end f
+  pub found : Found
+  pub reply : last.entry.reply ≡ Next (Some found)
+  pub clash : RowClashes id start end found time a b
+
+abbrev pub ClashOf : ℕ → ℕ → ℕ → List Placed → AskFault → Type 0
+ClashOf id start end own (Duplicate time a b) = FoundClash id start end own time a b
+ClashOf id start end own OutOfMemory = Unit {0}
+ClashOf id start end own Stopped = Unit {0}
+ClashOf id start end own fault = ⊥
+
+-- the scan was broken off
+pub record WasCut (id start end : ℕ) (old : Seen) (fault : AskFault) (new : Seen) : Type 0 where
+  pub own : List Placed
+  pub founds : List Found
+  pub ids : List IdOf
+  pub made : Made old own new
+  pub counted : Counted 1 id start end own founds ids
+  pub cause : ClashOf id start end own fault
+
+abbrev pub CollectSays : ℕ → ℕ → ℕ → Seen → Result Collected AskFault → Seen → Type 0
+CollectSays id start end old (Ok c) new = HasCollected id start end old c.spans (known c.names) new
+CollectSays id start end old (Err fault) new = WasCut id start end old fault new

@@ -1,0 +1,18 @@
+-- What an answer depends on.
+use Rattle.std.specs.Prelude.{◌≡◌, ◌↔◌, ℕ, Bool, List, map, Contains}
+use Rattle.tsd_base.specs.declared.kinds.Aggregator.{Aggregator}
+use Rattle.tsd_base.specs.Points.{DataPoint}
+use Rattle.cell_model.specs.Readings.{Reading, reading_of}
+use Rattle.query_run.specs.Answers.{answer}
+
+-- they have the same readings, in any order and each any number of times
+abbrev pub HaveSameReadings : List DataPoint → List DataPoint → Type 0
+HaveSameReadings xs ys = (r : Reading) → Contains (map reading_of xs) r ↔ Contains (map reading_of ys) r
+
+-- of the points, which are of one metric, no two have one series and one time and different values
+abbrev pub AreOneValued : List DataPoint → Type 0
+AreOneValued points = (p q : DataPoint) → Contains points p → Contains points q → p.tags ≡ q.tags → p.time ≡ q.time → p.value ≡ q.value
+
+-- where no series has two values at one time, neither the order of points nor their form nor how often one is repeated changes an answer
+abbrev pub AnswerIsUnordered : Type 0
+AnswerIsUnordered = (ms : Bool) (how : Aggregator) (metric : List ℕ) (xs ys : List DataPoint) → HaveSameReadings xs ys → AreOneValued xs → answer ms how metric xs ≡ answer ms how metric ys

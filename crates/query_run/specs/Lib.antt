@@ -1,0 +1,13 @@
+pub mod Answers
+pub mod Parts
+pub mod Asked
+pub mod Queries
+pub mod Faults
+pub mod Series
+pub mod Grouping
+pub mod Laws
+pub mod Naming
+pub mod RowDots
+pub mod Collecting
+pub mod Titling
+pub mod Working

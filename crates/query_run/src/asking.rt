@@ -1,0 +1,53 @@
+//! Asking a query.
+ghost use Rattle.std.specs.Prelude.{◌≡◌, ◌++◌, ◌≤◌, All, true, IfOk, IfErr, OnOk};
+ghost use Rattle.json_reply.specs.Replies.{IsReady};
+ghost use Rattle.query_run.specs.Faults.{AskRose};
+ghost use Rattle.query_run.specs.Queries.{IsPlain, QuerySays, QueryIsShort};
+
+use crate::fault::AskFault;
+use crate::working::work;
+use cell_model::Rows;
+use json_reply::reply::{Group, Reply};
+use query_text::queries::Query;
+use std::alloc::{AllocError, Global};
+use uid_table::Uids;
+
+/// Adds groups behind others.
+fn add(groups: &mut Vec<Group>, more: Vec<Group>) -> Result<(), AllocError>
+    ensures { OnOk result (groups.new.items ≡ groups.old.items ++ more.items) }
+{
+    let mut more = more;
+    groups.append(&mut more)?;
+    Ok(())
+}
+
+/// Answers a query: the groups of its sub queries, in order.
+///
+/// Each sub query is worked alone. Its metric is resolved; then the rows of the metric in the hours from the start's to the end's are
+/// read one by one, and directly after each the names of the ids that it shows and that the sub query has not named before, pair by
+/// pair from the left, key before value. What these rows show covers every point in range that was accepted before the first of
+/// these steps, and lies within what is accepted at the end.
+///
+/// Sub queries with a downsample or filters, and times in seconds, are not built yet.
+pub fn ask<R: Rows + Drop>(
+    alloc: Global,
+    names: &mut Uids<R>,
+    query: &Query,
+) -> Result<Reply, AskFault>
+    requires order { query.now.start ≤ query.now.end }
+    requires most { query.now.end ≤ 4294967295999 }
+    requires ms { query.now.ms ≡ true }
+    requires plain { All IsPlain query.now.subs }
+    ensures says { QuerySays query.now (R.seen names.old) result (R.seen names.new) }
+    ensures few { QueryIsShort query.now (R.seen names.old) (R.seen names.new) }
+    ensures ready { IfOk result (λ reply. All IsReady reply.groups.items) }
+    ensures grows { R.stops names.old ≤ R.stops names.new }
+    ensures stopped { IfErr result (AskRose (R.stops names.old) (R.stops names.new)) }
+{
+    let mut groups = Vec::new(alloc);
+    for sub in query.subs.list() {
+        let more = work(alloc, names, query, sub)?;
+        add(&mut groups, more)?;
+    }
+    Ok(Reply { groups })
+}

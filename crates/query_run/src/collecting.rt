@@ -1,0 +1,114 @@
+//! The rows of a metric, collected as the points of series by the ids of their tags.
+ghost use Rattle.std.specs.Prelude.{◌≡◌, ◌≤◌, ℕ, All, IfErr, OnOk};
+ghost use Rattle.row_key.specs.declared.keys.RowKey.{RowKey};
+ghost use Rattle.row_key.specs.Key.{IsKey, key_bytes};
+ghost use Rattle.cell_model.specs.Layout.{base_time};
+ghost use Rattle.cell_model.specs.Seen.{IsPossible};
+ghost use Rattle.tsd_base.specs.Dots.{IsAboveAll};
+ghost use Rattle.span_merge.specs.Spans.{dots_of};
+ghost use Rattle.query_run.specs.Faults.{AskRose};
+ghost use Rattle.query_run.specs.Collecting.{Adds, CollectSays, FoundRow, RowAsked, StandsBehind};
+
+use crate::fault::AskFault;
+use crate::naming::{IdNames, name_pairs};
+use crate::row_dots::row_dots;
+use cell_model::cells::Found;
+use cell_model::rows::Rows;
+use row_key::{RowKey, read_key};
+use row_scan::Scan;
+use span_merge::spans::Spans;
+use std::alloc::{AllocError, Global};
+use tsd_base::series::Dots;
+use tsd_base::times::base_of;
+use uid_table::uids::Uids;
+
+/// The points of series by the ids of their tags, and the names of these ids.
+#[derive(Drop)]
+pub(crate) struct Collected {
+    pub(crate) spans: Spans,
+    pub(crate) names: IdNames,
+}
+
+/// The key of a row that has one.
+fn key_of(row: &[u8]) -> RowKey
+    requires { (key : RowKey) × IsKey key × (row.now ≡ key_bytes key) }
+    ensures is_key { IsKey result }
+    ensures row { row.now ≡ key_bytes result }
+{
+    match read_key(row) {
+        Ok(key) => key,
+        Err(_) => unreachable!(),
+    }
+}
+
+/// Adds points to those of a series, where there are any.
+fn add_dots(
+    alloc: Global,
+    spans: &mut Spans,
+    pairs: &[(u32, u32)],
+    dots: Dots,
+) -> Result<(), AllocError>
+    requires { All (λ d. IsAboveAll d.0 (dots_of spans.old pairs.now)) dots }
+    ensures { OnOk result (Adds spans.old pairs.now dots spans.new) }
+{
+    if dots.list().is_empty() {
+        return Ok(());
+    }
+    spans.add(alloc, pairs, dots)
+}
+
+/// Collects the points of a row from `start` to `end`, and the names of its ids.
+fn take_row<R: Rows + Drop>(
+    alloc: Global,
+    names: &mut Uids<R>,
+    start: u64,
+    end: u64,
+    found: &Found,
+    collected: &mut Collected,
+) -> Result<(), AskFault>
+    requires most { end ≤ 4294967295999 }
+    requires row { (metric : ℕ) × FoundRow (R.seen names.old) metric start end found.now }
+    requires behind { StandsBehind collected.old.spans found.now }
+    requires possible { IsPossible (R.seen names.old) }
+    ensures asked { (metric : ℕ) → FoundRow (R.seen names.old) metric start end found.now → RowAsked metric start end found.now (R.seen names.old) collected.old result (R.seen names.new) collected.new }
+    ensures possible { OnOk result (IsPossible (R.seen names.new)) }
+    ensures grows { R.stops names.old ≤ R.stops names.new }
+    ensures stopped { IfErr result (AskRose (R.stops names.old) (R.stops names.new)) }
+{
+    let key = key_of(found.row.bytes.list());
+    let dots = row_dots(alloc, &found.cells, key.base, start, end)?;
+    name_pairs(alloc, names, key.pairs.as_slice(), &mut collected.names)?;
+    add_dots(alloc, &mut collected.spans, key.pairs.as_slice(), dots)?;
+    Ok(())
+}
+
+/// Collects the rows of a metric's id, with the points from `start` to `end`.
+pub(crate) fn collect<R: Rows + Drop>(
+    alloc: Global,
+    names: &mut Uids<R>,
+    metric: u32,
+    start: u64,
+    end: u64,
+) -> Result<Collected, AskFault>
+    requires metric { metric ≤ 16777215 }
+    requires order { start ≤ end }
+    requires most { end ≤ 4294967295999 }
+    requires possible { IsPossible (R.seen names.old) }
+    ensures says { CollectSays metric start end (R.seen names.old) result (R.seen names.new) }
+    ensures possible { OnOk result (IsPossible (R.seen names.new)) }
+    ensures grows { R.stops names.old ≤ R.stops names.new }
+    ensures stopped { IfErr result (AskRose (R.stops names.old) (R.stops names.new)) }
+{
+    let mut scan = Scan::start(metric, base_of(start), base_of(end));
+    let mut collected = Collected {
+        spans: Spans::make(alloc),
+        names: IdNames::none(alloc),
+    };
+    for _ in 0..u64::MAX {
+        let Some(found) = scan.turn(alloc, names)? else {
+            return Ok(collected);
+        };
+        take_row(alloc, names, start, end, &found, &mut collected)?;
+    }
+    Err(AskFault::OutOfMemory)
+}

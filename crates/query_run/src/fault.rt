@@ -1,0 +1,46 @@
+//! Why a query isn't answered.
+ghost use Rattle.std.specs.Prelude.{◌≡◌};
+ghost use Rattle.query_run.specs.declared.fault.AskFault.TheVariants.{OutOfMemory};
+ghost use Rattle.query_run.specs.Faults.{ask_fault};
+
+use cell_model::answers::RowsFault;
+use std::alloc::AllocError;
+use tsd_base::kinds::Kind;
+use tsd_base::names::Name;
+
+/// Why a query isn't answered: the fault of its first sub query that has one.
+#[derive(Debug, Drop)]
+pub enum AskFault {
+    /// The sub query has `count` buckets, more than 1,000,000.
+    TooManyBuckets { count: u64 },
+    /// No name of this kind is the one that the sub query has.
+    Unknown { kind: Kind, name: Name },
+    /// A row that was read has two values at this time: the first cell that has one has `a`, and the first behind it that has
+    /// another has `b`. It is the first such row, and its least such time.
+    Duplicate { time: u64, a: i64, b: i64 },
+    /// A sum leaves `i64` at this time, the least of the first group that has one.
+    Overflow { time: u64 },
+    /// There was no memory for the query.
+    OutOfMemory,
+    /// The caller was stopped before one of the steps.
+    Stopped,
+}
+
+impl From<RowsFault> for AskFault {
+    ghost from_gives = { λ fault answer. answer ≡ ask_fault fault };
+
+    fn from(fault: RowsFault) -> AskFault {
+        match fault {
+            RowsFault::OutOfMemory => AskFault::OutOfMemory,
+            RowsFault::Stopped => AskFault::Stopped,
+        }
+    }
+}
+
+impl From<AllocError> for AskFault {
+    ghost from_gives = { λ _ answer. answer ≡ OutOfMemory };
+
+    fn from(_failed: AllocError) -> AskFault {
+        AskFault::OutOfMemory
+    }
+}

@@ -1,0 +1,17 @@
+//! Queries over any rows.
+#![tactic(auto)]
+
+pub mod asking;
+mod collecting;
+pub mod fault;
+mod grouping;
+pub mod laws;
+mod naming;
+mod row_dots;
+pub mod series;
+mod shared;
+mod titling;
+mod working;
+
+pub use asking::ask;
+pub use fault::AskFault;

@@ -1,0 +1,50 @@
+//! The points of one row in a range of times.
+ghost use Rattle.std.specs.Prelude.{◌≡◌, ◌+◌, ◌*◌, ◌<◌, ◌≤◌, map, All, AllPairs, IfOk};
+ghost use Rattle.qual_codec.specs.Dots.{Reads};
+ghost use Rattle.query_run.specs.RowDots.{DotsAsked, dot_at};
+
+use crate::fault::AskFault;
+use cell_model::cells::Cells;
+use qual_codec::{Dot, MergeFault};
+use row_scan::row_points;
+use std::alloc::{AllocError, Global};
+use tsd_base::series::Dots;
+
+/// The points of a row's data points, whose hour begins at this second.
+fn points_of(alloc: Global, base: u32, dots: &[Dot]) -> Result<Dots, AllocError>
+    requires { AllPairs (λ d e. d.item.offset < e.item.offset) dots.now }
+    ensures { IfOk result (λ points. points ≡ map (dot_at base) dots.now) }
+{
+    let mut points = Dots::make(alloc);
+    for dot in dots {
+        points.push(base as u64 * 1000 + dot.item.offset as u64, dot.value)?;
+    }
+    Ok(points)
+}
+
+/// The points of a row's cells with times from `start` to `end`, both included. The row's hour begins at the second `base`.
+pub(crate) fn row_dots(
+    alloc: Global,
+    cells: &Cells,
+    base: u32,
+    start: u64,
+    end: u64,
+) -> Result<Dots, AskFault>
+    requires reads { All (λ c. Reads c.qual c.value) cells.now }
+    requires from_on { start < base * 1000 + 3600000 }
+    requires up_to { base * 1000 ≤ end }
+    ensures { DotsAsked cells.now base start end result }
+{
+    let begin = base as u64 * 1000;
+    let first = start.saturating_sub(begin) as u32;
+    let last = (end - begin).min(3_599_999) as u32;
+    match row_points(alloc, cells, first, last) {
+        Ok(dots) => Ok(points_of(alloc, base, dots.as_slice())?),
+        Err(MergeFault::Conflict { offset, a, b }) => Err(AskFault::Duplicate {
+            time: begin + offset as u64,
+            a,
+            b,
+        }),
+        Err(MergeFault::OutOfMemory) => Err(AskFault::OutOfMemory),
+    }
+}
