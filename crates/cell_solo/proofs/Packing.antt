@@ -1,10 +1,11 @@
 -- What was packed last is unpacked last.
-use Rattle.std.proofs.Common.{◌≡◌, ℕ, zero, suc, ◌+◌, ◌≤◌, ◌<◌, Bool, cond, List, [], ◌∷◌, ◌++◌, length, take, drop, refl, sym, ap, ◌∙◌, arith, append_assoc}
-use Rattle.std.specs.Prelude.{sum_by, count_by, nat_eq, ℤ, slice_index_or}
+use Rattle.std.proofs.Common.{◌≡◌, ℕ, zero, suc, ◌+◌, ◌≤◌, ◌<◌, cond, List, [], ◌∷◌, ◌++◌, length, take, drop, refl, sym, ap, subst, ◌∙◌, arith}
+use Rattle.std.specs.Prelude.{sum_by, count_by, nat_eq, ℤ, All, Some, slice_get}
 use Rattle.std.proofs.Math.Seq.{take-append_seam, drop-append_seam, take-length}
-use Rattle.std.proofs.lemmas.List.{take-append-le, drop-append-le, length-append, length-drop}
+use Rattle.std.proofs.lemmas.List.{append-nil, take-append-le, drop-append-le, length-append, length-drop}
+use Rattle.std.proofs.lemmas.List.Elements.{All-push}
+use Rattle.std.proofs.lemmas.Option.{slice_get_within}
 use Rattle.std.proofs.lemmas.List.Sums.{sum_by-cons, sum_by_push}
-use Rattle.tsd_base.specs.TagList.{Pair}
 use Rattle.tsd_base.specs.Points.{DataPoint}
 use Rattle.cell_model.specs.declared.cells.Row.{Row}
 use Rattle.row_key.specs.declared.tables.Table.{Table}
@@ -14,22 +15,19 @@ use Rattle.cell_solo.specs.declared.turns.Head.{Head}
 use Rattle.cell_solo.specs.declared.turns.Shape.{Shape}
 use Rattle.cell_solo.specs.declared.turns.Shape.TheVariants as shape
 use Rattle.cell_solo.specs.declared.turns.Dropped.{Dropped}
-use Rattle.cell_solo.specs.Names.{told, told_tags, told_names, first_name, behind_name, tags_in, behind_tags}
 use Rattle.cell_solo.specs.Turns.{Turn}
 use Rattle.cell_solo.specs.declared.block.CellLengths.{CellLengths}
-use Rattle.cell_solo.specs.Packed.{row_in, row_behind, qual_in, value_in, point_in, cell_size, step_in, size_of, numbers_of, drops_of, unpacked, Fills}
-
-append_nil : {A : Type 0} (xs : List A) → xs ++ [] ≡ xs
-append_nil [] = refl
-append_nil (x ∷ xs) = ap (λ ys. x ∷ ys) (append_nil xs)
+use Rattle.cell_solo.specs.Places.{NamedRow, named_row_of, GoesOn}
+use Rattle.cell_solo.specs.Packed.{row_in, qual_in, value_in, put_at, cell_size, step_in, size_of, numbers_of, drops_of, places_of, unpacked, Fills}
+use Rattle.cell_solo.proofs.Placing.{slice_get-append_left}
 
 none : {A : Type 0} (xs : List A) → 0 ≡ length xs → xs ≡ []
 none [] e = refl
 none (x ∷ xs) e = absurd (omega (arith, e))
 
 -- the head's turn, of these parts
-abbrev pub turn_in : Head → List ℕ → List (ℕ × ℤ) → List Dropped → Turn
-turn_in h bytes numbers drops = record { caller = h.caller; step = step_in h.shape bytes numbers drops }
+abbrev pub turn_in : List NamedRow → Head → List ℕ → List (ℕ × ℤ) → List Dropped → Turn
+turn_in places h bytes numbers drops = record { caller = h.caller; step = step_in h.shape bytes numbers drops places }
 
 -- the parts are as many as the head says
 pub record HasParts (shape : Shape) (bytes : List ℕ) (numbers : List (ℕ × ℤ)) (drops : List Dropped) : Type 0 where
@@ -40,111 +38,107 @@ pub record HasParts (shape : Shape) (bytes : List ℕ) (numbers : List (ℕ × �
 whole : {A : Type 0} (n : ℕ) (xs : List A) → n ≡ length xs → take n xs ≡ xs
 whole n xs e = ap (λ (m : ℕ). take m xs) e ∙ take-length xs
 
-pub unpacked-push : (heads : List Head) (bytes : List ℕ) (numbers : List (ℕ × ℤ)) (drops : List Dropped) (h : Head) (b : List ℕ) (n : List (ℕ × ℤ)) (d : List Dropped)
-    → Fills heads bytes numbers drops → HasParts h.shape b n d → unpacked (heads ++ h ∷ []) (bytes ++ b) (numbers ++ n) (drops ++ d) ≡ unpacked heads bytes numbers drops ++ turn_in h b n d ∷ []
-unpacked-push [] bytes numbers drops h b n d fills parts =
+pub unpacked-push : (heads : List Head) (bytes : List ℕ) (numbers : List (ℕ × ℤ)) (drops : List Dropped) (places ps : List NamedRow) (h : Head) (b : List ℕ) (n : List (ℕ × ℤ)) (d : List Dropped)
+    → Fills heads bytes numbers drops places → HasParts h.shape b n d → unpacked (heads ++ h ∷ []) (bytes ++ b) (numbers ++ n) (drops ++ d) ps ≡ unpacked heads bytes numbers drops ps ++ turn_in ps h b n d ∷ []
+unpacked-push [] bytes numbers drops places ps h b n d fills parts =
     let no_bytes : bytes ≡ [] = none bytes fills.bytes_fit in
     let no_numbers : numbers ≡ [] = none numbers fills.numbers_fit in
     let no_drops : drops ≡ [] = none drops fills.drops_fit in
-    let own : turn_in h (take (size_of h.shape) (bytes ++ b)) (take (numbers_of h.shape) (numbers ++ n)) (take (drops_of h.shape) (drops ++ d)) ≡ turn_in h b n d =
-    (λ i. turn_in h (take (size_of h.shape) (no_bytes i ++ b)) (take (numbers_of h.shape) (no_numbers i ++ n)) (take (drops_of h.shape) (no_drops i ++ d)))
-    ∙ (λ i. turn_in h (whole _ b parts.bytes_are i) (whole _ n parts.numbers_are i) (whole _ d parts.drops_are i)) in
+    let own : turn_in ps h (take (size_of h.shape) (bytes ++ b)) (take (numbers_of h.shape) (numbers ++ n)) (take (drops_of h.shape) (drops ++ d)) ≡ turn_in ps h b n d =
+    (λ i. turn_in ps h (take (size_of h.shape) (no_bytes i ++ b)) (take (numbers_of h.shape) (no_numbers i ++ n)) (take (drops_of h.shape) (no_drops i ++ d)))
+    ∙ (λ i. turn_in ps h (whole _ b parts.bytes_are i) (whole _ n parts.numbers_are i) (whole _ d parts.drops_are i)) in
     ap (λ (t : Turn). t ∷ []) own
-unpacked-push (x ∷ heads) bytes numbers drops h b n d fills parts =
+unpacked-push (x ∷ heads) bytes numbers drops places ps h b n d fills parts =
     let bytes_sum : size_of x.shape + sum_by (λ (x : Head). size_of x.shape) heads ≡ length bytes = sym (sum_by-cons (λ (x : Head). size_of x.shape) x heads) ∙ fills.bytes_fit in
     let bytes_in : size_of x.shape ≤ length bytes = omega arith in
     let numbers_sum : numbers_of x.shape + sum_by (λ (x : Head). numbers_of x.shape) heads ≡ length numbers = sym (sum_by-cons (λ (x : Head). numbers_of x.shape) x heads) ∙ fills.numbers_fit in
     let numbers_in : numbers_of x.shape ≤ length numbers = omega arith in
     let drops_sum : drops_of x.shape + sum_by (λ (x : Head). drops_of x.shape) heads ≡ length drops = sym (sum_by-cons (λ (x : Head). drops_of x.shape) x heads) ∙ fills.drops_fit in
     let drops_in : drops_of x.shape ≤ length drops = omega arith in
-    let rest : Fills heads (drop (size_of x.shape) bytes) (drop (numbers_of x.shape) numbers) (drop (drops_of x.shape) drops) =
+    let rest : Fills heads (drop (size_of x.shape) bytes) (drop (numbers_of x.shape) numbers) (drop (drops_of x.shape) drops) places =
     record {
       bytes_fit = omega (arith, length-drop (size_of x.shape) bytes);
       numbers_fit = omega (arith, length-drop (numbers_of x.shape) numbers);
       drops_fit = omega (arith, length-drop (drops_of x.shape) drops);
+      places_there = λ k d lt. fills.places_there (suc k) d (omega (arith, lt));
     } in
-    (λ i. turn_in x (take-append-le (size_of x.shape) bytes b bytes_in i) (take-append-le (numbers_of x.shape) numbers n numbers_in i) (take-append-le (drops_of x.shape) drops d drops_in i)
-    ∷ unpacked (heads ++ h ∷ []) (drop-append-le (size_of x.shape) bytes b bytes_in i) (drop-append-le (numbers_of x.shape) numbers n numbers_in i) (drop-append-le (drops_of x.shape) drops d drops_in i))
-    ∙ ap (λ (ts : List Turn). turn_in x (take (size_of x.shape) bytes) (take (numbers_of x.shape) numbers) (take (drops_of x.shape) drops) ∷ ts)
-    (unpacked-push heads (drop (size_of x.shape) bytes) (drop (numbers_of x.shape) numbers) (drop (drops_of x.shape) drops) h b n d rest parts)
+    (λ i. turn_in ps x (take-append-le (size_of x.shape) bytes b bytes_in i) (take-append-le (numbers_of x.shape) numbers n numbers_in i) (take-append-le (drops_of x.shape) drops d drops_in i)
+    ∷ unpacked (heads ++ h ∷ []) (drop-append-le (size_of x.shape) bytes b bytes_in i) (drop-append-le (numbers_of x.shape) numbers n numbers_in i) (drop-append-le (drops_of x.shape) drops d drops_in i) ps)
+    ∙ ap (λ (ts : List Turn). turn_in ps x (take (size_of x.shape) bytes) (take (numbers_of x.shape) numbers) (take (drops_of x.shape) drops) ∷ ts)
+    (unpacked-push heads (drop (size_of x.shape) bytes) (drop (numbers_of x.shape) numbers) (drop (drops_of x.shape) drops) places ps h b n d rest parts)
 
--- what a head and its parts make of packed turns
-pub record Pushed (heads : List Head) (bytes : List ℕ) (numbers : List (ℕ × ℤ)) (drops : List Dropped) (was : List Turn) (turn : Turn) : Type 0 where
-  pub fills : Fills heads bytes numbers drops
-  pub list : unpacked heads bytes numbers drops ≡ was ++ turn ∷ []
+-- steps keep their places where more places are put behind
+step-kept : (shape : Shape) (bytes : List ℕ) (numbers : List (ℕ × ℤ)) (drops : List Dropped) (places more : List NamedRow) → places_of shape ≤ length places
+    → step_in shape bytes numbers drops (places ++ more) ≡ step_in shape bytes numbers drops places
+step-kept shape.Open bytes numbers drops places more le = refl
+step-kept (shape.Read table row) bytes numbers drops places more le = refl
+step-kept (shape.NextRow table from to) bytes numbers drops places more le = refl
+step-kept (shape.Bump kind) bytes numbers drops places more le = refl
+step-kept (shape.Claim table cell) bytes numbers drops places more le = refl
+step-kept (shape.PutPoint fine place qual value) bytes numbers drops places more le = ap (put_at fine qual value bytes numbers) (slice_get-append_left places more place (omega (arith, le)))
+step-kept (shape.PutMerged table cell) bytes numbers drops places more le = refl
+step-kept shape.DropCells bytes numbers [] places more le = refl
+step-kept shape.DropCells bytes numbers (d ∷ drops) places more le = refl
 
-pub pushed : (heads : List Head) (bytes : List ℕ) (numbers : List (ℕ × ℤ)) (drops : List Dropped) (h : Head) (b : List ℕ) (n : List (ℕ × ℤ)) (d : List Dropped) (step : Step)
+unpacked-kept : (heads : List Head) (bytes : List ℕ) (numbers : List (ℕ × ℤ)) (drops : List Dropped) (places more : List NamedRow) → All (λ (h : Head). places_of h.shape ≤ length places) heads
+    → unpacked heads bytes numbers drops (places ++ more) ≡ unpacked heads bytes numbers drops places
+unpacked-kept [] bytes numbers drops places more there = refl
+unpacked-kept (h ∷ heads) bytes numbers drops places more there =
+    let first : places_of h.shape ≤ length places = there zero h (omega arith) in
+    let rest : All (λ (h : Head). places_of h.shape ≤ length places) heads = λ k d lt. there (suc k) d (omega (arith, lt)) in
+    let step = step-kept h.shape (take (size_of h.shape) bytes) (take (numbers_of h.shape) numbers) (take (drops_of h.shape) drops) places more first in
+    let others = unpacked-kept heads (drop (size_of h.shape) bytes) (drop (numbers_of h.shape) numbers) (drop (drops_of h.shape) drops) places more rest in
+    λ i. record { caller = h.caller; step = step i } ∷ others i
+
+-- what a head, its parts and its place make of packed turns
+pub record Pushed (heads : List Head) (bytes : List ℕ) (numbers : List (ℕ × ℤ)) (drops : List Dropped) (places : List NamedRow) (was : List Turn) (turn : Turn) : Type 0 where
+  pub fills : Fills heads bytes numbers drops places
+  pub list : unpacked heads bytes numbers drops places ≡ was ++ turn ∷ []
+
+pub pushed : (heads : List Head) (bytes : List ℕ) (numbers : List (ℕ × ℤ)) (drops : List Dropped) (places : List NamedRow) (h : Head) (b : List ℕ) (n : List (ℕ × ℤ)) (d : List Dropped) (more : List NamedRow) (step : Step)
+    (heads' : List Head) (bytes' : List ℕ) (numbers' : List (ℕ × ℤ)) (drops' : List Dropped) (places' : List NamedRow)
+    → Fills heads bytes numbers drops places → HasParts h.shape b n d → places_of h.shape ≤ length places' → step_in h.shape b n d places' ≡ step
+    → heads' ≡ heads ++ h ∷ [] → bytes' ≡ bytes ++ b → numbers' ≡ numbers ++ n → drops' ≡ drops ++ d → places' ≡ places ++ more
+    → Pushed heads' bytes' numbers' drops' places' (unpacked heads bytes numbers drops places) (record { caller = h.caller; step = step })
+pushed heads bytes numbers drops places h b n d more step heads' bytes' numbers' drops' places' fills parts there is eh eb en ed ep =
+    let longer : length places ≤ length places' = omega (arith, ap length ep, length-append places more) in
+    let all : All (λ (x : Head). places_of x.shape ≤ length places') heads = λ k x lt. (let le = fills.places_there k x lt in omega (arith, le, longer)) in
+    record {
+      fills = record {
+        bytes_fit = ap (sum_by (λ (x : Head). size_of x.shape)) eh ∙ sum_by_push (λ (x : Head). size_of x.shape) heads h ∙ (let f = fills.bytes_fit in let p = parts.bytes_are in omega (arith, f, p, length-append bytes b)) ∙ ap length (sym eb);
+        numbers_fit = ap (sum_by (λ (x : Head). numbers_of x.shape)) eh ∙ sum_by_push (λ (x : Head). numbers_of x.shape) heads h ∙ (let f = fills.numbers_fit in let p = parts.numbers_are in omega (arith, f, p, length-append numbers n)) ∙ ap length (sym en);
+        drops_fit = ap (sum_by (λ (x : Head). drops_of x.shape)) eh ∙ sum_by_push (λ (x : Head). drops_of x.shape) heads h ∙ (let f = fills.drops_fit in let p = parts.drops_are in omega (arith, f, p, length-append drops d)) ∙ ap length (sym ed);
+        places_there = subst (All (λ (x : Head). places_of x.shape ≤ length places')) (sym eh) (All-push (λ (x : Head). places_of x.shape ≤ length places') heads h all there);
+      };
+      list = (λ i. unpacked (eh i) (eb i) (en i) (ed i) places') ∙ unpacked-push heads bytes numbers drops places places' h b n d fills parts
+          ∙ ap (λ (ts : List Turn). ts ++ turn_in places' h b n d ∷ []) (ap (unpacked heads bytes numbers drops) ep ∙ unpacked-kept heads bytes numbers drops places more fills.places_there)
+          ∙ ap (λ (s : Step). unpacked heads bytes numbers drops places ++ record { caller = h.caller; step = s } ∷ []) is;
+    }
+
+-- the same of a step that has no place
+pub pushed_alone : (heads : List Head) (bytes : List ℕ) (numbers : List (ℕ × ℤ)) (drops : List Dropped) (places : List NamedRow) (h : Head) (b : List ℕ) (n : List (ℕ × ℤ)) (d : List Dropped) (step : Step)
     (heads' : List Head) (bytes' : List ℕ) (numbers' : List (ℕ × ℤ)) (drops' : List Dropped)
-    → Fills heads bytes numbers drops → HasParts h.shape b n d → step_in h.shape b n d ≡ step
+    → Fills heads bytes numbers drops places → HasParts h.shape b n d → places_of h.shape ≡ 0 → step_in h.shape b n d places ≡ step
     → heads' ≡ heads ++ h ∷ [] → bytes' ≡ bytes ++ b → numbers' ≡ numbers ++ n → drops' ≡ drops ++ d
-    → Pushed heads' bytes' numbers' drops' (unpacked heads bytes numbers drops) (record { caller = h.caller; step = step })
-pushed heads bytes numbers drops h b n d step heads' bytes' numbers' drops' fills parts is eh eb en ed = record {
-  fills = record {
-    bytes_fit = ap (sum_by (λ (x : Head). size_of x.shape)) eh ∙ sum_by_push (λ (x : Head). size_of x.shape) heads h ∙ (let f = fills.bytes_fit in let p = parts.bytes_are in omega (arith, f, p, length-append bytes b)) ∙ ap length (sym eb);
-    numbers_fit = ap (sum_by (λ (x : Head). numbers_of x.shape)) eh ∙ sum_by_push (λ (x : Head). numbers_of x.shape) heads h ∙ (let f = fills.numbers_fit in let p = parts.numbers_are in omega (arith, f, p, length-append numbers n)) ∙ ap length (sym en);
-    drops_fit = ap (sum_by (λ (x : Head). drops_of x.shape)) eh ∙ sum_by_push (λ (x : Head). drops_of x.shape) heads h ∙ (let f = fills.drops_fit in let p = parts.drops_are in omega (arith, f, p, length-append drops d)) ∙ ap length (sym ed);
-  };
-  list = (λ i. unpacked (eh i) (eb i) (en i) (ed i)) ∙ unpacked-push heads bytes numbers drops h b n d fills parts
-      ∙ ap (λ (s : Step). unpacked heads bytes numbers drops ++ record { caller = h.caller; step = s } ∷ []) is;
-}
+    → Pushed heads' bytes' numbers' drops' places (unpacked heads bytes numbers drops places) (record { caller = h.caller; step = step })
+pushed_alone heads bytes numbers drops places h b n d step heads' bytes' numbers' drops' fills parts placeless is eh eb en ed =
+    pushed heads bytes numbers drops places h b n d [] step heads' bytes' numbers' drops' places fills parts (omega (arith, placeless)) is eh eb en ed (sym (append-nil places))
 
 -- nothing is put behind
 pub same : {A : Type 0} (xs ys : List A) → ys ≡ xs → ys ≡ xs ++ []
-same xs ys e = e ∙ sym (append_nil xs)
+same xs ys e = e ∙ sym (append-nil xs)
 
-pub length-unpacked : (heads : List Head) (bytes : List ℕ) (numbers : List (ℕ × ℤ)) (drops : List Dropped) → length (unpacked heads bytes numbers drops) ≡ length heads
-length-unpacked [] bytes numbers drops = refl
-length-unpacked (h ∷ heads) bytes numbers drops = ap suc (length-unpacked heads _ _ _)
+pub length-unpacked : (heads : List Head) (bytes : List ℕ) (numbers : List (ℕ × ℤ)) (drops : List Dropped) (places : List NamedRow) → length (unpacked heads bytes numbers drops places) ≡ length heads
+length-unpacked [] bytes numbers drops places = refl
+length-unpacked (h ∷ heads) bytes numbers drops places = ap suc (length-unpacked heads _ _ _ places)
 
-pub count-unpacked : (caller : ℕ) (heads : List Head) (bytes : List ℕ) (numbers : List (ℕ × ℤ)) (drops : List Dropped)
-    → count_by (λ (t : Turn). nat_eq t.caller caller) (unpacked heads bytes numbers drops) ≡ count_by (λ (h : Head). nat_eq h.caller caller) heads
-count-unpacked caller [] bytes numbers drops = refl
-count-unpacked caller (h ∷ heads) bytes numbers drops =
-    sum_by-cons (λ (t : Turn). cond (nat_eq t.caller caller) 1 0) (turn_in h (take (size_of h.shape) bytes) (take (numbers_of h.shape) numbers) (take (drops_of h.shape) drops)) (unpacked heads (drop (size_of h.shape) bytes) (drop (numbers_of h.shape) numbers) (drop (drops_of h.shape) drops))
-    ∙ ap (λ (n : ℕ). cond (nat_eq h.caller caller) 1 0 + n) (count-unpacked caller heads (drop (size_of h.shape) bytes) (drop (numbers_of h.shape) numbers) (drop (drops_of h.shape) drops))
+pub count-unpacked : (caller : ℕ) (heads : List Head) (bytes : List ℕ) (numbers : List (ℕ × ℤ)) (drops : List Dropped) (ps : List NamedRow)
+    → count_by (λ (t : Turn). nat_eq t.caller caller) (unpacked heads bytes numbers drops ps) ≡ count_by (λ (h : Head). nat_eq h.caller caller) heads
+count-unpacked caller [] bytes numbers drops ps = refl
+count-unpacked caller (h ∷ heads) bytes numbers drops ps =
+    sum_by-cons (λ (t : Turn). cond (nat_eq t.caller caller) 1 0) (turn_in ps h (take (size_of h.shape) bytes) (take (numbers_of h.shape) numbers) (take (drops_of h.shape) drops)) (unpacked heads (drop (size_of h.shape) bytes) (drop (numbers_of h.shape) numbers) (drop (drops_of h.shape) drops) ps)
+    ∙ ap (λ (n : ℕ). cond (nat_eq h.caller caller) 1 0 + n) (count-unpacked caller heads (drop (size_of h.shape) bytes) (drop (numbers_of h.shape) numbers) (drop (drops_of h.shape) drops) ps)
     ∙ sym (sum_by-cons (λ (x : Head). cond (nat_eq x.caller caller) 1 0) h heads)
-
--- names are read back
-read_first : (name more : List ℕ) → first_name (told name ++ more) ≡ name
-read_first name more = take-append_seam name more
-
-read_behind : (name more : List ℕ) → behind_name (told name ++ more) ≡ more
-read_behind name more = drop-append_seam name more
-
-pub tags_back : (tags : List Pair) (more : List ℕ) → tags_in (length tags) (told_tags tags ++ more) ≡ tags
-tags_back [] more = refl
-tags_back (t ∷ tags) more =
-    let spread : told_tags (t ∷ tags) ++ more ≡ told t.0 ++ (told t.1 ++ (told_tags tags ++ more)) =
-    append_assoc (told t.0) (told t.1 ++ told_tags tags) more ∙ ap (λ (xs : List ℕ). told t.0 ++ xs) (append_assoc (told t.1) (told_tags tags) more) in
-    let behind : behind_name (told_tags (t ∷ tags) ++ more) ≡ told t.1 ++ (told_tags tags ++ more) = ap behind_name spread ∙ read_behind t.0 _ in
-    let one : first_name (told_tags (t ∷ tags) ++ more) ≡ t.0 = ap first_name spread ∙ read_first t.0 _ in
-    let two : first_name (behind_name (told_tags (t ∷ tags) ++ more)) ≡ t.1 = ap first_name behind ∙ read_first t.1 _ in
-    let rest : behind_name (behind_name (told_tags (t ∷ tags) ++ more)) ≡ told_tags tags ++ more = ap behind_name behind ∙ read_behind t.1 _ in
-    λ i. (one i, two i) ∷ (ap (tags_in (length tags)) rest ∙ tags_back tags more) i
-
--- what a point's names and the rest of its parts are
-abbrev pub parts_of : List ℕ → List Pair → List ℕ → List ℕ
-parts_of metric tags rest = told_names metric tags ++ rest
-
-pub point_back : (metric : List ℕ) (tags : List Pair) (rest : List ℕ) (fine : Bool) (time : ℕ) (value : ℤ)
-    → point_in fine (length tags) (parts_of metric tags rest) (time, value) ≡ record { metric = metric; tags = tags; time = time; fine = fine; value = value }
-point_back metric tags rest fine time value =
-    let spread : parts_of metric tags rest ≡ told metric ++ (told_tags tags ++ rest) = append_assoc (told metric) (told_tags tags) rest in
-    let one : first_name (parts_of metric tags rest) ≡ metric = ap first_name spread ∙ read_first metric _ in
-    let two : tags_in (length tags) (behind_name (parts_of metric tags rest)) ≡ tags = ap (λ (xs : List ℕ). tags_in (length tags) (behind_name xs)) spread ∙ ap (tags_in (length tags)) (read_behind metric _) ∙ tags_back tags rest in
-    λ i. record { metric = one i; tags = two i; time = time; fine = fine; value = value }
-
--- the row is read back behind the names
-tags_behind : (tags : List Pair) (more : List ℕ) → behind_tags (length tags) (told_tags tags ++ more) ≡ more
-tags_behind [] more = refl
-tags_behind (t ∷ tags) more =
-    let spread : told_tags (t ∷ tags) ++ more ≡ told t.0 ++ (told t.1 ++ (told_tags tags ++ more)) =
-    append_assoc (told t.0) (told t.1 ++ told_tags tags) more ∙ ap (λ (xs : List ℕ). told t.0 ++ xs) (append_assoc (told t.1) (told_tags tags) more) in
-    let behind : behind_name (told_tags (t ∷ tags) ++ more) ≡ told t.1 ++ (told_tags tags ++ more) = ap behind_name spread ∙ read_behind t.0 _ in
-    ap (behind_tags (length tags)) (ap behind_name behind ∙ read_behind t.1 _) ∙ tags_behind tags more
-
-names_behind : (metric : List ℕ) (tags : List Pair) (more : List ℕ) → behind_tags (length tags) (behind_name (told_names metric tags ++ more)) ≡ more
-names_behind metric tags more = ap (λ (xs : List ℕ). behind_tags (length tags) (behind_name xs)) (append_assoc (told metric) (told_tags tags) more) ∙ ap (behind_tags (length tags)) (read_behind metric _) ∙ tags_behind tags more
 
 -- the parts of a cell are read back
 abbrev pub lengths_of : List ℕ → List ℕ → List ℕ → CellLengths
@@ -178,49 +172,22 @@ range_back table from to from' to' e f =
     (λ i. NextRow table (take (length (e i)) (from ++ to)) (take (length (f i)) (drop (length (e i)) (from ++ to))))
     ∙ (λ i. NextRow table (take-append_seam from to i) ((ap (take (length to)) (drop-append_seam from to) ∙ take-length to) i))
 
--- one part and then another
-pub written_twice : (old middle new a b x y : List ℕ) → middle ≡ old ++ x → new ≡ middle ++ y → x ≡ a → y ≡ b → new ≡ old ++ (a ++ b)
-written_twice old middle new a b x y m n e f = n ∙ (λ i. m i ++ f i) ∙ ap (λ (z : List ℕ). (old ++ z) ++ b) e ∙ append_assoc old a b
+-- a put is read back of its place, of its qualifier and value, and of its time and number
+pub put_back : (point : DataPoint) (row : Row) (qual value qual' value' : List ℕ) (place : ℕ) (places : List NamedRow) → qual' ≡ qual → value' ≡ value → slice_get places place ≡ Some (named_row_of point row)
+    → step_in (shape.PutPoint point.fine place (length qual') (length value')) (qual ++ value) ((point.time, point.value) ∷ []) [] places ≡ PutPoint point row qual value
+put_back point row qual value qual' value' place places q v e =
+    (λ i. put_at point.fine (length (q i)) (length (v i)) (qual ++ value) ((point.time, point.value) ∷ []) (e i))
+    ∙ (λ i. PutPoint point row (take-append_seam qual value i) ((ap (take (length value)) (drop-append_seam qual value) ∙ take-length value) i))
 
-told_more : (pairs : List Pair) (i : ℕ) (p : Pair) → i < length pairs → p ≡ slice_index_or pairs i p → told_tags (take (suc i) pairs) ≡ told_tags (take i pairs) ++ (told p.0 ++ told p.1)
-told_more [] i p lt e = absurd (omega (arith, lt))
-told_more (t ∷ pairs) zero p lt e = ap (λ (xs : List ℕ). told t.0 ++ xs) (append_nil (told t.1)) ∙ ap (λ (q : Pair). told q.0 ++ told q.1) (sym e)
-told_more (t ∷ pairs) (suc i) p lt e =
-    ap (λ (xs : List ℕ). told t.0 ++ (told t.1 ++ xs)) (told_more pairs i p (omega (arith, lt)) e)
-    ∙ ap (λ (xs : List ℕ). told t.0 ++ xs) (sym (append_assoc (told t.1) (told_tags (take i pairs)) (told p.0 ++ told p.1)))
-    ∙ sym (append_assoc (told t.0) (told t.1 ++ told_tags (take i pairs)) (told p.0 ++ told p.1))
-
--- one more pair of names
-pub told_next : (pairs : List Pair) (i : ℕ) (p : Pair) (old before middle new : List ℕ) → i < length pairs → p ≡ slice_index_or pairs i p
-    → before ≡ old ++ told_tags (take i pairs) → middle ≡ before ++ told p.0 → new ≡ middle ++ told p.1 → new ≡ old ++ told_tags (take (i + 1) pairs)
-told_next pairs i p old before middle new lt e b m n =
-    let next : i + 1 ≡ suc i = omega arith in
-    written_twice before middle new (told p.0) (told p.1) (told p.0) (told p.1) m n refl refl
-    ∙ ap (λ (xs : List ℕ). xs ++ (told p.0 ++ told p.1)) b ∙ append_assoc old (told_tags (take i pairs)) (told p.0 ++ told p.1)
-    ∙ ap (λ (xs : List ℕ). old ++ xs) (sym (told_more pairs i p lt e)) ∙ ap (λ (k : ℕ). old ++ told_tags (take k pairs)) (sym next)
-
--- names and row as one part
-pub put_parts : (metric : List ℕ) (tags : List Pair) (row qual value : List ℕ) → parts_of metric tags (cell_bytes row qual value) ≡ cell_bytes (told_names metric tags ++ row) qual value
-put_parts metric tags row qual value = sym (append_assoc (told_names metric tags) row (qual ++ value))
-
-pub put_lengths : (metric : List ℕ) (tags : List Pair) (cell : CellLengths) (row qual value : List ℕ)
-    → cell ≡ record { row = length (told_names metric tags) + length row; qual = length qual; value = length value } → cell ≡ lengths_of (told_names metric tags ++ row) qual value
-put_lengths metric tags cell row qual value e =
-    e ∙ (λ i. record { row = sym (length-append (told_names metric tags) row) i; qual = length qual; value = length value })
-
--- a point is read back of its names, its cell's parts, and its time and value
-pub put_back : (point : DataPoint) (tags : ℕ) (cell : CellLengths) (row : Row) (qual value : List ℕ) → tags ≡ length point.tags → cell ≡ lengths_of (told_names point.metric point.tags ++ row.bytes) qual value
-    → step_in (shape.PutPoint row.table point.fine tags cell) (parts_of point.metric point.tags (cell_bytes row.bytes qual value)) ((point.time, point.value) ∷ []) [] ≡ PutPoint point row qual value
-put_back point tags cell row qual value t e =
-    let bytes = parts_of point.metric point.tags (cell_bytes row.bytes qual value) in
-    let same_point : point_in point.fine tags bytes (point.time, point.value) ≡ point =
-    ap (λ (k : ℕ). point_in point.fine k bytes (point.time, point.value)) t ∙ point_back point.metric point.tags (cell_bytes row.bytes qual value) point.fine point.time point.value in
-    let same_row : row_behind row.table tags (told_names point.metric point.tags ++ row.bytes) ≡ row =
-    ap (λ (k : ℕ). row_behind row.table k (told_names point.metric point.tags ++ row.bytes)) t ∙ (λ i. record { table = row.table; bytes = names_behind point.metric point.tags row.bytes i }) in
-    ap (λ (p : DataPoint). PutPoint p (row_behind row.table tags (take cell.row bytes)) (qual_in cell bytes) (value_in cell bytes)) same_point
-    ∙ cell_back (λ (r q v : List ℕ). PutPoint point (row_behind row.table tags r) q v) cell (told_names point.metric point.tags ++ row.bytes) qual value bytes e (put_parts point.metric point.tags row.bytes qual value)
-    ∙ ap (λ (r : Row). PutPoint point r qual value) same_row
-
-pub put_length : (metric : List ℕ) (tags : List Pair) (cell : CellLengths) (row qual value : List ℕ) → cell ≡ lengths_of (told_names metric tags ++ row) qual value
-    → cell_size cell ≡ length (parts_of metric tags (cell_bytes row qual value))
-put_length metric tags cell row qual value e = cell_length cell (told_names metric tags ++ row) qual value e ∙ sym (ap length (put_parts metric tags row qual value))
+-- what a put of a point makes of packed turns
+pub put_pushed : (heads : List Head) (bytes : List ℕ) (numbers : List (ℕ × ℤ)) (drops : List Dropped) (places : List NamedRow) (caller : ℕ) (point : DataPoint) (row : Row) (qual value qual' value' : List ℕ) (place : ℕ)
+    (heads' : List Head) (bytes' : List ℕ) (numbers' : List (ℕ × ℤ)) (places' : List NamedRow)
+    → Fills heads bytes numbers drops places → qual' ≡ qual → value' ≡ value → slice_get places' place ≡ Some (named_row_of point row) → GoesOn places places'
+    → heads' ≡ heads ++ record { caller = caller; shape = shape.PutPoint point.fine place (length qual') (length value') } ∷ [] → bytes' ≡ bytes ++ (qual ++ value) → numbers' ≡ numbers ++ (point.time, point.value) ∷ []
+    → Pushed heads' bytes' numbers' drops places' (unpacked heads bytes numbers drops places) (record { caller = caller; step = PutPoint point row qual value })
+put_pushed heads bytes numbers drops places caller point row qual value qual' value' place heads' bytes' numbers' places' fills q v stands kept eh eb en =
+    let within : place < length places' = slice_get_within places' place (named_row_of point row) stands in
+    let there : place + 1 ≤ length places' = omega (arith, within) in
+    pushed heads bytes numbers drops places (record { caller = caller; shape = shape.PutPoint point.fine place (length qual') (length value') }) (qual ++ value) ((point.time, point.value) ∷ []) [] kept.0 (PutPoint point row qual value)
+    heads' bytes' numbers' drops places' fills (record { bytes_are = range_length qual value qual' value' q v; numbers_are = refl; drops_are = refl }) there
+    (put_back point row qual value qual' value' place places' q v stands) eh eb en (same drops drops refl) kept.1

@@ -1,4 +1,5 @@
 pub mod Names
 pub mod Turns
+pub mod Places
 pub mod Packed
 pub mod Laws

@@ -11,7 +11,7 @@ use tsd_base::points::Point;
 /// More bytes than the names of a point take: its metric and 8 tags, each name of up to 255 bytes with one byte before it.
 pub const MOST_NAMES: usize = 17 * 256;
 
-/// How many bytes each part of a cell has. Where a point's names stand before its row, they are counted with the row.
+/// How many bytes each part of a cell has.
 #[derive(Clone, Copy, Drop)]
 pub struct CellLengths {
     pub row: u32,
@@ -31,6 +31,17 @@ pub fn write(block: &mut Vec<u8>, part: &[u8])
         Ok(()) => {}
         Err(_) => unreachable!(),
     }
+}
+
+/// Writes one part and then another.
+#[inline]
+pub fn write_both(block: &mut Vec<u8>, first: &[u8], second: &[u8])
+    requires { vec_len block.old + (length first.now + length second.now) ≤ vec_capacity block.old }
+    ensures items { block.new.items ≡ block.old.items ++ (first.now ++ second.now) }
+    ensures capacity { vec_capacity block.old ≤ vec_capacity block.new }
+{
+    write(block, first);
+    write(block, second);
 }
 
 /// Writes row, qualifier and value, and answers how long they are.
@@ -91,28 +102,4 @@ pub fn write_names(block: &mut Vec<u8>, point: &Point) -> u32
     write_name(block, &point.metric);
     write_tags(block, point.tags.pairs());
     (block.len() - before) as u32
-}
-
-/// Writes the names of a point, and its row, qualifier and value behind them. It answers how long they are, names and row as
-/// one.
-pub fn write_point(
-    block: &mut Vec<u8>,
-    point: &Point,
-    row: &Row,
-    qual: &Bytes,
-    value: &Bytes,
-) -> CellLengths
-    requires room { vec_len block.old + (4352 + (length row.now.bytes + length qual.now + length value.now)) ≤ vec_capacity block.old }
-    requires fits { 4352 + (length row.now.bytes + length qual.now + length value.now) < 2 ^ 32 }
-    ensures items { block.new.items ≡ block.old.items ++ (told_names point.now.metric point.now.tags ++ (row.now.bytes ++ (qual.now ++ value.now))) }
-    ensures capacity { vec_capacity block.old ≤ vec_capacity block.new }
-    ensures lengths { result ≡ record { row = length (told_names point.now.metric point.now.tags) + length row.now.bytes; qual = length qual.now; value = length value.now } }
-{
-    let names = write_names(block, point);
-    let cell = write_cell(block, row, qual, value);
-    CellLengths {
-        row: names + cell.row,
-        qual: cell.qual,
-        value: cell.value,
-    }
 }

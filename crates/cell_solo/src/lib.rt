@@ -3,6 +3,7 @@
 
 mod block;
 pub mod laws;
+mod places;
 pub mod solo;
 mod turns;
 

@@ -5,7 +5,8 @@ ghost use Rattle.cell_model.specs.declared.events.Step.TheVariants.{Open, Read, 
 ghost use Rattle.cell_solo.specs.declared.turns.Head.{Head};
 ghost use Rattle.cell_solo.specs.Turns.{Turn};
 
-use crate::block::{CellLengths, write, write_cell, write_point};
+use crate::block::{CellLengths, write, write_both, write_cell};
+use crate::places::Places;
 use cell_model::cells::{Drops, Row};
 use qual_codec::Bytes;
 use row_key::Table;
@@ -41,10 +42,10 @@ enum Shape {
         cell: CellLengths,
     },
     PutPoint {
-        table: Table,
         fine: bool,
-        tags: u8,
-        cell: CellLengths,
+        place: u32,
+        qual: u32,
+        value: u32,
     },
     PutMerged {
         table: Table,
@@ -69,15 +70,17 @@ struct Dropped {
 
 /// Steps with their callers, the first one first.
 ///
-/// The bytes of all parts are one block; beside them a step takes a head of 20 bytes, and a point 16 bytes for its time and
-/// its value, and one for each of its names. A drop is kept as it was given. Contracts see the list of turns, and for how
-/// much more there is room.
+/// A step takes a head of 20 bytes, and the bytes of its parts, which are one block. A put of a point takes 16 bytes more for
+/// its time and its value, and has only its qualifier and its value in that block. Its names and its row stand at its place,
+/// which it shares with the put of a point before it where these are the same. A drop is kept as it was given. Contracts see
+/// the list of turns, and for how much more there is room.
 #[derive(Drop)]
 pub struct Turns {
     heads: Vec<Head>,
     bytes: Vec<u8>,
     numbers: Vec<(u64, i64)>,
     drops: Vec<Dropped>,
+    places: Places,
 }
 
 /// How many heads are this caller's.
@@ -93,9 +96,9 @@ impl Model for Turns {
 
     ghost Value = { TurnList };
 
-    ghost view = { λ t. record { list = unpacked t.heads.items t.bytes.items t.numbers.items t.drops.items; spare = min (vec_capacity t.heads - vec_len t.heads) (min (vec_capacity t.numbers - vec_len t.numbers) (vec_capacity t.drops - vec_len t.drops)); room = vec_capacity t.bytes - vec_len t.bytes } };
+    ghost view = { λ t. record { list = unpacked t.heads.items t.bytes.items t.numbers.items t.drops.items t.places.list; spare = min (vec_capacity t.heads - vec_len t.heads) (min (vec_capacity t.numbers - vec_len t.numbers) (min (vec_capacity t.drops - vec_len t.drops) t.places.spare)); room = min (vec_capacity t.bytes - vec_len t.bytes) t.places.room } };
 
-    ghost invariant = { λ t. Fills t.heads.items t.bytes.items t.numbers.items t.drops.items };
+    ghost invariant = { λ t. Fills t.heads.items t.bytes.items t.numbers.items t.drops.items t.places.list };
 }
 
 impl Turns {
@@ -108,6 +111,7 @@ impl Turns {
             bytes: Vec::new(alloc),
             numbers: Vec::new(alloc),
             drops: Vec::new(alloc),
+            places: Places::make(alloc),
         }
     }
 
@@ -127,8 +131,8 @@ impl Turns {
         count_heads(&self.heads, caller) as u64
     }
 
-    /// Makes room for 9 more steps, and for this many bytes of the next one. It fails for want of memory, or where these are
-    /// 4 GiB.
+    /// Makes room for 9 more steps, and for this many bytes of the next one. It fails for want of memory, where these are 4 GiB,
+    /// or where 9 more places of points would have no number of 32 bits.
     pub fn reserve(&mut self, bytes: usize) -> Result<(), AllocError>
         ensures list { self.new.list ≡ self.old.list }
         ensures spare { OnOk result (9 ≤ self.new.spare) }
@@ -138,6 +142,7 @@ impl Turns {
         if bytes > MOST {
             return Err(AllocError);
         }
+        self.places.reserve(ROOM, bytes)?;
         self.heads.reserve(ROOM)?;
         self.numbers.reserve(ROOM)?;
         self.drops.reserve(ROOM)?;
@@ -233,16 +238,16 @@ impl Turns {
         ensures list { self.new.list ≡ self.old.list ++ record { caller = caller; step = PutPoint (data_point point.now) row.now qual.now value.now } ∷ [] }
         ensures spare { self.old.spare ≤ self.new.spare + 1 }
     {
-        let cell = write_point(&mut self.bytes, point, row, qual, value);
-        let tags = point.tags.pairs().len() as u8;
+        let place = self.places.find_or_add(point, row);
+        write_both(&mut self.bytes, qual.list(), value.list());
         self.numbers.push_reserved((point.time, point.value));
         self.heads.push_reserved(Head {
             caller,
             shape: Shape::PutPoint {
-                table: row.table,
                 fine: point.fine,
-                tags,
-                cell,
+                place,
+                qual: qual.list().len() as u32,
+                value: value.list().len() as u32,
             },
         });
     }

@@ -1,5 +1,5 @@
 use Rattle.std.proofs.Common.{arith}
-use Rattle.cell_solo.proofs.Packing.{told_next}
+use Rattle.cell_solo.proofs.Placing.{told_next}
 use Rattle.cell_solo.proofs.block.write_tags.Goals as goal
 
 pub loop-pair-preserved : goal.loop-pair-preserved

@@ -9,5 +9,5 @@ use Rattle.cell_solo.proofs.turns.Turns.count.Goals as goal
 pub returns : goal.returns
 returns c =
     c.count_heads.ensures ∙ ap (λ (heads : List Head). count_by (λ (h : Head). nat_eq h.caller c.args.caller) heads) c.deref.ensures.value
-    ∙ sym (count-unpacked c.args.caller c.self.inside.heads.items c.self.inside.bytes.items c.self.inside.numbers.items c.self.inside.drops.items)
+    ∙ sym (count-unpacked c.args.caller c.self.inside.heads.items c.self.inside.bytes.items c.self.inside.numbers.items c.self.inside.drops.items c.self.inside.places.list)
     ∙ ap (λ (t : TurnList). count_by (λ (u : Turn). nat_eq u.caller c.args.caller) t.list) c.self.view_is
