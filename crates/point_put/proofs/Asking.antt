@@ -16,7 +16,7 @@ use Rattle.uid_table.specs.declared.answers.AssignFault.TheVariants as assign
 use Rattle.uid_table.specs.declared.answers.ResolveFault.TheVariants as resolve
 use Rattle.uid_table.specs.Answers.{answered_id}
 use Rattle.uid_table.specs.Shown.{HasShown}
-use Rattle.uid_table.specs.Steps.{MadeSo, DidLook, Gave, GaveUp, AssignMade, ResolveMade}
+use Rattle.uid_table.specs.Steps.{MadeSo, DidLook, LookedOrKept, Gave, GaveUp, AssignMade, ResolveMade}
 use Rattle.uid_table.specs.Steps.GaveUp.{before, bumped, reversed}
 use Rattle.point_put.specs.declared.config.Config.{Config}
 use Rattle.point_put.specs.declared.fault.PutFault.{PutFault}
@@ -42,8 +42,12 @@ given_up c kind name d _ m l (reversed id b r) = ForName.reverse id m l b r
 all_given : (c : Config) (kind : Kind) (name : List ℕ) (id : ℕ) (reply : Claimed) (d : Placed) (rest list : List Placed) → makes c kind ≡ true → list ≡ d ∷ rest → DidLook d kind name None → Gave kind name id reply rest → ForName c kind name list
 all_given c kind name id reply d rest list m is l g = subst (ForName c kind name) (sym (is ∙ ap (λ xs. d ∷ xs) g.list_is)) (ForName.forward id reply m l g.bumped g.reversed g.forwarded)
 
+looked_or_kept : (c : Config) (kind : Kind) (name : List ℕ) (id : ℕ) (list : List Placed) → LookedOrKept kind name id list → ForName c kind name list
+looked_or_kept c kind name id list (inl none) = subst (ForName c kind name) (sym none) ForName.none
+looked_or_kept c kind name id list (inr (d, is, l)) = subst (ForName c kind name) (sym is) (ForName.look _ l)
+
 pub for_assign : (c : Config) (kind : Kind) (name : List ℕ) (r : Result Assigned AssignFault) (list : List Placed) → makes c kind ≡ true → AssignMade kind name r list → ForName c kind name list
-for_assign c kind name (Ok (Existing id)) list m (d, is, l) = subst (ForName c kind name) (sym is) (ForName.look _ l)
+for_assign c kind name (Ok (Existing id)) list m kept = looked_or_kept c kind name id list kept
 for_assign c kind name (Ok (Fresh id)) list m (d, rest, is, l, g) = all_given c kind name id Done d rest list m is l g
 for_assign c kind name (Ok (Lost w id)) list m (d, rest, is, l, g) = all_given c kind name w (Held (id_bytes id)) d rest list m is l g
 for_assign c kind name (Err (assign.Exhausted k)) list m (d, rest, is, l, (same, (b, last, did))) = subst (ForName c kind name) (sym (is ∙ ap (λ xs. d ∷ xs) last)) (ForName.full m l did)
@@ -89,7 +93,7 @@ assigned_stopped c old new kind name m (list, made, q) = record { list = list; m
 
 -- one name that was resolved
 pub resolved_ok : (c : Config) (old new : Seen) (kind : Kind) (name : List ℕ) (id : ℕ) → MadeSo old (ResolveMade kind name (Ok id)) new → HasShown new kind name id → NamesAsked {T = ℕ} c ((kind, name) ∷ []) old (Ok id) new
-resolved_ok c old new kind name id (list, made, (d, is, l)) h = record { list = list; made = made; entries = one_name c kind name list (subst (ForName c kind name) (sym is) (ForName.look _ l)); answered = shown_one new kind name id h }
+resolved_ok c old new kind name id (list, made, kept) h = record { list = list; made = made; entries = one_name c kind name list (looked_or_kept c kind name id list kept); answered = shown_one new kind name id h }
 
 pub resolved_unknown : (c : Config) (old new : Seen) (kind k : Kind) (name n : List ℕ) → n ≡ name → makes c kind ≡ false → MadeSo old (ResolveMade kind name (Err (resolve.Unknown k))) new
     → NamesAsked {T = ℕ} c ((kind, name) ∷ []) old (Err (Unknown k n)) new

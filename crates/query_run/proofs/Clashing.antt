@@ -1,6 +1,7 @@
 -- The first row with a clash, as the entries of a sub query tell it.
-use Rattle.std.proofs.Common.{◌≡◌, ◌⊎◌, inl, inr, ℕ, ◌+◌, ◌-◌, ◌*◌, ◌<◌, ◌≤◌, List, [], ◌∷◌, refl, sym, ap, subst, ◌∙◌, arith}
-use Rattle.std.specs.Prelude.{ℤ, Contains, Option, None, Some}
+use Rattle.std.proofs.Common.{◌≡◌, ◌⊎◌, inl, inr, ℕ, ◌+◌, ◌-◌, ◌*◌, ◌<◌, ◌≤◌, List, [], ◌∷◌, ◌++◌, refl, sym, ap, subst, ◌∙◌, arith, append_assoc}
+use Rattle.std.specs.Prelude.{ℤ, Contains, Option, None, Some, IsTrue}
+use Rattle.std.proofs.lemmas.List.Elements.{Contains-append_right}
 use Rattle.tsd_base.specs.declared.kinds.Kind.{Kind}
 use Rattle.tsd_base.specs.declared.kinds.Kind.TheVariants.{Metric, TagKey}
 use Rattle.tsd_base.specs.TagList.{Pair}
@@ -12,23 +13,23 @@ use Rattle.cell_model.specs.declared.cells.Found.{Found}
 use Rattle.cell_model.specs.declared.events.Placed.{Placed}
 use Rattle.cell_model.specs.Store.{value_at}
 use Rattle.cell_model.specs.History.{History, first, store_after}
-use Rattle.cell_model.specs.Ids.{id_of, name_of, id_bytes}
+use Rattle.cell_model.specs.Ids.{id_of, name_of}
+use Rattle.cell_model.specs.Layout.{base_time}
 use Rattle.cell_model.specs.Lawful.{IsLawful}
-use Rattle.cell_model.specs.Readings.{Reading, Named}
+use Rattle.cell_model.specs.Readings.{Reading, Named, CellReads, point_row}
 use Rattle.cell_model.specs.Seen.{Seen, Fits}
-use Rattle.cell_model.specs.Deeds.{Made}
-use Rattle.uid_table.specs.Steps.{DidLook}
-use Rattle.row_scan.specs.Scans.{HasCell}
+use Rattle.cell_model.specs.Deeds.{Made, InOrder, before_first}
+use Rattle.row_scan.specs.Scans.{IsRowOf, HasCell}
 use Rattle.row_scan.specs.Kept.{values_at, first_clash}
-use Rattle.query_run.specs.Parts.{HasClash, FirstClash}
+use Rattle.query_run.specs.Parts.{HasClash, ShowsRowsBelow, FirstClash}
 use Rattle.query_run.specs.Queries.{is_wanted}
-use Rattle.query_run.specs.Naming.{IdOf}
+use Rattle.query_run.specs.Naming.{IdOf, AreReads}
 use Rattle.query_run.specs.RowDots.{IsIn}
 use Rattle.query_run.specs.Collecting.{KeyOf, Counted, RowClashes, FoundClash}
 use Rattle.query_run.proofs.Lower as lower
 use Rattle.query_run.proofs.Titles.{tags_exist}
-use Rattle.query_run.proofs.RowReadings.{asks, is_asked, ReadsDot, dot_reads, clean_row, same_dots}
-use Rattle.query_run.proofs.Standing.{shown_behind}
+use Rattle.query_run.proofs.RowReadings.{asks, is_asked, hours_within, ReadsDot, dot_reads, clean_row, same_dots}
+use Rattle.query_run.proofs.Standing.{shown_behind, shown_after}
 
 -- ---- a row that was found stood
 
@@ -139,16 +140,55 @@ least_clash names start end metric id f time a b r t c d x = at (below_or t time
 
 -- ---- the first of all
 
-pub first_clash_of : (g : History) (start end : ℕ) (metric : List ℕ) (id : ℕ) (p : Placed) (own : List Placed) (time : ℕ) (a b : ℤ) → DidLook p Metric metric (Some (id_bytes id)) → name_of g Metric id ≡ Some metric → (f : FoundClash id start end own time a b)
-    → lower.StoodRow g (key_bytes f.clash.key) → FirstClash (name_of g) (is_wanted start end metric) (p ∷ own) time a b
-first_clash_of g start end metric id p own time a b looked named f s = record {
-  earlier = p ∷ f.earlier;
-  at = f.last;
-  later = [];
-  cut = ap (λ (l : List Placed). p ∷ l) f.cut;
-  clean = λ found shows. let w = shown_behind p Metric metric _ f.earlier found looked shows in clean_row (name_of g) id start end metric found (f.clean w.0 found w.1 w.2);
-  found = f.found;
-  reply = f.reply;
-  clash = has_clash g start end metric id f.found time a b named f.clash s;
-  least = least_clash (name_of g) start end metric id f.found time a b f.clash;
-}
+-- the row of a reading that is wanted, of a cell that was there, is one of the metric in these hours
+asked_row : (h : History) (from now start end : ℕ) (metric : List ℕ) (id : ℕ) (row qual value : List ℕ) (r : Reading) → IsLawful h → from ≤ now → id_of (first now h) Metric metric ≡ Some id → value_at (store_after (first from h)) (point_row row) qual ≡ Some value
+    → CellReads (name_of (first now h)) row qual value r → IsTrue (is_wanted start end metric r) → IsRowOf id (base_time start) (base_time end) (point_row row)
+asked_row h from now start end metric id row qual value r lawful le known is c wants =
+    let d = c.dot_reads in
+    let a = asks start end metric r wants in
+    let w = hours_within start end r.time a.within in
+    let hour = lower.hour_is r.time d.key.base c.dot.item.offset d.is_key.hour (lower.dot_offset qual value c.dots c.dot c.reads c.among) d.time_is in
+    let its = lower.metric_id (first now h) row c.dot r (lower.row_stood h from now row qual value lawful le is) d in
+    record {
+      key = d.key;
+      is_key = d.is_key;
+      row_is = ap point_row d.row_is;
+      metric_is = same_Some d.key.metric id (sym its ∙ ap (id_of (first now h) Metric) a.metric_is ∙ known);
+      from_on = subst (λ n. base_time start ≤ n) hour w.0;
+      up_to = subst (λ n. n ≤ base_time end) hour w.1;
+    }
+
+-- in a history that has these entries: reads, and then those of a scan that was broken off by the clash
+module _ (h : History) (now start end : ℕ) (metric : List ℕ) (id : ℕ) (looks own : List Placed) (time : ℕ) (a b : ℤ) (lawful : IsLawful h) (order : InOrder h now (looks ++ own)) (reads : AreReads looks) (f : FoundClash id start end own time a b) where
+  abbrev from : ℕ
+  from = before_first (looks ++ own) now
+
+  last_in : Contains own f.last
+  last_in = subst (λ (l : List Placed). Contains l f.last) (sym f.cut) (Contains-append_right f.earlier (f.last ∷ []) f.last (lower.here f.last []))
+
+  stand : lower.StandAbove h from now (looks ++ own)
+  stand = lower.own_stands h now (looks ++ own) lawful order (let w = Contains-append_right looks own f.last last_in in let lt = w.1 in omega (arith, lt))
+
+  early : from ≤ now
+  early = let s = stand.each f.last (Contains-append_right looks own f.last last_in) in let low = s.1 in let high = s.2 in omega (arith, low, high)
+
+  all_below : id_of (first now h) Metric metric ≡ Some id → ShowsRowsBelow (store_after (first from h)) (name_of (first now h)) (is_wanted start end metric) (looks ++ f.earlier) f.found.row
+  all_below known row qual value r is c wants less =
+      let of = asked_row h from now start end metric id row qual value r lawful early known is c wants in
+      let w = f.passed h from lawful (λ q i. let s = stand.each q (Contains-append_right looks own q i) in (s.0, s.1)) (point_row row) of (qual, value, is) less in
+      (w.0, shown_after looks f.earlier w.0 w.1, w.2)
+
+  pub first_clash_of : name_of (first now h) Metric id ≡ Some metric → id_of (first now h) Metric metric ≡ Some id → lower.StoodRow (first now h) (key_bytes f.clash.key)
+      → FirstClash (store_after (first from h)) (name_of (first now h)) (is_wanted start end metric) (looks ++ own) time a b
+  first_clash_of named known s = record {
+    earlier = looks ++ f.earlier;
+    at = f.last;
+    later = [];
+    cut = ap (λ (l : List Placed). looks ++ l) f.cut ∙ sym (append_assoc looks f.earlier (f.last ∷ []));
+    clean = λ found shows. let w = shown_behind looks f.earlier found reads shows in clean_row (name_of (first now h)) id start end metric found (f.clean w.placed found w.among w.reply);
+    found = f.found;
+    reply = f.reply;
+    passed = all_below known;
+    clash = has_clash (first now h) start end metric id f.found time a b named f.clash s;
+    least = least_clash (name_of (first now h)) start end metric id f.found time a b f.clash;
+  }

@@ -5,6 +5,7 @@ mod Titles
 mod RowsTaken
 mod ScanSteps
 mod Contents
+mod Passing
 mod ScanLoop
 mod RowReadings
 mod Shown

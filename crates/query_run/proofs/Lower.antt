@@ -13,13 +13,13 @@ pub use Rattle.row_scan.proofs.Lists.{all_of, pairs_push, pairs_before, in_filte
 pub use Rattle.row_scan.proofs.Values.{dot_value, value_dot, no_clash}
 pub use Rattle.row_scan.proofs.Offsets.{dot_offset, hour_is, one_hour}
 pub use Rattle.row_scan.proofs.Lower.{one_key}
-pub use Rattle.row_scan.proofs.Bytes.{below_behind, not_back, below_from_on, from_on_from_on, not_itself}
-pub use Rattle.row_scan.proofs.NextRow.{Between, between, between_is, next_has, next_cells}
+pub use Rattle.row_scan.proofs.Bytes.{below_behind, not_back, below_from_on, from_on_from_on, not_itself, never_both, less_behind, less_or_not}
+pub use Rattle.row_scan.proofs.NextRow.{Between, between, between_is, next_has, next_cells, next_least}
 pub use Rattle.row_scan.proofs.Turning.{HasKey, found_key}
-pub use Rattle.row_scan.proofs.Whole.{placed_next, row_stays}
+pub use Rattle.row_scan.proofs.Whole.{placed_next, row_stays, StandAbove, own_stands}
 pub use Rattle.row_scan.proofs.Turns.{scan_begins, turn_goes_on, others_pass, turn_ends}
 pub use Rattle.row_scan.proofs.CellsOf.{cell_at}
-pub use Rattle.row_scan.proofs.Names.{IsOf, StoodRow, row_stood}
+pub use Rattle.row_scan.proofs.Names.{IsOf, StoodRow, row_stood, metric_id}
 pub use Rattle.row_key.proofs.Comparing.{keys_compare}
 pub use Rattle.tsd_base.proofs.EntryLemmas.{insert_entry-put, lookup-find, length-entries, sorted-rising}
 pub use Rattle.cell_model.proofs.Written.{each_reads}

@@ -21,7 +21,7 @@ use Rattle.cell_model.specs.declared.events.Reply.TheVariants.{Shown}
 use Rattle.cell_model.specs.declared.answers.RowsFault.{RowsFault}
 use Rattle.cell_model.specs.declared.answers.RowsFault.TheVariants as rows
 use Rattle.cell_model.specs.Seen.{Seen}
-use Rattle.cell_model.specs.Deeds.{Extends, Made}
+use Rattle.cell_model.specs.Deeds.{Extends}
 use Rattle.uid_table.specs.Shown.{HasShownName}
 use Rattle.uid_table.specs.Steps.{MadeSo, DidRead, NameMade}
 use Rattle.query_run.specs.Naming.{IdOf, Names, listed, ids_of, KnowsPair, AllNamed, HasName, AreReads, in_lists, IdReads, NamesRead, NamesCut, IdNamed, IdCut}
@@ -61,12 +61,27 @@ name_asked old new kind id before rows.OutOfMemory none (list, made, inl is) = r
 name_asked old new kind id before rows.OutOfMemory none (list, made, inr (name, (d, is, did))) = record { list = list; made = made; reads = subst AreReads (sym is) (did_read did); few = let l = ap length is in omega (arith, l); fresh = none }
 name_asked old new kind id before rows.Stopped none (list, made, is) = record { list = list; made = made; reads = subst AreReads (sym is) no_reads; few = let l = ap length is in omega (arith, l); fresh = none }
 
+-- at most one read, or none
+abbrev pub AreFew : List Placed → Type 0
+AreFew list = AreReads list × (length list ≤ 1)
+
+pub none_few : (list : List Placed) → list ≡ [] → AreFew list
+none_few list is = (subst AreReads (sym is) no_reads, let l = ap length is in omega (arith, l))
+
+pub one_few : {row : Row} {kind : Kind} {o : Option (List ℕ)} (list : List Placed) (d : Placed) → list ≡ d ∷ [] → DidRead d row kind o → AreFew list
+one_few list d is did = (subst AreReads (sym is) (did_read did), let l = ap length is in omega (arith, l))
+
+-- the reads that learnt a name, or none where it was kept
+name_few : (kind : Kind) (id : ℕ) (name : List ℕ) (list : List Placed) → NameMade kind id (Ok name) list → AreFew list
+name_few kind id name list (inl is) = none_few list is
+name_few kind id name list (inr (d, is, did)) = one_few list d is did
+
 pub name_lost : (old new : Seen) (kind : Kind) (id : ℕ) (before : List (ℕ × List ℕ)) (name : List ℕ) → listed before id ≡ None → MadeSo old (NameMade kind id (Ok name)) new → IdCut old id before new
-name_lost old new kind id before name none (list, made, (d, is, did)) = record { list = list; made = made; reads = subst AreReads (sym is) (did_read did); few = let l = ap length is in omega (arith, l); fresh = none }
+name_lost old new kind id before name none (list, made, how) = let f = name_few kind id name list how in record { list = list; made = made; reads = f.0; few = f.1; fresh = none }
 
 pub name_found : (old new : Seen) (kind : Kind) (id : ℕ) (before after : List (ℕ × List ℕ)) (name : List ℕ) → listed before id ≡ None → MadeSo old (NameMade kind id (Ok name)) new → HasShownName new kind id name
     → ((q : ℕ) → listed after q ≡ cond (is_at (nat_cmp id) q) (Some name) (listed before q)) → IdNamed old kind id before after new
-name_found old new kind id before after name none (list, made, (d, is, did)) shown now = asked none (subst (λ (l : List Placed). Made old l new) is made) (did_read did) shown now
+name_found old new kind id before after name none (list, made, how) shown now = let f = name_few kind id name list how in asked none made f.0 f.1 shown now
 
 none_of : {X : Type 0} (o : Option X) → is_some o ≡ false → o ≡ None
 none_of None e = refl
@@ -168,11 +183,11 @@ id_read old new names after kind id entries more ch (there {name} is made same) 
   kept = λ k q n e. names_same names after kind entries more ch same k q ∙ e;
   shown = λ all k q n e. shown_kept old new k q n made.since.extends (all k q n (sym (names_same names after kind entries more ch same k q) ∙ e));
 }
-id_read old new names after kind id entries more ch (asked {p} {name} none made reads shown now) = record {
-  list = p ∷ [];
+id_read old new names after kind id entries more ch (asked {list} {name} none made reads few shown now) = record {
+  list = list;
   ids = (kind, id) ∷ [];
   made = made;
-  reads = record { reads = reads; count = omega arith; once = λ i j d lt within. absurd (omega (arith, lt, within)); fresh = only_one (λ i. names i.0 i.1 ≡ None) kind id (ch.mine id ∙ none); among = λ i c. c };
+  reads = record { reads = reads; count = omega (arith, few); once = λ i j d lt within. absurd (omega (arith, lt, within)); fresh = only_one (λ i. names i.0 i.1 ≡ None) kind id (ch.mine id ∙ none); among = λ i c. c };
   all = only_one (HasName after) kind id (name, ch.mine_after id ∙ listed_itself id name entries more now);
   kept = λ k q n e. elim (same_kind k kind) [
     | inl same ↦ ap (λ x. after x q) same ∙ ch.mine_after q ∙ listed_kept id name entries more now none q n (sym (ch.mine q) ∙ ap (λ x. names x q) (sym same) ∙ e)

@@ -1,6 +1,6 @@
 -- One sub query: what is said of it, by what its steps say.
-use Rattle.std.proofs.Common.{◌≡◌, inl, inr, ℕ, ◌<◌, ◌≤◌, ◌^◌, true, List, [], ◌∷◌, length, refl, sym, ap, subst, ◌∙◌, arith}
-use Rattle.std.specs.Prelude.{ℤ, Contains, Option, None, Some, Result, Ok, Err, map}
+use Rattle.std.proofs.Common.{◌≡◌, inl, inr, ℕ, ◌<◌, ◌≤◌, ◌^◌, true, List, [], ◌∷◌, ◌++◌, length, refl, sym, ap, subst, ◌∙◌, arith}
+use Rattle.std.specs.Prelude.{ℤ, Contains, None, Some, Result, Ok, Err, map}
 use Rattle.std.specs.Global.{Vec}
 use Rattle.std.proofs.lemmas.List.Elements.{Contains-append_right}
 use Rattle.tsd_base.specs.declared.kinds.Kind.{Kind}
@@ -13,13 +13,13 @@ use Rattle.query_text.specs.declared.queries.Sub.{Sub}
 use Rattle.cell_model.specs.declared.cells.Found.{Found}
 use Rattle.cell_model.specs.declared.events.Placed.{Placed}
 use Rattle.cell_model.specs.History.{History, first}
-use Rattle.cell_model.specs.Ids.{id_of, name_of, id_bytes}
+use Rattle.cell_model.specs.Ids.{id_of, name_of}
 use Rattle.cell_model.specs.Layout.{base_time}
 use Rattle.cell_model.specs.Lawful.{IsLawful}
 use Rattle.cell_model.specs.Seen.{Seen, IsPossible, Fits, InEach}
 use Rattle.cell_model.specs.Deeds.{Made, Extends, InOrder}
 use Rattle.uid_table.specs.Shown.{HasShown}
-use Rattle.uid_table.specs.Steps.{DidLook}
+use Rattle.uid_table.specs.Steps.{DidLook, LookedOrKept}
 use Rattle.row_scan.specs.Laws.{ScanCovers}
 use Rattle.span_merge.specs.Spans.{Span}
 use Rattle.query_run.specs.declared.fault.AskFault.{AskFault}
@@ -27,7 +27,7 @@ use Rattle.query_run.specs.declared.fault.AskFault.TheVariants.{TooManyBuckets, 
 use Rattle.query_run.specs.declared.series.Series.{Series}
 use Rattle.query_run.specs.Answers.{answer, as_point}
 use Rattle.query_run.specs.Series.{points_in}
-use Rattle.query_run.specs.Parts.{NameOf, Part, IsQueryStep, AreQuerySteps, AllResolved, PartStands, FirstUnknown, IsShort}
+use Rattle.query_run.specs.Parts.{NameOf, Part, AreQuerySteps, AllResolved, PartStands, FirstUnknown, IsShort}
 use Rattle.query_run.specs.Asked.{Cause}
 use Rattle.query_run.specs.Queries.{wanted, names_in, barred, answer_over}
 use Rattle.query_run.specs.Naming.{IdOf, Names, ids_of}
@@ -37,14 +37,17 @@ use Rattle.query_run.specs.Working.{ResolveSays, GroupsSay, Later, PartIsShort, 
 use Rattle.query_run.proofs.Lower as lower
 use Rattle.query_run.proofs.ScanLoop.{steps_joined, reads_steps}
 use Rattle.query_run.proofs.Shown.{readings_in, as_points}
-use Rattle.query_run.proofs.Standing.{look_step, named_in, one_to_one, stands_in}
+use Rattle.query_run.proofs.NameReads.{AreFew, none_few, one_few}
+use Rattle.query_run.proofs.Standing.{named_in, one_to_one, stands_in}
 use Rattle.query_run.proofs.Clashing.{StoodFound, found_stood, row_names, first_clash_of}
 use Rattle.query_run.proofs.Short.{few_rows, few_none}
 
 -- ---- the metric
 
-look_steps : (p : Placed) (kind : Kind) (name : List ℕ) (o : Option (List ℕ)) → DidLook p kind name o → AreQuerySteps (p ∷ [])
-look_steps p kind name o d q c = elim (lower.split p q [] c) [ inl same ↦ subst (λ (x : Placed). IsQueryStep x.entry.step) same (look_step p kind name o d) | inr none ↦ absurd (lower.not_in q none) ]
+-- the read that resolved it, or none where its id was kept
+looks_few : (kind : Kind) (name : List ℕ) (id : ℕ) (list : List Placed) → LookedOrKept kind name id list → AreFew list
+looks_few kind name id list (inl is) = none_few list is
+looks_few kind name id list (inr (d, is, look)) = one_few list d is look
 
 few_later : (q : Query) (s : Sub) (own : List Placed) (new : Seen) → length own ≤ 1 → Later new (PartIsShort q s own)
 few_later q s own new few later ext h lawful fits = few_none s.metric (base_time q.start) (base_time q.end) own (first later.length h) few
@@ -62,7 +65,7 @@ pub resolve_refused : (q : Query) (s : Sub) (old new : Seen) (fault : AskFault) 
 resolve_refused q s old new (Unknown kind name) (k, n, p, made, look) = record {
   part = record { own = p ∷ []; shown = [] };
   made = made;
-  steps = look_steps p Metric s.metric None look;
+  steps = reads_steps (p ∷ []) (one_few (p ∷ []) p refl look).0;
   cause = λ h lawful fits. (refl, unknown_first s.metric name kind p (first new.length h) k n look);
   short = few_later q s (p ∷ []) new (omega arith);
 }
@@ -78,21 +81,21 @@ resolve_refused q s old new (Overflow time) r = absurd r
 
 -- a sub query's metric was resolved, and then entries were made
 pub record Begun (metric : List ℕ) (id : ℕ) (old mid new : Seen) (own : List Placed) : Type 0 where
-  pub p : Placed
-  pub asked : Made old (p ∷ []) mid
-  pub look : DidLook p Metric metric (Some (id_bytes id))
+  pub looks : List Placed
+  pub asked : Made old looks mid
+  pub few : AreFew looks
   pub shown : HasShown mid Metric metric id
   pub made : Made mid own new
 
 pub begun : (metric : List ℕ) (id : ℕ) (old mid new : Seen) (own : List Placed) → ResolveSays metric old (Ok id) mid → Made mid own new → Begun metric id old mid new own
-begun metric id old mid new own (p, asked, look, shown) made = record { p = p; asked = asked; look = look; shown = shown; made = made }
+begun metric id old mid new own ((looks, asked, kept), shown) made = record { looks = looks; asked = asked; few = looks_few Metric metric id looks kept; shown = shown; made = made }
 
 module _ (metric : List ℕ) (id : ℕ) (old mid new : Seen) (own : List Placed) (b : Begun metric id old mid new own) where
-  made_all : Made old (b.p ∷ own) new
-  made_all = lower.made_joined old mid new (b.p ∷ []) own b.asked b.made
+  made_all : Made old (b.looks ++ own) new
+  made_all = lower.made_joined old mid new b.looks own b.asked b.made
 
-  steps_all : AreQuerySteps own → AreQuerySteps (b.p ∷ own)
-  steps_all steps = steps_joined (b.p ∷ []) own (look_steps b.p Metric metric _ b.look) steps
+  steps_all : AreQuerySteps own → AreQuerySteps (b.looks ++ own)
+  steps_all steps = steps_joined b.looks own (reads_steps b.looks b.few.0) steps
 
   -- in each later history, up to what is seen
   module _ (later : Seen) (ext : Extends new later) (h : History) (lawful : IsLawful h) (fits : Fits later h) where
@@ -117,9 +120,9 @@ module _ (metric : List ℕ) (id : ℕ) (old mid new : Seen) (own : List Placed)
       | inr none ↦ absurd (lower.not_in {X = NameOf} n none)
     ]
 
-    in_order : InOrder h later.length (b.p ∷ own)
+    in_order : InOrder h later.length (b.looks ++ own)
     in_order =
-        let o = lower.made_stands old new (b.p ∷ own) h made_all (ext.fits h fits) in
+        let o = lower.made_stands old new (b.looks ++ own) h made_all (ext.fits h fits) in
         let longer = ext.length in
         record { rising = o.rising; each = λ q c. let w = o.each q c in (let le = w.0 in omega (arith, le, longer), w.1) }
 
@@ -130,9 +133,9 @@ module _ (metric : List ℕ) (id : ℕ) (old mid new : Seen) (own : List Placed)
         let longer = ext.length in
         record { when = s.when; up_to = omega (arith, le, longer); has = s.has }
 
-  short_later : (q : Query) (founds : List Found) (ids : List IdOf) → Counted 1 id q.start q.end own founds ids → Later new (λ end h. IsShort ((Metric, metric) ∷ []) metric (base_time q.start) (base_time q.end) (b.p ∷ own) (first end h))
+  short_later : (q : Query) (founds : List Found) (ids : List IdOf) → Counted 1 id q.start q.end own founds ids → Later new (λ end h. IsShort ((Metric, metric) ∷ []) metric (base_time q.start) (base_time q.end) (b.looks ++ own) (first end h))
   short_later q founds ids counted later ext h lawful fits =
-      few_rows q.start q.end metric id b.p own founds ids h later.length counted lawful (metric_known later ext h lawful fits) (stood later ext h lawful fits 1 q.start q.end founds ids counted)
+      few_rows q.start q.end metric id b.looks own founds ids h later.length b.few.1 counted lawful (metric_known later ext h lawful fits) (stood later ext h lawful fits 1 q.start q.end founds ids counted)
 
 -- ---- the rows
 
@@ -147,7 +150,7 @@ collect_refused q s old mid new id fault r c = at fault c.cause
     b = begun s.metric id old mid new c.own r c.made
 
     part : Part
-    part = record { own = b.p ∷ c.own; shown = [] }
+    part = record { own = b.looks ++ c.own; shown = [] }
 
     refused : (e : AskFault) → InEach new (λ h. Cause (wanted q) names_in barred (answer_over q) s part new.length h e) → SubRefused q s old e new
     refused e cause = record {
@@ -165,8 +168,10 @@ collect_refused q s old mid new id fault r c = at fault c.cause
         let stand = stood s.metric id old mid new c.own b new (lower.itself new) h lawful fits 1 q.start q.end c.founds c.ids c.counted f.found found in
         let resolved = all_resolved s.metric id old mid new c.own b new (lower.itself new) h lawful fits in
         let named = metric_named s.metric id old mid new c.own b new (lower.itself new) h lawful fits in
+        let known = metric_known s.metric id old mid new c.own b new (lower.itself new) h lawful fits in
+        let order = in_order s.metric id old mid new c.own b new (lower.itself new) h lawful fits in
         let row = row_names h new.length id q.start q.end f.found f.clash.key lawful stand f.clash.of in
-        (refl, resolved, first_clash_of (first new.length h) q.start q.end s.metric id b.p c.own time x y b.look named f row))
+        (refl, resolved, first_clash_of h new.length q.start q.end s.metric id b.looks c.own time x y lawful order b.few.0 f named known row))
     at OutOfMemory f = refused OutOfMemory (λ h lawful fits. tt)
     at Stopped f = refused Stopped (λ h lawful fits. tt)
     at (TooManyBuckets count) f = absurd f
@@ -207,7 +212,7 @@ module _ (q : Query) (s : Sub) (old mid new : Seen) (id : ℕ) (spans : List Spa
   b = begun s.metric id old mid new c.own r c.made
 
   whole_part : List Series → Part
-  whole_part series = record { own = b.p ∷ c.own; shown = readings_in s.metric series }
+  whole_part series = record { own = b.looks ++ c.own; shown = readings_in s.metric series }
 
   part_stands : (series : List Series) → Titles names spans series → Later new (λ end h. PartStands (wanted q s) (names_in s) (whole_part series) end h)
   unfolding whole_part
@@ -215,7 +220,7 @@ module _ (q : Query) (s : Sub) (old mid new : Seen) (id : ℕ) (spans : List Spa
       let g = first later.length h in
       let gl = g_lawful s.metric id old mid new c.own b later ext h lawful fits in
       let gf = g_fits s.metric id old mid new c.own b later ext h lawful fits in
-      stands_in q.start q.end s.metric id b.p c.own c.founds c.ids spans names series g b.look c.counted c.content titles (metric_named s.metric id old mid new c.own b later ext h lawful fits) (metric_known s.metric id old mid new c.own b later ext h lawful fits)
+      stands_in q.start q.end s.metric id b.looks c.own c.founds c.ids spans names series g b.few.0 c.counted c.content titles (metric_named s.metric id old mid new c.own b later ext h lawful fits) (metric_known s.metric id old mid new c.own b later ext h lawful fits)
       (λ pairs tags n. named_in names new later g pairs tags c.shown ext gl gf n) h later.length refl covering lawful (in_order s.metric id old mid new c.own b later ext h lawful fits) c.begin c.starts c.whole
 
   same_answer : (series : List Series) (wants : Result (List Group) ℕ) → q.ms ≡ true → answer true s.how s.metric (points_in s.metric series) ≡ wants → answer_over q s (readings_in s.metric series) ≡ wants

@@ -24,11 +24,12 @@ use Rattle.query_run.specs.declared.collecting.Collected.{Collected}
 use Rattle.query_run.specs.Faults.{ask_fault}
 use Rattle.query_run.specs.Parts.{IsQueryStep, AreQuerySteps}
 use Rattle.query_run.specs.Naming.{IdOf, Names, HasName, AreReads, IdReads, ids_of, known}
-use Rattle.query_run.specs.Collecting.{KeyOf, StandsBehind, RowTaken, RowCut, RowClashes, RowAsked, Counted, Gathered, Gathering, HasCollected, ClashOf, WasCut}
+use Rattle.query_run.specs.Collecting.{KeyOf, StandsBehind, RowTaken, RowCut, RowClashes, RowAsked, Counted, Gathered, Gathering, HasCollected, ShowsBelow, ClashOf, WasCut}
 use Rattle.query_run.proofs.Lower as lower
 use Rattle.query_run.proofs.NameReads.{pairs_joined, named_kept}
 use Rattle.query_run.proofs.ScanSteps.{NextFound, next_found, only_behind, below_next, below_rest}
 use Rattle.query_run.proofs.Contents.{stands_behind, gathered_more, row_clean}
+use Rattle.query_run.proofs.Passing.{below_none, below_more, found_before}
 
 -- ---- entries
 
@@ -38,7 +39,7 @@ reads_steps list r p c = let w = r p c in subst IsQueryStep (sym w.2) tt
 next_step : (left : Left) (o : Option Found) (p : Placed) → IsNext left o p → IsQueryStep p.entry.step
 next_step left o p n = subst IsQueryStep (sym n.0) tt
 
-reads_other : (list : List Placed) → AreReads list → AreOther list
+pub reads_other : (list : List Placed) → AreReads list → AreOther list
 reads_other list r p c = let w = r p c in subst IsOther (sym w.2) tt
 
 pub steps_joined : (xs ys : List Placed) → AreQuerySteps xs → AreQuerySteps ys → AreQuerySteps (xs ++ ys)
@@ -163,6 +164,7 @@ scan_starts id start end left s spans names is content none = (
     scanning = lower.scan_begins left;
     only = is.only;
     passed = λ f c. absurd (lower.not_in f c);
+    below = below_none left;
     content = content;
     shown = λ kind i name e. absurd (none_some name (sym (none kind i) ∙ e));
   },
@@ -224,6 +226,7 @@ module _ (old now next : Seen) (id start end : ℕ) (left : Left) (spans : List 
               | inr none ↦ absurd (lower.not_in h none)
             ]
           ];
+          below = below_more t.far.0 left g.own g.founds t.p f g.below t.is_next n.list;
           content = gathered_more id start end g.founds f next after spans more names names_after g.content r;
           shown = n.shown (named_kept now next names t.made.since.extends g.shown);
         },
@@ -242,6 +245,14 @@ module _ (old now next : Seen) (id start end : ℕ) (left : Left) (spans : List 
         counted = counted_more 1 id start end g.own n.list g.founds g.ids n.ids left t.p f r.key names g.counted t.is_next r.of below g.had n.reads;
         cause = cause (both ++ n.list);
       }
+
+  -- the entries before it show each row below it
+  shows_below : ShowsBelow id start end ((so.own ++ t.p ∷ []) ++ []) so.own f.row
+  shows_below h n lawful stand row of has less =
+      let both = so.own ++ t.p ∷ [] in
+      let w = found_before t.far.0 left so.own so.founds t.p f so.below t.is_next h n lawful (λ q c. stand q (Contains-append_left both [] q c)) row (t.far.1.all row of) has less in
+      let by = so.counted.by w.0 w.1 in
+      (w.0, record { placed = by.0; among = by.2; reply = by.3.1 }, w.2)
 
   clash_of : (after : Seen) (time : ℕ) (a b : ℤ) → Made next [] after → RowClashes id start end f time a b → WasCut id start end old (Duplicate time a b) after
   clash_of after time a b made r =
@@ -268,6 +279,7 @@ module _ (old now next : Seen) (id start end : ℕ) (left : Left) (spans : List 
           clean = λ p h c e. row_clean id start end spans names h (g.content.rows h (g.counted.shows p h c e));
           found = f;
           reply = t.is_next.1;
+          passed = shows_below;
           clash = r;
         };
       }

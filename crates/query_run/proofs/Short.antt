@@ -1,5 +1,5 @@
 -- How many entries a sub query makes.
-use Rattle.std.proofs.Common.{◌≡◌, ◌≢◌, ◌⊎◌, inl, inr, ℕ, zero, suc, ◌+◌, ◌<◌, ◌≤◌, List, [], ◌∷◌, length, get_or, sym, ap, subst, ◌∙◌, arith}
+use Rattle.std.proofs.Common.{◌≡◌, ◌≢◌, ◌⊎◌, inl, inr, ℕ, zero, suc, ◌+◌, ◌<◌, ◌≤◌, List, [], ◌∷◌, ◌++◌, length, get_or, sym, ap, subst, ◌∙◌, arith, length-append}
 use Rattle.std.specs.Prelude.{AllPairs, Contains, Some, map}
 use Rattle.std.specs.declared.cmp.Ordering.TheVariants.{Less}
 use Rattle.std.proofs.lemmas.List.{length-map}
@@ -72,9 +72,9 @@ ids_in (p ∷ pairs) ids all i c = elim (lower.split {X = IdOf} (TagKey, p.0) i 
   ]
 ]
 
-pub few_rows : (start end : ℕ) (metric : List ℕ) (id : ℕ) (p : Placed) (own : List Placed) (founds : List Found) (ids : List IdOf) (h : History) (now : ℕ) → Counted 1 id start end own founds ids → IsLawful h → id_of (first now h) Metric metric ≡ Some id
-    → ((f : Found) → Contains founds f → StoodFound h now f) → IsShort ((Metric, metric) ∷ []) metric (base_time start) (base_time end) (p ∷ own) (first now h)
-few_rows start end metric id p own founds ids h now c lawful known stood rows all holds_rows holds_ids =
+pub few_rows : (start end : ℕ) (metric : List ℕ) (id : ℕ) (looks own : List Placed) (founds : List Found) (ids : List IdOf) (h : History) (now : ℕ) → length looks ≤ 1 → Counted 1 id start end own founds ids → IsLawful h → id_of (first now h) Metric metric ≡ Some id
+    → ((f : Found) → Contains founds f → StoodFound h now f) → IsShort ((Metric, metric) ∷ []) metric (base_time start) (base_time end) (looks ++ own) (first now h)
+few_rows start end metric id looks own founds ids h now few c lawful known stood rows all holds_rows holds_ids =
     let n = c.count in
     let r = fewer (map (λ (f : Found). f.row) founds) rows (rows_differ founds c.rising) (λ row x. let w = lower.map_in (λ (f : Found). f.row) founds row x in subst (Contains rows) w.2 (row_in w.0 w.1)) in
     let l = length-map founds (λ (f : Found). f.row) in
@@ -83,7 +83,8 @@ few_rows start end metric id p own founds ids h now c lawful known stood rows al
     let key = w.2.0 in
     let of = w.2.1 in
     ids_in key.pairs.items all (λ q y. holds_ids key of.is_key (subst (Contains rows) of.row_is (row_in w.0 w.1)) q y) j w.2.2) in
-    omega (arith, n, r, l, i)
+    let both = length-append looks own in
+    omega (arith, n, r, l, i, few, both)
   where
     row_in : (f : Found) → Contains founds f → Contains rows f.row
     row_in f x =

@@ -1,55 +1,51 @@
 -- What was collected stands: the readings under their names are those that the entries show.
-use Rattle.std.proofs.Common.{◌≡◌, inl, inr, ℕ, ◌+◌, ◌*◌, List, [], ◌∷◌, sym, ap, subst, ◌∙◌}
+use Rattle.std.proofs.Common.{◌≡◌, inl, inr, ℕ, ◌+◌, ◌*◌, List, [], ◌∷◌, ◌++◌, sym, ap, subst, ◌∙◌}
 use Rattle.std.specs.Prelude.{ℤ, Contains, Option, Some}
+use Rattle.std.proofs.lemmas.List.Elements.{Contains-append_right, Contains-append_cases}
 use Rattle.tsd_base.specs.declared.kinds.Kind.{Kind}
 use Rattle.tsd_base.specs.declared.kinds.Kind.TheVariants.{Metric, TagKey, TagValue}
 use Rattle.tsd_base.specs.TagList.{Pair}
-use Rattle.qual_codec.specs.declared.cells.Cell.{Cell}
 use Rattle.cell_model.specs.declared.cells.Found.{Found}
 use Rattle.cell_model.specs.declared.events.Placed.{Placed}
-use Rattle.cell_model.specs.declared.events.Reply.TheVariants.{Shown, Next}
 use Rattle.cell_model.specs.Layout.{base_time}
 use Rattle.cell_model.specs.History.{History, first}
-use Rattle.cell_model.specs.Ids.{id_of, name_of, id_bytes}
+use Rattle.cell_model.specs.Ids.{id_of, name_of}
 use Rattle.cell_model.specs.Lawful.{IsLawful}
 use Rattle.cell_model.specs.Readings.{Reading, Named}
 use Rattle.cell_model.specs.Seen.{Seen, Fits}
 use Rattle.cell_model.specs.Deeds.{Extends, InOrder}
-use Rattle.uid_table.specs.Steps.{DidLook}
-use Rattle.row_scan.specs.Scans.{Left, IsOther, IsStart, Scanned}
-use Rattle.row_scan.specs.Scans.Scanned.{other}
+use Rattle.row_scan.specs.Scans.{Left, IsStart, Scanned}
 use Rattle.row_scan.specs.Shown.{ShowsRow, ShowsReading, Chosen, AsksWithin, NoClash, OwnCovers}
 use Rattle.row_scan.specs.Laws.{ScanCovers}
 use Rattle.span_merge.specs.Spans.{Span, dots_of}
 use Rattle.query_run.specs.declared.series.Series.{Series}
-use Rattle.query_run.specs.Parts.{NameOf, IsQueryStep, PartStands}
+use Rattle.query_run.specs.Parts.{NameOf, PartStands}
 use Rattle.query_run.specs.Queries.{is_wanted}
-use Rattle.query_run.specs.Naming.{IdOf, Names, AllNamed}
+use Rattle.query_run.specs.Naming.{IdOf, Names, AllNamed, AreReads}
 use Rattle.query_run.specs.RowDots.{IsIn, dot_at}
 use Rattle.query_run.specs.Collecting.{Counted, Gathered, RowIsIn}
 use Rattle.query_run.specs.Titling.{Titles, OneToOne}
 use Rattle.query_run.proofs.Lower as lower
 use Rattle.query_run.proofs.Contents.{dot_stands, row_clean}
+use Rattle.query_run.proofs.ScanLoop.{reads_other, reads_show_none}
 use Rattle.query_run.proofs.RowReadings.{Asks, asks, is_asked, by_series, hours_within, ReadsDot, reads_dot, dot_reads, clean_row, same_tags}
 use Rattle.query_run.proofs.Shown.{reading_at, readings_in, reading_of, of_reading}
 
--- ---- the look at the metric's cell
+-- ---- the look at the metric's cell, where there was one
 
-pub look_other : (p : Placed) (kind : Kind) (name : List ℕ) (o : Option (List ℕ)) → DidLook p kind name o → IsOther p.entry.step
-look_other p kind name o d = subst IsOther (sym d.did.0) tt
-
-pub look_step : (p : Placed) (kind : Kind) (name : List ℕ) (o : Option (List ℕ)) → DidLook p kind name o → IsQueryStep p.entry.step
-look_step p kind name o d = subst IsQueryStep (sym d.did.0) tt
-
-shown_not_next : (cells : List Cell) (o : Option Found) → Shown cells ≡ Next o → ⊥
-shown_not_next cells o e = cc
-
--- what is shown behind it is all that is shown
-pub shown_behind : (p : Placed) (kind : Kind) (name : List ℕ) (o : Option (List ℕ)) (own : List Placed) (f : Found) → DidLook p kind name o → ShowsRow (p ∷ own) f → (q : Placed) × Contains own q × (q.entry.reply ≡ Next (Some f))
-shown_behind p kind name o own f d s = elim (lower.split p s.placed own s.among) [
-  | inl same ↦ absurd (shown_not_next d.cells (Some f) (sym d.did.1 ∙ ap (λ (x : Placed). x.entry.reply) same ∙ s.reply))
-  | inr later ↦ (s.placed, later, s.reply)
+-- what is shown behind reads is all that is shown
+pub shown_behind : (looks own : List Placed) (f : Found) → AreReads looks → ShowsRow (looks ++ own) f → ShowsRow own f
+shown_behind looks own f reads s = elim (Contains-append_cases looks own s.placed s.among) [
+  | inl look ↦ absurd (reads_show_none looks reads s.placed f look s.reply)
+  | inr later ↦ record { placed = s.placed; among = later; reply = s.reply }
 ]
+
+pub shown_after : (looks own : List Placed) (f : Found) → ShowsRow own f → ShowsRow (looks ++ own) f
+shown_after looks own f s = record { placed = s.placed; among = Contains-append_right looks own s.placed s.among; reply = s.reply }
+
+-- a whole scan is one behind reads
+scan_after : (begin : Left) (looks own : List Placed) (founds : List Found) → AreReads looks → Scanned begin own founds → Scanned begin (looks ++ own) founds
+scan_after begin looks own founds reads whole = lower.others_pass begin begin [] looks [] (lower.scan_begins begin) (reads_other looks reads) own founds whole
 
 -- ---- the names in a history
 
@@ -78,26 +74,26 @@ reading_among metric tags d r list m t i v c =
 
 -- ---- one history
 
-module _ (start end : ℕ) (metric : List ℕ) (id : ℕ) (p : Placed) (own : List Placed) (founds : List Found) (ids : List IdOf) (spans : List Span) (names : Names) (series : List Series) (g : History)
-    (looked : DidLook p Metric metric (Some (id_bytes id))) (counted : Counted 1 id start end own founds ids) (content : Gathered id start end founds spans names) (titles : Titles names spans series)
+module _ (start end : ℕ) (metric : List ℕ) (id : ℕ) (looks own : List Placed) (founds : List Found) (ids : List IdOf) (spans : List Span) (names : Names) (series : List Series) (g : History)
+    (reads : AreReads looks) (counted : Counted 1 id start end own founds ids) (content : Gathered id start end founds spans names) (titles : Titles names spans series)
     (metric_named : name_of g Metric id ≡ Some metric) (metric_known : id_of g Metric metric ≡ Some id) (tags_named : (pairs : List (ℕ × ℕ)) (tags : List Pair) → Named names pairs tags → Named (name_of g) pairs tags) where
-  shows_found : (f : Found) → Contains founds f → ShowsRow (p ∷ own) f
-  shows_found f c = let w = counted.by f c in record { placed = w.0; among = lower.there p w.0 own w.2; reply = w.3.1 }
+  shows_found : (f : Found) → Contains founds f → ShowsRow (looks ++ own) f
+  shows_found f c = let w = counted.by f c in record { placed = w.0; among = Contains-append_right looks own w.0 w.2; reply = w.3.1 }
 
-  found_of : (f : Found) → ShowsRow (p ∷ own) f → Contains founds f
-  found_of f s = let w = shown_behind p Metric metric _ own f looked s in counted.shows w.0 f w.1 w.2
+  found_of : (f : Found) → ShowsRow (looks ++ own) f → Contains founds f
+  found_of f s = let w = shown_behind looks own f reads s in counted.shows w.placed f w.among w.reply
 
-  clean : NoClash (name_of g) (is_wanted start end metric) (p ∷ own)
+  clean : NoClash (name_of g) (is_wanted start end metric) (looks ++ own)
   clean f s = clean_row (name_of g) id start end metric f (row_clean id start end spans names f (content.rows f (found_of f s)))
 
   -- each reading under its names is shown
-  shown_to : (r : Reading) → Contains (readings_in metric series) r → Chosen (is_wanted start end metric) (ShowsReading (name_of g) (p ∷ own)) r
+  shown_to : (r : Reading) → Contains (readings_in metric series) r → Chosen (is_wanted start end metric) (ShowsReading (name_of g) (looks ++ own)) r
   shown_to r c =
       let w = reading_of metric series r c in
       let t = titles.each w.series_of w.among in
       let d = content.from t.0 w.dot t.1 (subst (λ (l : List (ℕ × ℤ)). Contains l w.dot) t.2.dots_are w.there) in
       let time : r.time ≡ d.key.base * 1000 + d.dot.item.offset = ap (λ (x : Reading). x.time) w.is ∙ ap (λ (x : ℕ × ℤ). x.0) d.dot_is in
-      let reads : ReadsDot (name_of g) d.key d.all r = record {
+      let dot : ReadsDot (name_of g) d.key d.all r = record {
         dot = d.dot;
         there = d.there;
         metric_is = ap (name_of g Metric) d.of.metric_is ∙ metric_named ∙ ap (λ (x : Reading). Some x.metric) (sym w.is);
@@ -105,7 +101,7 @@ module _ (start end : ℕ) (metric : List ℕ) (id : ℕ) (p : Placed) (own : Li
         time_is = time;
         value_is = ap (λ (x : Reading). x.value) w.is ∙ ap (λ (x : ℕ × ℤ). x.1) d.dot_is;
       } in (
-        (d.found, shows_found d.found d.among, dot_reads (name_of g) id start end d.found d.key d.all r d.of d.are reads),
+        (d.found, shows_found d.found d.among, dot_reads (name_of g) id start end d.found d.key d.all r d.of d.are dot),
         is_asked start end metric r (ap (λ (x : Reading). x.metric) w.is) (subst (λ (x : Reading). IsIn start end x.time) (sym w.is) d.within),
       )
 
@@ -118,10 +114,10 @@ module _ (start end : ℕ) (metric : List ℕ) (id : ℕ) (p : Placed) (own : Li
       let among = of_reading metric series t.0 (dot_at row.key.base d.dot) t.1 (subst (λ (l : List (ℕ × ℤ)). Contains l (dot_at row.key.base d.dot)) (sym t.2.dots_are) there) in
       reading_among metric t.0.tags (dot_at row.key.base d.dot) r (readings_in metric series) a.metric_is tags d.time_is d.value_is among
 
-  shown_from : (r : Reading) → Chosen (is_wanted start end metric) (ShowsReading (name_of g) (p ∷ own)) r → Contains (readings_in metric series) r
-  shown_from r ((f, s, reads), wants) =
+  shown_from : (r : Reading) → Chosen (is_wanted start end metric) (ShowsReading (name_of g) (looks ++ own)) r → Contains (readings_in metric series) r
+  shown_from r ((f, s, read), wants) =
       let row = content.rows f (found_of f s) in
-      shown_at r f row (reads_dot (name_of g) id start end f row.key row.all r row.of row.are reads) (asks start end metric r wants)
+      shown_at r f row (reads_dot (name_of g) id start end f row.key row.all r row.of row.are read) (asks start end metric r wants)
 
   asks_within : AsksWithin (is_wanted start end metric) g id (base_time start) (base_time end)
   asks_within r wants =
@@ -129,15 +125,15 @@ module _ (start end : ℕ) (metric : List ℕ) (id : ℕ) (p : Placed) (own : Li
       let h = hours_within start end r.time a.within in
       (ap (id_of g Metric) a.metric_is ∙ metric_known, h.0, h.1)
 
-  pub stands_in : (h : History) (length_now : ℕ) → first length_now h ≡ g → ScanCovers → IsLawful h → InOrder h length_now (p ∷ own) → (begin : Left) → IsStart id (base_time start) (base_time end) begin → Scanned begin own founds
-      → PartStands (is_wanted start end metric) ((Metric, metric) ∷ []) (record { own = p ∷ own; shown = readings_in metric series }) length_now h
+  pub stands_in : (h : History) (length_now : ℕ) → first length_now h ≡ g → ScanCovers → IsLawful h → InOrder h length_now (looks ++ own) → (begin : Left) → IsStart id (base_time start) (base_time end) begin → Scanned begin own founds
+      → PartStands (is_wanted start end metric) ((Metric, metric) ∷ []) (record { own = looks ++ own; shown = readings_in metric series }) length_now h
   stands_in h n same covering lawful order begin starts whole =
-      let clean_h = subst (λ (x : History). NoClash (name_of x) (is_wanted start end metric) (p ∷ own)) (sym same) clean in
+      let clean_h = subst (λ (x : History). NoClash (name_of x) (is_wanted start end metric) (looks ++ own)) (sym same) clean in
       let within_h = subst (λ (x : History). AsksWithin (is_wanted start end metric) x id (base_time start) (base_time end)) (sym same) asks_within in
-      let to = λ (r : Reading) (c : Contains (readings_in metric series) r). subst (λ (x : History). Chosen (is_wanted start end metric) (ShowsReading (name_of x) (p ∷ own)) r) (sym same) (shown_to r c) in
-      let from = λ (r : Reading) (c : Chosen (is_wanted start end metric) (ShowsReading (name_of (first n h)) (p ∷ own)) r). shown_from r (subst (λ (x : History). Chosen (is_wanted start end metric) (ShowsReading (name_of x) (p ∷ own)) r) same c) in
-      let covers : OwnCovers (is_wanted start end metric) (p ∷ own) n h =
-      covering h n id (base_time start) (base_time end) begin (p ∷ own) founds (is_wanted start end metric) lawful order starts (other (look_other p Metric metric _ looked) whole) (by_series start end metric) within_h clean_h in
+      let to = λ (r : Reading) (c : Contains (readings_in metric series) r). subst (λ (x : History). Chosen (is_wanted start end metric) (ShowsReading (name_of x) (looks ++ own)) r) (sym same) (shown_to r c) in
+      let from = λ (r : Reading) (c : Chosen (is_wanted start end metric) (ShowsReading (name_of (first n h)) (looks ++ own)) r). shown_from r (subst (λ (x : History). Chosen (is_wanted start end metric) (ShowsReading (name_of x) (looks ++ own)) r) same c) in
+      let covers : OwnCovers (is_wanted start end metric) (looks ++ own) n h =
+      covering h n id (base_time start) (base_time end) begin (looks ++ own) founds (is_wanted start end metric) lawful order starts (scan_after begin looks own founds reads whole) (by_series start end metric) within_h clean_h in
       record {
         resolved = λ m c. elim (lower.split {X = NameOf} (Metric, metric) m [] c) [
           | inl is ↦ subst (λ (x : NameOf). (i : ℕ) × (id_of (first n h) x.0 x.1 ≡ Some i)) is (id, subst (λ (x : History). id_of x Metric metric ≡ Some id) (sym same) metric_known)

@@ -1,11 +1,11 @@
 -- What a query is answered, by the entries that its caller makes for it.
 use Rattle.std.specs.Prelude.{◌≡◌, ℕ, Bool, List, [], ◌∷◌, ◌++◌, map, Option, None, Some, Result, Ok, Err}
 use Rattle.std.specs.List.{flat_map}
-use Rattle.cell_model.specs.History.{History, first}
+use Rattle.cell_model.specs.History.{History, first, store_after}
 use Rattle.cell_model.specs.Ids.{name_of}
 use Rattle.cell_model.specs.Readings.{Reading}
 use Rattle.cell_model.specs.Seen.{Seen, InEach}
-use Rattle.cell_model.specs.Deeds.{Made}
+use Rattle.cell_model.specs.Deeds.{Made, before_first}
 use Rattle.json_reply.specs.Replies.{Group, plain}
 use Rattle.json_reply.specs.declared.reply.Reply.{Reply}
 use Rattle.query_run.specs.declared.fault.AskFault.{AskFault}
@@ -19,7 +19,7 @@ module _ {Sub : Type 0} (wanted : Sub → Reading → Bool) (names_in : Sub → 
   abbrev pub Cause : Sub → Part → ℕ → History → AskFault → Type 0
   Cause s part end h (TooManyBuckets count) = (part.own ≡ []) × (barred s ≡ Some (TooManyBuckets count))
   Cause s part end h (Unknown kind name) = (barred s ≡ None) × FirstUnknown (names_in s) (kind, name) part.own (first end h)
-  Cause s part end h (Duplicate time a b) = (barred s ≡ None) × AllResolved (first end h) (names_in s) × FirstClash (name_of (first end h)) (wanted s) part.own time a b
+  Cause s part end h (Duplicate time a b) = (barred s ≡ None) × AllResolved (first end h) (names_in s) × FirstClash (store_after (first (before_first part.own end) h)) (name_of (first end h)) (wanted s) part.own time a b
   Cause s part end h (Overflow time) = (barred s ≡ None) × PartStands (wanted s) (names_in s) part end h × (answer_over s part.shown ≡ Err time)
   Cause s part end h OutOfMemory = Unit {0}
   Cause s part end h Stopped = Unit {0}

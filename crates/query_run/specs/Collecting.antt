@@ -9,12 +9,16 @@ use Rattle.qual_codec.specs.Dots.{Reads}
 use Rattle.cell_model.specs.declared.cells.Found.{Found}
 use Rattle.cell_model.specs.declared.events.Placed.{Placed}
 use Rattle.cell_model.specs.declared.events.Reply.TheVariants.{Next}
+use Rattle.cell_model.specs.declared.cells.Row.{Row}
 use Rattle.cell_model.specs.Store.{bytes_cmp, is_between}
+use Rattle.cell_model.specs.History.{History, first, store_after, entry_at}
+use Rattle.cell_model.specs.Lawful.{IsLawful}
 use Rattle.cell_model.specs.Layout.{base_time}
 use Rattle.cell_model.specs.Readings.{point_row}
 use Rattle.cell_model.specs.Seen.{Seen}
 use Rattle.cell_model.specs.Deeds.{Made}
-use Rattle.row_scan.specs.Scans.{Left, IsNext, IsRowOf, IsStart, Scanned, Scanning}
+use Rattle.row_scan.specs.Scans.{Left, IsNext, IsRowOf, IsStart, HasCell, Scanned, Scanning}
+use Rattle.row_scan.specs.Shown.{ShowsRow}
 use Rattle.row_scan.specs.Kept.{AreDots, values_at, first_clash}
 use Rattle.span_merge.specs.Spans.{Span, dots_of, added}
 use Rattle.query_run.specs.declared.fault.AskFault.{AskFault}
@@ -78,7 +82,7 @@ RowAsked id start end f old before (Err fault) new after = ⊥
 abbrev pub HasId : ℕ → ℕ → ℕ → Found → IdOf → Type 0
 HasId id start end f i = (key : RowKey) × KeyOf id start end f key × Contains (ids_of key.pairs.items) i
 
--- The entries found these rows, which rise, and read the names of these ids, each once; spare: how many more entries there may be.
+-- The entries found these rows, which rise, and read the names of these ids, each at most once; spare: how many more entries there may be.
 pub record Counted (spare id start end : ℕ) (own : List Placed) (founds : List Found) (ids : List IdOf) : Type 0 where
   pub steps : AreQuerySteps own
   pub shows : (p : Placed) (f : Found) → Contains own p → p.entry.reply ≡ Next (Some f) → Contains founds f
@@ -132,6 +136,16 @@ abbrev pub OnlyRows : ℕ → ℕ → ℕ → Left → Type 0
 OnlyRows id start end left =
     (key : RowKey) → IsKey key → IsTrue (is_between Points left.from left.to (point_row (key_bytes key))) → IsRowOf id (base_time start) (base_time end) (point_row (key_bytes key))
 
+-- the entries stand in the history, behind this length
+abbrev pub StandAfter : History → ℕ → List Placed → Type 0
+StandAfter h length own = (p : Placed) → Contains own p → (entry_at h p.place ≡ Some p.entry) × (length < p.place)
+
+-- each row of the scan that was there before the entries, and is below what is left, was found
+pub record FoundBelow (begin left : Left) (own : List Placed) (founds : List Found) : Type 0 where
+  pub to : left.to ≡ begin.to
+  pub each : (h : History) (length : ℕ) → IsLawful h → StandAfter h length own → (row : Row) → IsTrue (is_between Points begin.from begin.to row) → HasCell (store_after (first length h)) row → bytes_cmp row.bytes left.from ≡ Less
+      → (f : Found) × Contains founds f × (f.row ≡ row)
+
 -- the scan has come so far
 pub record Gathering (id start end : ℕ) (begin left : Left) (old : Seen) (spans : List Span) (names : Names) (new : Seen) : Type 0 where
   pub own : List Placed
@@ -143,6 +157,7 @@ pub record Gathering (id start end : ℕ) (begin left : Left) (old : Seen) (span
   pub scanning : Scanning begin own founds left
   pub only : OnlyRows id start end left
   pub passed : (f : Found) → Contains founds f → bytes_cmp f.row.bytes left.from ≡ Less
+  pub below : FoundBelow begin left own founds
   pub content : Gathered id start end founds spans names
   pub shown : AllNamed new names
 
@@ -159,6 +174,12 @@ pub record HasCollected (id start end : ℕ) (old : Seen) (spans : List Span) (n
   pub content : Gathered id start end founds spans names
   pub shown : AllNamed new names
 
+-- the earlier entries show each row of the metric in these hours that was there before all of the entries, and is below this one
+abbrev pub ShowsBelow : ℕ → ℕ → ℕ → List Placed → List Placed → Row → Type 0
+ShowsBelow id start end own earlier below =
+    (h : History) (length : ℕ) → IsLawful h → StandAfter h length own → (row : Row) → IsRowOf id (base_time start) (base_time end) row → HasCell (store_after (first length h)) row → bytes_cmp row.bytes below.bytes ≡ Less
+    → (f : Found) × ShowsRow earlier f × (f.row ≡ row)
+
 -- the last entry shows the first row with a clash, and the clash is the row's first one
 pub record FoundClash (id start end : ℕ) (own : List Placed) (time : ℕ) (a b : ℤ) : Type 0 where
   pub earlier : List Placed
@@ -167,6 +188,7 @@ pub record FoundClash (id start end : ℕ) (own : List Placed) (time : ℕ) (a b
   pub clean : (p : Placed) (f : Found) → Contains earlier p → p.entry.reply ≡ Next (Some f) → RowIsClean id start end f
   pub found : Found
   pub reply : last.entry.reply ≡ Next (Some found)
+  pub passed : ShowsBelow id start end own earlier found.row
   pub clash : RowClashes id start end found time a b
 
 abbrev pub ClashOf : ℕ → ℕ → ℕ → List Placed → AskFault → Type 0

@@ -57,7 +57,7 @@ HasName names i = (name : List ℕ) × (names i.0 i.1 ≡ Some name)
 abbrev pub AreReads : List Placed → Type 0
 AreReads list = (p : Placed) → Contains list p → (row : Row) × (cells : List Cell) × (p.entry.step ≡ Read row) × (p.entry.reply ≡ Shown cells)
 
--- the entries read the names of ids that had none before, each id once; spare: how many entries more there may be
+-- the entries read the names of ids that had none before, each id at most once; spare: how many entries more there may be
 pub record IdReads (spare : ℕ) (before : Names) (asked ids : List IdOf) (list : List Placed) : Type 0 where
   pub reads : AreReads list
   pub count : length list ≤ length ids + spare
@@ -86,10 +86,10 @@ abbrev pub NamesAsked : Seen → Names → List IdOf → Result (Unit {0}) RowsF
 NamesAsked old before asked (Ok x) after new = NamesRead old before asked new after
 NamesAsked old before asked (Err fault) after new = NamesCut old before asked new
 
--- the id was there, or one read showed its name, which was added
+-- the id was there, or its name was learnt by one read or by none, and added
 pub data IdNamed (old : Seen) (kind : Kind) (id : ℕ) (before after : List (ℕ × List ℕ)) (new : Seen) : Type 0 where
   there : {name : List ℕ} → listed before id ≡ Some name → Made old [] new → after ≡ before → IdNamed old kind id before after new
-  asked : {p : Placed} {name : List ℕ} → listed before id ≡ None → Made old (p ∷ []) new → AreReads (p ∷ []) → HasShownName new kind id name
+  asked : {list : List Placed} {name : List ℕ} → listed before id ≡ None → Made old list new → AreReads list → length list ≤ 1 → HasShownName new kind id name
       → ((q : ℕ) → listed after q ≡ cond (is_at (nat_cmp id) q) (Some name) (listed before q)) → IdNamed old kind id before after new
 
 -- it wasn't there, and it was broken off

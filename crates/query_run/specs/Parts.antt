@@ -1,5 +1,6 @@
 -- The part of a query's entries that was made for one sub query, and what it shows.
 use Rattle.std.specs.Prelude.{◌≡◌, ◌↔◌, ℕ, ℤ, ◌+◌, ◌*◌, ◌≤◌, Bool, IsTrue, List, ◌∷◌, ◌++◌, length, Contains, Option, Some, None}
+use Rattle.std.specs.declared.cmp.Ordering.TheVariants.{Less}
 use Rattle.tsd_base.specs.declared.kinds.Kind.{Kind}
 use Rattle.tsd_base.specs.declared.kinds.Kind.TheVariants.{Metric, TagKey, TagValue}
 use Rattle.row_key.specs.declared.keys.RowKey.{RowKey}
@@ -11,14 +12,16 @@ use Rattle.cell_model.specs.declared.events.Placed.{Placed}
 use Rattle.cell_model.specs.declared.events.Step.{Step}
 use Rattle.cell_model.specs.declared.events.Step.TheVariants.{Read, NextRow}
 use Rattle.cell_model.specs.declared.events.Reply.TheVariants.{Next}
+use Rattle.cell_model.specs.Order.{bytes_cmp}
+use Rattle.cell_model.specs.Store.{Store, value_at}
 use Rattle.cell_model.specs.History.{History, first, store_after}
 use Rattle.cell_model.specs.Ids.{id_of, name_of}
-use Rattle.cell_model.specs.Readings.{Reading, Accepted, point_row}
+use Rattle.cell_model.specs.Readings.{Reading, Accepted, CellReads, point_row}
 use Rattle.cell_model.specs.Deeds.{before_first}
 use Rattle.uid_table.specs.Steps.{DidLook}
 use Rattle.row_scan.specs.Kept.{AreDots, values_at, first_clash}
 use Rattle.row_scan.specs.Scans.{IsRowOf, HasCell}
-use Rattle.row_scan.specs.Shown.{RowReads, ShowsReading, Chosen, Covers, NoClash}
+use Rattle.row_scan.specs.Shown.{RowReads, ShowsRow, ShowsReading, Chosen, Covers, NoClash}
 
 -- a name with its kind
 abbrev pub NameOf : Type 0
@@ -77,8 +80,14 @@ pub record HasClash (names : Kind → ℕ → Option (List ℕ)) (wanted : Readi
   pub at_time : reading.time ≡ time
   pub asked : IsTrue (wanted reading)
 
--- the first row shown that has a clash has its least one at this time
-pub record FirstClash (names : Kind → ℕ → Option (List ℕ)) (wanted : Reading → Bool) (own : List Placed) (time : ℕ) (a b : ℤ) : Type 0 where
+-- each row below this one that had a wanted reading in the store is shown
+abbrev pub ShowsRowsBelow : Store → (Kind → ℕ → Option (List ℕ)) → (Reading → Bool) → List Placed → Row → Type 0
+ShowsRowsBelow began names wanted own below =
+    (row qual value : List ℕ) (r : Reading) → value_at began (point_row row) qual ≡ Some value → CellReads names row qual value r → IsTrue (wanted r) → bytes_cmp row below.bytes ≡ Less
+    → (found : Found) × ShowsRow own found × (found.row ≡ point_row row)
+
+-- The first row shown that has a clash has its least one at this time. No row was passed over before it, of those that were there when the part began.
+pub record FirstClash (began : Store) (names : Kind → ℕ → Option (List ℕ)) (wanted : Reading → Bool) (own : List Placed) (time : ℕ) (a b : ℤ) : Type 0 where
   pub earlier : List Placed
   pub at : Placed
   pub later : List Placed
@@ -86,6 +95,7 @@ pub record FirstClash (names : Kind → ℕ → Option (List ℕ)) (wanted : Rea
   pub clean : NoClash names wanted earlier
   pub found : Found
   pub reply : at.entry.reply ≡ Next (Some found)
+  pub passed : ShowsRowsBelow began names wanted earlier found.row
   pub clash : HasClash names wanted found time a b
   pub least : (t : ℕ) (c d : ℤ) → HasClash names wanted found t c d → time ≤ t
 

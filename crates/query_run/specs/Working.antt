@@ -1,5 +1,5 @@
 -- Working one sub query.
-use Rattle.std.specs.Prelude.{◌≡◌, ℕ, ◌≤◌, true, List, [], ◌∷◌, length, map, None, Some, Result, Ok, Err}
+use Rattle.std.specs.Prelude.{◌≡◌, ℕ, ◌≤◌, true, List, [], ◌∷◌, length, map, None, Result, Ok, Err}
 use Rattle.std.specs.Global.{Vec}
 use Rattle.tsd_base.specs.declared.kinds.Kind.TheVariants.{Metric}
 use Rattle.tsd_base.specs.declared.kinds.Aggregator.{Aggregator}
@@ -9,12 +9,11 @@ use Rattle.query_text.specs.declared.queries.Query.{Query}
 use Rattle.query_text.specs.declared.queries.Sub.{Sub}
 use Rattle.cell_model.specs.declared.events.Placed.{Placed}
 use Rattle.cell_model.specs.History.{History, first}
-use Rattle.cell_model.specs.Ids.{id_bytes}
 use Rattle.cell_model.specs.Layout.{base_time}
 use Rattle.cell_model.specs.Seen.{Seen, InEach}
 use Rattle.cell_model.specs.Deeds.{Made, Extends}
 use Rattle.uid_table.specs.Shown.{HasShown}
-use Rattle.uid_table.specs.Steps.{DidLook}
+use Rattle.uid_table.specs.Steps.{MadeSo, LookedOrKept, DidLook}
 use Rattle.span_merge.specs.Spans.{Span}
 use Rattle.query_run.specs.declared.series.Series.{Series}
 use Rattle.query_run.specs.declared.fault.AskFault.{AskFault}
@@ -27,9 +26,9 @@ use Rattle.query_run.specs.Series.{points_in}
 use Rattle.query_run.specs.Naming.{Names, AreReads}
 use Rattle.query_run.specs.Titling.{Titles}
 
--- the metric was asked by one read, or by none where there was no memory or the caller was stopped
+-- the metric was asked by one read, or by none where its id was kept, where there was no memory, or where the caller was stopped
 abbrev pub ResolveSays : List ℕ → Seen → Result ℕ AskFault → Seen → Type 0
-ResolveSays metric old (Ok id) new = (p : Placed) × Made old (p ∷ []) new × DidLook p Metric metric (Some (id_bytes id)) × HasShown new Metric metric id
+ResolveSays metric old (Ok id) new = MadeSo old (LookedOrKept Metric metric id) new × HasShown new Metric metric id
 ResolveSays metric old (Err (Unknown kind name)) new = (kind ≡ Metric) × (name ≡ metric) × (p : Placed) × Made old (p ∷ []) new × DidLook p Metric metric None
 ResolveSays metric old (Err OutOfMemory) new = (list : List Placed) × Made old list new × AreReads list × (length list ≤ 1)
 ResolveSays metric old (Err Stopped) new = (list : List Placed) × Made old list new × AreReads list × (length list ≤ 1)

@@ -25,8 +25,9 @@ fn add(groups: &mut Vec<Group>, more: Vec<Group>) -> Result<(), AllocError>
 ///
 /// Each sub query is worked alone. Its metric is resolved; then the rows of the metric in the hours from the start's to the end's are
 /// read one by one, and directly after each the names of the ids that it shows and that the sub query has not named before, pair by
-/// pair from the left, key before value. What these rows show covers every point in range that was accepted before the first of
-/// these steps, and lies within what is accepted at the end.
+/// pair from the left, key before value. A metric whose id `names` has kept takes no read, and neither does an id whose name it has
+/// kept. What these rows show covers every point in range that was accepted before the first of these steps, and lies within what is
+/// accepted at the end.
 ///
 /// Sub queries with a downsample or filters, and times in seconds, are not built yet.
 pub fn ask<R: Rows + Drop>(

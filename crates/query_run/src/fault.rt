@@ -16,7 +16,8 @@ pub enum AskFault {
     /// No name of this kind is the one that the sub query has.
     Unknown { kind: Kind, name: Name },
     /// A row that was read has two values at this time: the first cell that has one has `a`, and the first behind it that has
-    /// another has `b`. It is the first such row, and its least such time.
+    /// another has `b`. It is the first such row, and its least such time. Each row below it with a reading that is asked for, which
+    /// was there before the sub query's first step, was read before it.
     Duplicate { time: u64, a: i64, b: i64 },
     /// A sum leaves `i64` at this time, the least of the first group that has one.
     Overflow { time: u64 },

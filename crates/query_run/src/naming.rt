@@ -35,7 +35,7 @@ impl IdNames {
     }
 }
 
-/// Asks for the name of an id, where it isn't there yet.
+/// Asks for the name of an id, where it isn't there yet, by one read, or by none where it is kept.
 fn name_id<R: Rows + Drop>(
     alloc: Global,
     names: &mut Uids<R>,

@@ -23,7 +23,7 @@ use tsd_base::names::Name;
 use uid_table::answers::ResolveFault;
 use uid_table::uids::Uids;
 
-/// The id of a metric.
+/// The id of a metric, by one read, or by none where it is kept.
 fn resolved<R: Rows + Drop>(
     alloc: Global,
     names: &mut Uids<R>,

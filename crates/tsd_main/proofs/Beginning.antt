@@ -4,6 +4,7 @@ use Rattle.std.specs.Prelude.{Option, None, Some, option_map, option_and_then, n
 use Rattle.std.specs.Option.{option_map_or}
 use Rattle.std.specs.Int.{w64, from_be_bytes}
 use Rattle.std.specs.FinMap.{empty, get-empty}
+use Rattle.tsd_base.specs.Points.{DataPoint}
 use Rattle.tsd_base.specs.declared.kinds.Kind.{Kind}
 use Rattle.tsd_base.specs.declared.kinds.Kind.TheVariants.{Metric, TagKey, TagValue}
 use Rattle.cell_model.specs.declared.cells.Row.{Row}
@@ -14,15 +15,14 @@ use Rattle.cell_model.specs.History.History.{Base, Then}
 use Rattle.cell_model.specs.Ids.{id_number, name_row, reverse_row}
 use Rattle.cell_model.specs.Machine.{counter_row, kind_qual}
 use Rattle.cell_model.specs.Order.{place_cmp}
-use Rattle.cell_model.specs.Readings.{Reading}
 use Rattle.cell_model.specs.Seen.{Fits, IsPossible, Seen}
 use Rattle.cell_model.specs.Sound.{IsBase}
 use Rattle.cell_model.specs.Store.{place_of, value_at}
 use Rattle.cell_solo.specs.Turns.{opened, opening, whole_seen}
 use Rattle.tsd_main.specs.Ids.{id_in, no_names}
 use Rattle.tsd_main.specs.Naming.{list_of}
-use Rattle.tsd_main.specs.Storing.{IsNaming, IsNumbered, WasPut}
-use Rattle.tsd_main.proofs.Entering.{put_before}
+use Rattle.tsd_main.specs.Storing.{IsNaming, IsNumbered, IsUnmerged, WasPut}
+use Rattle.tsd_main.proofs.Entering.{put_before, unmerged_then}
 use Rattle.tsd_main.proofs.Lower.{here, nat_eq_is, not_Some}
 
 no_cell : (row : Row) (qual : List ℕ) → value_at empty row qual ≡ None
@@ -79,7 +79,7 @@ none_numbered = record {
   ids = λ kind name is. ap (option_and_then id_number) (no_cell (name_row name) (kind_qual kind)) ∙ ap (λ list. id_in list name) (sym (no_list kind));
 }
 
-none_put : (r : Reading) → WasPut begun r → ⊥
+none_put : (r : DataPoint) → WasPut begun r → ⊥
 none_put r put =
     ⊎_elim
     (λ (before : WasPut (Base empty) r). not_Some before.0 (sym before.1.1))
@@ -97,5 +97,6 @@ pub naming_begins : (s : Seen) → s ≡ whole_seen (opened empty 1) 1 true → 
 naming_begins s same possible = record {
   by = record { base = ap (λ (x : Seen). x.base) same; alone = ap (λ (x : Seen). x.alone) same; possible = possible };
   numbered = λ h lawful fits. subst (IsNumbered no_names) (sym (begins s h same fits)) none_numbered;
+  unmerged = λ h lawful fits. subst IsUnmerged (sym (begins s h same fits)) (unmerged_then (Base empty) (opening 1) (λ c. c) (λ e had. absurd (not_Some e (sym had.1))));
   unput = λ h lawful fits r put. none_put r (subst (λ x. WasPut x r) (begins s h same fits) put);
 }

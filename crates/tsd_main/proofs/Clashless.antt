@@ -1,15 +1,12 @@
--- No row that a query over stored points shows has two values at one time.
-use Rattle.std.proofs.Common.{◌≡◌, ⊎_elim, ℕ, ℤ, ◌+◌, ◌-◌, ◌*◌, ◌≤◌, Bool, true, false, List, [], ◌∷◌, ◌++◌, refl, sym, ap, subst, ◌∙◌, arith, Equal}
-use Rattle.std.specs.Prelude.{Option, None, Some, Contains, map, filter, find, not, if◌then◌else◌, option_map}
-use Rattle.std.specs.FinMap.{entries, entries_sorted, get-entries}
-use Rattle.std.specs.FinMap.Entries as entry
-use Rattle.std.specs.Ordering.{eq_by_cmp, int_eq, is_eq}
-use Rattle.std.specs.declared.cmp.Ordering.{Ordering}
-use Rattle.std.specs.declared.cmp.Ordering.TheVariants.{Less, Greater}
-use Rattle.std.proofs.lemmas.List.Elements.{All-contains, All-from_recursion, Contains-append_cases, Contains-append_left}
+-- Two values at one time of a row that a query over stored points shows were put.
+use Rattle.std.proofs.Common.{◌≡◌, ⊎_elim, ℕ, ℤ, ◌+◌, ◌-◌, ◌*◌, ◌≤◌, Bool, true, false, List, [], ◌∷◌, ◌++◌, refl, sym, ap, subst, ◌∙◌, arith}
+use Rattle.std.specs.Prelude.{Option, None, Some, Contains, map, find, not, if◌then◌else◌, option_map}
+use Rattle.std.specs.Ordering.{int_eq}
+use Rattle.std.proofs.lemmas.List.Elements.{Contains-append_cases, Contains-append_left}
 use Rattle.std.proofs.lemmas.Bool.{true≢false}
 use Rattle.std.proofs.lemmas.Cmp.{int_eq_equiv}
 use Rattle.row_key.specs.declared.keys.RowKey.{RowKey}
+use Rattle.row_key.specs.declared.tables.Table.TheVariants.{Points}
 use Rattle.qual_codec.specs.declared.cells.Cell.{Cell}
 use Rattle.qual_codec.specs.declared.cells.Dot.{Dot}
 use Rattle.qual_codec.specs.Dots.{IsDots}
@@ -29,34 +26,17 @@ use Rattle.cell_model.specs.History.{History, first, store_after}
 use Rattle.cell_model.specs.Ids.{name_of}
 use Rattle.cell_model.specs.Lawful.{IsLawful}
 use Rattle.cell_model.specs.Machine.{reply_of}
-use Rattle.cell_model.specs.Order.{place_cmp, row_cmp}
-use Rattle.cell_model.specs.Readings.{Reading, CellReads, HasReading, point_row, reading_of}
+use Rattle.cell_model.specs.Readings.{Reading, CellReads, HasReading, OneValued, point_row, reading_of}
 use Rattle.cell_model.specs.Seen.{Seen, Fits}
-use Rattle.cell_model.specs.Store.{Store, cell_of, cells_of, value_at}
+use Rattle.cell_model.specs.Store.{Store, cells_of, value_at}
 use Rattle.query_run.specs.Parts.{AreQuerySteps, HasClash, IsQueryStep}
 use Rattle.row_scan.specs.Kept.{AreDots, first_clash, values_at}
+use Rattle.row_scan.specs.Shown.{RowReads}
 use Rattle.tsd_main.specs.Storing.{IsStored}
-use Rattle.tsd_main.proofs.Asking.{accepted_put, base_is, one_value, put_before_it, query_keeps}
-use Rattle.tsd_main.proofs.Follows.{follows, went}
-use Rattle.tsd_main.proofs.LastPoints.{AreCoarse}
-use Rattle.tsd_main.proofs.Lower.{deeds_each, deeds_joined, each_entry, exact_rows, in_filter, map_in, one_key, places_total, sound_after, standing_accepted, first_lawful, value_dot, there, here, not_in}
-use Rattle.tsd_main.proofs.MapLemmas.{Each-found}
+use Rattle.tsd_main.proofs.Asking.{accepted_last, query_keeps}
+use Rattle.tsd_main.proofs.Follows.{follows}
+use Rattle.tsd_main.proofs.Lower.{cell_at, deeds_each, deeds_joined, each_entry, one_key, sound_after, standing_accepted, first_lawful, value_dot, there, here, not_in}
 use Rattle.tsd_main.proofs.PointRows.{in_points}
-
--- ---- cells of a row
-is_equal : (o : Ordering) → is_eq o ≡ true → o ≡ Equal
-is_equal Equal e = refl
-is_equal Less e = absurd cc
-is_equal Greater e = absurd cc
-
-cell_stands : (s : Store) (row : Row) (c : Cell) → Contains (cells_of s row) c → value_at s row c.qual ≡ Some c.value
-cell_stands s row c has =
-    let e = map_in cell_of (filter (λ e. eq_by_cmp row_cmp row e.0.row) (entries s)) c has in
-    let f = in_filter (λ e. eq_by_cmp row_cmp row e.0.row) (entries s) e.0 e.1 in
-    let same : row ≡ e.0.0.row = exact_rows row e.0.0.row (is_equal (row_cmp row e.0.0.row) f.1) in
-    let found = All-contains (λ (x : Place × Content). entry.find place_cmp x.0 (entries s) ≡ Some x.1) (entries s) e.0 (All-from_recursion (λ (x : Place × Content). entry.find place_cmp x.0 (entries s) ≡ Some x.1) (entries s) (Each-found place_cmp places_total (entries s) (entries_sorted s))) f.0 in
-    ap (λ (r : Row). value_at s r c.qual) same ∙ ap (value_at s e.0.0.row) (sym (ap (λ (x : Cell). x.qual) e.2))
-    ∙ ap (option_map (λ (x : Content). x.value)) (get-entries s e.0.0 ∙ found) ∙ ap (λ (x : Cell). Some x.value) e.2
 
 -- ---- what a next row shows
 not_shown : {f : Found} {cells : List Cell} → Next (Some f) ≡ Shown cells → ⊥
@@ -79,14 +59,14 @@ found_cells s place (PutMerged row qual value) f q e = absurd q
 found_cells s place (DropCells row which) f q e = absurd q
 
 -- ---- the cell of a dot
-record CellOf (cells : List Cell) (x : Dot) : Type 0 where
+pub record CellOf (cells : List Cell) (x : Dot) : Type 0 where
   pub cell : Cell
   pub among : Contains cells cell
   pub dots : List Dot
   pub reads : IsDots cell.qual cell.value dots
   pub has : Contains dots x
 
-cell_of_dot : (cells : List Cell) (all : List Dot) (x : Dot) → AreDots cells all → Contains all x → CellOf cells x
+pub cell_of_dot : (cells : List Cell) (all : List Dot) (x : Dot) → AreDots cells all → Contains all x → CellOf cells x
 cell_of_dot [] all x are has = absurd (not_in x (subst (λ (ds : List Dot). Contains ds x) are has))
 cell_of_dot (c ∷ cells) all x (dots, rest, reads, are, is) has = ⊎_elim
     (λ (first_ : Contains dots x). record { cell = c; among = here c cells; dots = dots; reads = reads; has = first_ })
@@ -94,7 +74,7 @@ cell_of_dot (c ∷ cells) all x (dots, rest, reads, are, is) has = ⊎_elim
     (Contains-append_cases dots rest x (subst (λ (ds : List Dot). Contains ds x) is has))
 
 -- ---- two values
-record Differ (values : List ℤ) (a b : ℤ) : Type 0 where
+pub record Differ (values : List ℤ) (a b : ℤ) : Type 0 where
   pub first_ : Contains values a
   pub second : Contains values b
   pub apart : int_eq a b ≡ false
@@ -107,11 +87,11 @@ find_has p (v ∷ vs) b e = at (p v) refl (λ e. find_has p vs b e) e
     at true t rest e = let same : v ≡ b = cc in (subst (Contains (v ∷ vs)) same (here v vs), subst (λ x. p x ≡ true) same t)
     at false t rest e = let r = rest e in (there v b vs r.0, r.1)
 
-not_not : (t : Bool) → not t ≡ true → t ≡ false
-not_not true e = absurd cc
-not_not false e = refl
+pub not_true : (t : Bool) → not t ≡ true → t ≡ false
+not_true true e = absurd cc
+not_true false e = refl
 
-differ : (vs : List ℤ) (a b : ℤ) → first_clash vs ≡ Some (a, b) → Differ vs a b
+pub differ : (vs : List ℤ) (a b : ℤ) → first_clash vs ≡ Some (a, b) → Differ vs a b
 differ [] a b e = absurd cc
 differ (v ∷ vs) a b e = at (find (λ x. not (int_eq v x)) vs) refl e
   where
@@ -123,12 +103,12 @@ differ (v ∷ vs) a b e = at (find (λ x. not (int_eq v x)) vs) refl e
         record {
           first_ = subst (Contains (v ∷ vs)) (ap (λ (p : ℤ × ℤ). p.0) pair) (here v vs);
           second = subst (Contains (v ∷ vs)) (ap (λ (p : ℤ × ℤ). p.1) pair) (there v x vs f.0);
-          apart = subst (λ (p : ℤ × ℤ). int_eq p.0 p.1 ≡ false) pair (not_not (int_eq v x) f.1);
+          apart = subst (λ (p : ℤ × ℤ). int_eq p.0 p.1 ≡ false) pair (not_true (int_eq v x) f.1);
         }
 
-module _ (points : List DataPoint) (coarse : AreCoarse points) (old new : Seen) (list : List Placed) (stored : IsStored points old) (made : Made old list new) (steps : AreQuerySteps list) (h : History) (lawful : IsLawful h) (fits : Fits new h) where
+module _ (ms : Bool) (points : List DataPoint) (old new : Seen) (list : List Placed) (stored : IsStored ms points old) (made : Made old list new) (steps : AreQuerySteps list) (h : History) (lawful : IsLawful h) (fits : Fits new h) where
   -- the store stays what it was
-  same_store : (m : ℕ) → old.length ≤ m → m ≤ new.length → store_after (first m h) ≡ store_after (first old.length h)
+  pub same_store : (m : ℕ) → old.length ≤ m → m ≤ new.length → store_after (first m h) ≡ store_after (first old.length h)
   same_store m low up =
       let only = made.since.only stored.by.alone h fits in
       let go = follows h old.caller old.length m low (λ place e a b is. only place e a (omega (arith, b, up)) is) in
@@ -137,24 +117,33 @@ module _ (points : List DataPoint) (coarse : AreCoarse points) (old new : Seen) 
       ap store_after go ∙ query_keeps (first old.length h) part (λ d has. steps d (subst (λ (xs : List Placed). Contains xs d) (sym joined) (Contains-append_left part (deeds h old.caller m new.length) d has)))
 
   module _ (at : Placed) (among : Contains list at) (found : Found) (reply : at.entry.reply ≡ Next (Some found)) where
-    -- its cells stand at the end
-    cells_stand : (c : Cell) → Contains found.cells c → value_at (store_after (first new.length h)) found.row c.qual ≡ Some c.value
-    cells_stand c has =
+    -- its cells are those of its row at the end
+    pub cells_row : found.cells ≡ cells_of (store_after (first new.length h)) found.row
+    cells_row =
         let own = deeds_each h old.caller old.length new.length at (subst (λ (xs : List Placed). Contains xs at) (sym (made.made h fits)) among) in
         let legal = each_entry h at.place at.entry lawful own.stands in
-        let s = store_after (first (at.place - 1) h) in
         let above = own.above in
         let within = own.within in
-        let cells = found_cells s at.place at.entry.step found (steps at among) (sym reply ∙ legal.reply) in
-        let same : s ≡ store_after (first new.length h) = same_store (at.place - 1) (omega (arith, above)) (omega (arith, within)) ∙ sym (same_store new.length (made.since.extends.length) (omega arith)) in
-        ap (λ x. value_at x found.row c.qual) (sym same) ∙ cell_stands s found.row c (subst (λ (cs : List Cell). Contains cs c) cells has)
+        let cells = found_cells (store_after (first (at.place - 1) h)) at.place at.entry.step found (steps at among) (sym reply ∙ legal.reply) in
+        let same = same_store (at.place - 1) (omega (arith, above)) (omega (arith, within)) ∙ sym (same_store new.length (made.since.extends.length) (omega arith)) in
+        cells ∙ ap (λ (s : Store). cells_of s found.row) same
+
+    -- and stand there
+    pub cells_stand : (c : Cell) → Contains found.cells c → value_at (store_after (first new.length h)) found.row c.qual ≡ Some c.value
+    cells_stand c has = cell_at (store_after (first new.length h)) found.row c (subst (λ (cs : List Cell). Contains cs c) cells_row has)
+
+    -- a row that reads is a point row
+    pub found_table : (r : Reading) → RowReads (name_of (first new.length h)) found r → found.row.table ≡ Points
+    found_table r reads =
+        in_points (store_after (first new.length h)) found.row reads.cell.qual reads.cell.value reads.reads.dots reads.reads.dot_reads.key (sound_after (first new.length h) (first_lawful h new.length lawful)) (cells_stand reads.cell reads.among)
+        reads.reads.reads reads.reads.dot_reads.row_is
 
     module _ (wanted : Reading → Bool) (time : ℕ) (a b : ℤ) (clash : HasClash (name_of (first new.length h)) wanted found time a b) where
       abbrev names : Kind → ℕ → Option (List ℕ)
       names = name_of (first new.length h)
 
       -- the reading of one of the two values was put
-      put_value : (v : ℤ) → Contains (values_at clash.offset clash.dots) v → Contains (map reading_of (last_points points)) (record { metric = clash.reading.metric; tags = clash.reading.tags; time = time; value = v })
+      pub put_value : (v : ℤ) → Contains (values_at clash.offset clash.dots) v → Contains (map reading_of (last_points points)) (record { metric = clash.reading.metric; tags = clash.reading.tags; time = time; value = v })
       put_value v has =
           let d = value_dot clash.dots clash.offset v has in
           let c = cell_of_dot found.cells clash.dots d.dot clash.are_dots d.among in
@@ -187,14 +176,13 @@ module _ (points : List DataPoint) (coarse : AreCoarse points) (old new : Seen) 
             reads = reads;
           } in
           let accepted = standing_accepted (first new.length h) r (first_lawful h new.length lawful) stands in
-          let w = went old new list h made stored.by lawful fits in
-          (stored.puts h lawful w.fitted r).0
-          (put_before_it points coarse old new list stored made steps h lawful fits r (accepted_put h new.length r (base_is points coarse old new list stored made steps h lawful fits) accepted))
+          accepted_last ms points old new list stored made steps h lawful fits r accepted
 
-      pub no_clash : ⊥
-      no_clash =
+      -- so there is a clash only where there are two values
+      pub two_values : OneValued (Contains (map reading_of (last_points points))) → ⊥
+      two_values single =
           let d = differ (values_at clash.offset clash.dots) a b clash.values in
-          let same : a ≡ b = one_value points coarse (record { metric = clash.reading.metric; tags = clash.reading.tags; time = time; value = a }) (record { metric = clash.reading.metric; tags = clash.reading.tags; time = time; value = b })
+          let same : a ≡ b = single (record { metric = clash.reading.metric; tags = clash.reading.tags; time = time; value = a }) (record { metric = clash.reading.metric; tags = clash.reading.tags; time = time; value = b })
           (put_value a d.first_) (put_value b d.second) (record { metric = refl; tags = refl; time = refl }) in
           not_itself a (subst (λ x. int_eq a x ≡ false) (sym same) d.apart)
         where

@@ -15,15 +15,15 @@ use Rattle.cell_model.specs.declared.events.Place.{Place}
 use Rattle.cell_model.specs.declared.events.Placed.{Placed}
 use Rattle.cell_model.specs.declared.events.Reply.TheVariants.{Shown}
 use Rattle.cell_model.specs.declared.events.Step.{Step}
-use Rattle.cell_model.specs.declared.events.Step.TheVariants.{Read, Bump, Claim, PutPoint}
-use Rattle.cell_model.specs.History.{History, len, entry_at, store_after}
+use Rattle.cell_model.specs.declared.events.Step.TheVariants.{Open, Read, NextRow, Bump, Claim, PutPoint, PutMerged, DropCells}
+use Rattle.cell_model.specs.History.{History, Had, len, entry_at, store_after}
+use Rattle.cell_model.specs.Laws.{IsCompaction}
 use Rattle.cell_model.specs.History.History.{Then}
 use Rattle.cell_model.specs.Ids.{name_row}
 use Rattle.cell_model.specs.Machine.{after, counter_of, counter_row, kind_qual, or_written, reply_of, MOST_IDS}
-use Rattle.cell_model.specs.Readings.{Reading, IsPut}
 use Rattle.cell_model.specs.Store.{Store, cells_of, place_of, value_at, value_among, written}
 use Rattle.uid_table.specs.Steps.{DidLook}
-use Rattle.tsd_main.specs.Storing.{WasPut}
+use Rattle.tsd_main.specs.Storing.{IsUnmerged, Puts, WasPut}
 use Rattle.tsd_main.proofs.Follows.{follow}
 use Rattle.tsd_main.proofs.Lower.{cells_have, content-written_other, entry_at-last, entry_at-more, here, there, not_in, not_zero, split}
 
@@ -94,47 +94,93 @@ pub looked : (h : History) (d : Placed) (kind : Kind) (name : List ℕ) (shown :
 looked h d kind name shown legal look = looked_at (store_after h) (len h + 1) d kind name shown legal look
 
 -- ---- points that were put
-pub put_stays : (h : History) (e : Entry) (r : Reading) → WasPut h r → WasPut (Then h e) r
+pub put_stays : (h : History) (e : Entry) (r : DataPoint) → WasPut h r → WasPut (Then h e) r
 put_stays h e r p = (p.0, (p.1.0, entry_at-more h e p.0 p.1.0 p.1.1), p.2)
 
-pub put_last : (h : History) (e : Entry) (r : Reading) → IsPut e.step r → WasPut (Then h e) r
+pub put_last : (h : History) (e : Entry) (r : DataPoint) → Puts e.step r → WasPut (Then h e) r
 put_last h e r p = (e, (len h + 1, entry_at-last h e), p)
 
 entry_is : (a b : Entry) → Some a ≡ Some b → a ≡ b
 entry_is a b e = cc
 
-pub put_before : (h : History) (e : Entry) (r : Reading) → WasPut (Then h e) r → WasPut h r ⊎ IsPut e.step r
+pub put_before : (h : History) (e : Entry) (r : DataPoint) → WasPut (Then h e) r → WasPut h r ⊎ Puts e.step r
 put_before h e r p = at (nat_eq p.1.0 (len h + 1)) p.1.1
   where
-    at : (b : Bool) → (if b then Some e else entry_at h p.1.0) ≡ Some p.0 → WasPut h r ⊎ IsPut e.step r
-    at true is = inr (subst (λ (x : Entry). IsPut x.step r) (sym (entry_is e p.0 is)) p.2)
+    at : (b : Bool) → (if b then Some e else entry_at h p.1.0) ≡ Some p.0 → WasPut h r ⊎ Puts e.step r
+    at true is = inr (subst (λ (x : Entry). Puts x.step r) (sym (entry_is e p.0 is)) p.2)
     at false is = inl (p.0, (p.1.0, is), p.2)
 
--- none of the entries puts a point
+-- the step neither puts a point nor merges or drops cells
+abbrev pub IsQuiet : Step → Type 0
+IsQuiet (PutPoint point row qual value) = ⊥
+IsQuiet (PutMerged row qual value) = ⊥
+IsQuiet (DropCells row which) = ⊥
+IsQuiet _ = Unit {0}
+
+quiet_puts : (step : Step) → IsQuiet step → (p : DataPoint) → Puts step p → ⊥
+quiet_puts Open q p put = put
+quiet_puts (Read row) q p put = put
+quiet_puts (NextRow table from to) q p put = put
+quiet_puts (Bump kind) q p put = put
+quiet_puts (Claim row qual value) q p put = put
+quiet_puts (PutPoint point row qual value) q p put = q
+quiet_puts (PutMerged row qual value) q p put = q
+quiet_puts (DropCells row which) q p put = q
+
+quiet_merges : (step : Step) → IsQuiet step → IsCompaction step → ⊥
+quiet_merges Open q c = c
+quiet_merges (Read row) q c = c
+quiet_merges (NextRow table from to) q c = c
+quiet_merges (Bump kind) q c = c
+quiet_merges (Claim row qual value) q c = c
+quiet_merges (PutPoint point row qual value) q c = q
+quiet_merges (PutMerged row qual value) q c = q
+quiet_merges (DropCells row which) q c = q
+
+-- all entries are so
 abbrev pub PutNothing : List Placed → Type 0
-PutNothing list = (d : Placed) → Contains list d → (r : Reading) → IsPut d.entry.step r → ⊥
+PutNothing list = (d : Placed) → Contains list d → IsQuiet d.entry.step
 
-pub nothing_by : (d : Placed) (step : Step) → d.entry.step ≡ step → ((r : Reading) → IsPut step r → ⊥) → (r : Reading) → IsPut d.entry.step r → ⊥
-nothing_by d step is never r p = never r (subst (λ s. IsPut s r) is p)
+pub nothing_by : (d : Placed) (step : Step) → d.entry.step ≡ step → IsQuiet step → IsQuiet d.entry.step
+nothing_by d step is quiet = subst IsQuiet (sym is) quiet
 
-pub puts_stay : (h : History) (list : List Placed) (r : Reading) → WasPut h r → WasPut (follow h list) r
+pub puts_stay : (h : History) (list : List Placed) (r : DataPoint) → WasPut h r → WasPut (follow h list) r
 puts_stay h [] r p = p
 puts_stay h (d ∷ list) r p = puts_stay (Then h d.entry) list r (put_stays h d.entry r p)
 
-pub put_nothing : (h : History) (list : List Placed) → PutNothing list → (r : Reading) → WasPut (follow h list) r → WasPut h r
+pub put_nothing : (h : History) (list : List Placed) → PutNothing list → (r : DataPoint) → WasPut (follow h list) r → WasPut h r
 put_nothing h [] never r p = p
 put_nothing h (d ∷ list) never r p = at (put_before h d.entry r (put_nothing (Then h d.entry) list (λ x c. never x (there d x list c)) r p))
   where
-    at : WasPut h r ⊎ IsPut d.entry.step r → WasPut h r
+    at : WasPut h r ⊎ Puts d.entry.step r → WasPut h r
     at (inl before) = before
-    at (inr put) = absurd (never d (here d list) r put)
+    at (inr put) = absurd (quiet_puts d.entry.step (never d (here d list)) r put)
 
 pub nothing_nil : PutNothing []
 nothing_nil d c = absurd (not_in d c)
 
-pub nothing_more : (d : Placed) (list : List Placed) → ((r : Reading) → IsPut d.entry.step r → ⊥) → PutNothing list → PutNothing (d ∷ list)
+pub nothing_more : (d : Placed) (list : List Placed) → IsQuiet d.entry.step → PutNothing list → PutNothing (d ∷ list)
 nothing_more d list never rest x c = at (split d x list c)
   where
-    at : (d ≡ x) ⊎ Contains list x → (r : Reading) → IsPut x.entry.step r → ⊥
-    at (inl same) = subst (λ (y : Placed). (r : Reading) → IsPut y.entry.step r → ⊥) same never
+    at : (d ≡ x) ⊎ Contains list x → IsQuiet x.entry.step
+    at (inl same) = subst (λ (y : Placed). IsQuiet y.entry.step) same never
     at (inr later) = rest x later
+
+-- ---- histories without merges and drops
+pub had_before : (h : History) (last e : Entry) → Had (Then h last) e → (last ≡ e) ⊎ Had h e
+had_before h last e had = at (nat_eq had.0 (len h + 1)) had.1
+  where
+    at : (b : Bool) → (if b then Some last else entry_at h had.0) ≡ Some e → (last ≡ e) ⊎ Had h e
+    at true is = inl (entry_is last e is)
+    at false is = inr (had.0, is)
+
+pub unmerged_then : (h : History) (e : Entry) → (IsCompaction e.step → ⊥) → IsUnmerged h → IsUnmerged (Then h e)
+unmerged_then h e never before x had = at (had_before h e x had)
+  where
+    at : (e ≡ x) ⊎ Had h x → IsCompaction x.step → ⊥
+    at (inl same) = subst (λ (y : Entry). IsCompaction y.step → ⊥) same never
+    at (inr earlier) = before x earlier
+
+pub unmerged_follow : (h : History) (list : List Placed) → PutNothing list → IsUnmerged h → IsUnmerged (follow h list)
+unmerged_follow h [] quiet before = before
+unmerged_follow h (d ∷ list) quiet before = unmerged_follow (Then h d.entry) list (λ x c. quiet x (there d x list c)) (unmerged_then h d.entry (quiet_merges d.entry.step (quiet d (here d list))) before)

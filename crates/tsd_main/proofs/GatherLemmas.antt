@@ -3,10 +3,9 @@ use Rattle.std.proofs.Common.{◌≡◌, ℕ, Bool, true, false, cond, List, [],
 use Rattle.std.specs.Prelude.{ℤ, Ok, Err, filter, is_some}
 use Rattle.std.specs.List.{AllByRecursion, flat_map}
 use Rattle.std.specs.HashMap.{get}
-use Rattle.std.specs.Cmp.Lexicographic.{nat_list_eq_equiv}
-use Rattle.std.proofs.lemmas.Bool.{and_parts, and_from, true≢false}
+use Rattle.std.proofs.lemmas.Bool.{and_parts, true≢false}
 use Rattle.tsd_base.specs.Points.{DataPoint}
-use Rattle.tsd_base.specs.TagOrder.{is_same_tags_equiv, tags_same}
+use Rattle.tsd_base.specs.TagOrder.{tags_same}
 use Rattle.tsd_base.specs.declared.kinds.Kind.{Kind}
 use Rattle.cell_model.specs.Layout.{names_of}
 use Rattle.cell_solo.specs.Turns.{Play, sight}
@@ -15,8 +14,8 @@ use Rattle.tsd_main.specs.Ids.{Names}
 use Rattle.tsd_main.specs.declared.gathered.Gathered.{Gathered}
 use Rattle.tsd_main.specs.Naming.{no_names, noted_all, names_in, and_then_noted}
 use Rattle.tsd_main.specs.Series.{Series, is_same_series, series_of_point}
-use Rattle.tsd_main.specs.Gathering.{values_of, unless_empty, IsCoarse, Gathers}
-use Rattle.tsd_main.proofs.LastPoints.{same_bytes}
+use Rattle.tsd_main.specs.Gathering.{values_of, unless_empty, IsTaken, Gathers}
+use Rattle.tsd_main.proofs.LastPoints.{beq_same, same_bytes}
 use Rattle.tsd_main.specs.Known.{IsKnown, AreKnown}
 use Rattle.tsd_main.proofs.KnownLemmas.{notes_all, noted_all-known}
 use Rattle.tsd_main.proofs.NotedLemmas.{noted_all-append}
@@ -27,10 +26,8 @@ dot p = (p.time, p.value)
 pub same_series : (a b : Series) → is_same_series a b ≡ true → a ≡ b
 same_series a b e =
     let both = and_parts _ _ e in
-    λ i. (same_bytes a.0 b.0 both.0 i, tags_same a.1 b.1 both.1 i)
-
-pub same_series_itself : (a : Series) → is_same_series a a ≡ true
-same_series_itself a = and_from _ _ (nat_list_eq_equiv.refl a.0) (is_same_tags_equiv.refl a.1)
+    let names = and_parts _ _ both.0 in
+    λ i. ((same_bytes a.0.0 b.0.0 names.0 i, tags_same a.0.1 b.0.1 names.1 i), beq_same a.1 b.1 both.1 i)
 
 -- ---- lists
 all_left : {A : Type 0} (P : A → Type 0) (xs ys : List A) → AllByRecursion P (xs ++ ys) → AllByRecursion P xs
@@ -61,11 +58,11 @@ names_last (q ∷ points) p = ap (λ ns. names_of q ++ ns) (names_last points p)
 pub none_not_some : {A : Type 0} {x : A} → None ≡ Some x → ⊥
 none_not_some e = true≢false (sym (ap is_some e))
 
-pub known_series : (names : Names) (points : List DataPoint) (s : Series) (list : List (ℕ × ℤ)) → AreKnown names (flat_map names_of points) → unless_empty (values_of points s) ≡ Some list → AreKnown names (names_in s.0 s.1)
+pub known_series : (names : Names) (points : List DataPoint) (s : Series) (list : List (ℕ × ℤ)) → AreKnown names (flat_map names_of points) → unless_empty (values_of points s) ≡ Some list → AreKnown names (names_in s.0.0 s.0.1)
 known_series names [] s list known is = absurd (none_not_some is)
 known_series names (p ∷ points) s list known is =
-    elim (is_same_series (series_of_point p) s) as (λ b. is_same_series (series_of_point p) s ≡ b → unless_empty (map dot (cond b (p ∷ filter (λ q. is_same_series (series_of_point q) s) points) (filter (λ q. is_same_series (series_of_point q) s) points))) ≡ Some list → AreKnown names (names_in s.0 s.1)) [
-      | true ↦ λ e _. subst (λ (t : Series). AreKnown names (names_in t.0 t.1)) (same_series (series_of_point p) s e) (all_left (IsKnown names) (names_of p) (flat_map names_of points) known)
+    elim (is_same_series (series_of_point p) s) as (λ b. is_same_series (series_of_point p) s ≡ b → unless_empty (map dot (cond b (p ∷ filter (λ q. is_same_series (series_of_point q) s) points) (filter (λ q. is_same_series (series_of_point q) s) points))) ≡ Some list → AreKnown names (names_in s.0.0 s.0.1)) [
+      | true ↦ λ e _. subst (λ (t : Series). AreKnown names (names_in t.0.0 t.0.1)) (same_series (series_of_point p) s e) (all_left (IsKnown names) (names_of p) (flat_map names_of points) known)
       | false ↦ λ _ found. known_series names points s list (all_right (IsKnown names) (names_of p) (flat_map names_of points) known) found
     ] refl is
 
@@ -108,20 +105,20 @@ one_more points p s true e = unless_empty-last (values_of points (series_of_poin
 one_more points p s false e = refl
 
 -- one more point of a series: what is gathered but for the store
-record OneMore (points : List DataPoint) (p : DataPoint) (new : Gathered) : Type 0 where
+record OneMore (ms : Bool) (points : List DataPoint) (p : DataPoint) (new : Gathered) : Type 0 where
   pub series : (s : Series) → get is_same_series new.series s ≡ unless_empty (values_of (points ++ p ∷ []) s)
-  pub coarse : AllByRecursion IsCoarse (points ++ p ∷ [])
+  pub taken : AllByRecursion (IsTaken ms) (points ++ p ∷ [])
 
-more_of : (points : List DataPoint) (old new : Gathered) (p : DataPoint) → Gathers points old → IsCoarse p
+more_of : (ms : Bool) (points : List DataPoint) (old new : Gathered) (p : DataPoint) → Gathers ms points old → IsTaken ms p
     → ((s : Series) → get is_same_series new.series s ≡ cond (is_same_series (series_of_point p) s) (Some (or_nil (get is_same_series old.series (series_of_point p)) ++ dot p ∷ [])) (get is_same_series old.series s))
-    → OneMore points p new
-more_of points old new p h coarse step = record {
+    → OneMore ms points p new
+more_of ms points old new p h taken step = record {
   series = λ s.
       step s ∙ ap (λ o. cond (is_same_series (series_of_point p) s) (Some (or_nil o ++ dot p ∷ [])) (get is_same_series old.series s)) (h.series (series_of_point p))
       ∙ ap (λ xs. cond (is_same_series (series_of_point p) s) (Some (xs ++ dot p ∷ [])) (get is_same_series old.series s)) (or_nil-unless (values_of points (series_of_point p)))
       ∙ ap (λ o. cond (is_same_series (series_of_point p) s) (Some (values_of points (series_of_point p) ++ dot p ∷ [])) o) (h.series s)
       ∙ one_more points p s (is_same_series (series_of_point p) s) refl ∙ sym (ap unless_empty (values_last points p s));
-  coarse = all_last IsCoarse points p h.coarse coarse;
+  taken = all_last (IsTaken ms) points p h.taken taken;
 }
 
 noted_more : (points : List DataPoint) (p : DataPoint) (names more : Names) → noted_all no_names (flat_map names_of points) ≡ Ok names → noted_all names (names_of p) ≡ Ok more
@@ -130,24 +127,24 @@ noted_more points p names more before one =
     ap (noted_all no_names) (names_last points p) ∙ noted_all-append (flat_map names_of points) (names_of p) no_names ∙ ap (λ r. and_then_noted r (λ more. noted_all more (names_of p))) before ∙ one
 
 -- a point was read behind those of its series
-pub reads_point : (points : List DataPoint) (old new : Gathered) (p : DataPoint) (h : Gathers points old) → IsCoarse p → Notes (sight old.store) (names_of p) None (sight new.store)
+pub reads_point : (ms : Bool) (points : List DataPoint) (old new : Gathered) (p : DataPoint) (h : Gathers ms points old) → IsTaken ms p → Notes (sight old.store) (names_of p) None (sight new.store)
     → ((s : Series) → get is_same_series new.series s ≡ cond (is_same_series (series_of_point p) s) (Some (or_nil (get is_same_series old.series (series_of_point p)) ++ dot p ∷ [])) (get is_same_series old.series s))
-    → (more : Gathers (points ++ p ∷ []) new) × (noted_all h.names (names_of p) ≡ Ok more.names)
-reads_point points old new p h coarse notes step =
+    → (more : Gathers ms (points ++ p ∷ []) new) × (noted_all h.names (names_of p) ≡ Ok more.names)
+reads_point ms points old new p h taken notes step =
     let noted = notes h.names h.naming in
-    let m = more_of points old new p h coarse step in
-    (record { names = noted.0; noted = noted_more points p h.names noted.0 h.noted noted.1; naming = noted.2; series = m.series; coarse = m.coarse }, noted.1)
+    let m = more_of ms points old new p h taken step in
+    (record { names = noted.0; noted = noted_more points p h.names noted.0 h.noted noted.1; naming = noted.2; series = m.series; taken = m.taken }, noted.1)
 
 -- a point of a series that was read
-pub reads_known : (points : List DataPoint) (old new : Gathered) (p : DataPoint) (list : List (ℕ × ℤ)) (h : Gathers points old) → IsCoarse p → get is_same_series old.series (series_of_point p) ≡ Some list → new.store ≡ old.store
+pub reads_known : (ms : Bool) (points : List DataPoint) (old new : Gathered) (p : DataPoint) (list : List (ℕ × ℤ)) (h : Gathers ms points old) → IsTaken ms p → get is_same_series old.series (series_of_point p) ≡ Some list → new.store ≡ old.store
     → ((s : Series) → get is_same_series new.series s ≡ cond (is_same_series (series_of_point p) s) (Some (list ++ dot p ∷ [])) (get is_same_series old.series s))
-    → (more : Gathers (points ++ p ∷ []) new) × (noted_all h.names (names_of p) ≡ Ok more.names)
-reads_known points old new p list h coarse found same step =
+    → (more : Gathers ms (points ++ p ∷ []) new) × (noted_all h.names (names_of p) ≡ Ok more.names)
+reads_known ms points old new p list h taken found same step =
     let known = known_series h.names points (series_of_point p) list (notes_all no_names (flat_map names_of points) h.names h.noted).known (sym (h.series (series_of_point p)) ∙ found) in
     let noted = noted_all-known h.names (names_of p) known in
-    let m = more_of points old new p h coarse (λ s. step s ∙ ap (λ o. cond (is_same_series (series_of_point p) s) (Some (or_nil o ++ dot p ∷ [])) (get is_same_series old.series s)) (sym found)) in
-    (record { names = h.names; noted = noted_more points p h.names h.names h.noted noted; naming = subst (λ (x : Play). IsNaming h.names (sight x)) (sym same) h.naming; series = m.series; coarse = m.coarse }, noted)
+    let m = more_of ms points old new p h taken (λ s. step s ∙ ap (λ o. cond (is_same_series (series_of_point p) s) (Some (or_nil o ++ dot p ∷ [])) (get is_same_series old.series s)) (sym found)) in
+    (record { names = h.names; noted = noted_more points p h.names h.names h.noted noted; naming = subst (λ (x : Play). IsNaming h.names (sight x)) (sym same) h.naming; series = m.series; taken = m.taken }, noted)
 
 -- for one of the names of a point there is no id
-pub reads_full : (points : List DataPoint) (old new : Gathered) (p : DataPoint) (kind : Kind) (h : Gathers points old) → Notes (sight old.store) (names_of p) (Some kind) (sight new.store) → noted_all h.names (names_of p) ≡ Err kind
-reads_full points old new p kind h notes = notes h.names h.naming
+pub reads_full : (ms : Bool) (points : List DataPoint) (old new : Gathered) (p : DataPoint) (kind : Kind) (h : Gathers ms points old) → Notes (sight old.store) (names_of p) (Some kind) (sight new.store) → noted_all h.names (names_of p) ≡ Err kind
+reads_full ms points old new p kind h notes = notes h.names h.naming

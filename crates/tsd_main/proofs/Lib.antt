@@ -2,8 +2,11 @@ pub mod AnswerLemmas
 pub mod Asking
 pub mod Beginning
 pub mod BufferLemmas
+pub mod Clashing
 pub mod Clashless
+pub mod CommandLemmas
 pub mod Entering
+pub mod FirstClashes
 pub mod Follows
 pub mod GatherLemmas
 pub mod InputEnds
@@ -17,10 +20,14 @@ pub mod MetricLemmas
 pub mod NameLemmas
 pub mod Noting
 pub mod NotedLemmas
+pub mod OneValue
+pub mod PairsOfTags
 pub mod PointRows
 pub mod Puts
+pub mod PutsStand
 pub mod QueryLemmas
 pub mod ReplyLemmas
+pub mod RowCells
 pub mod RunLemmas
 pub mod Seconds
 pub mod SeriesLemmas

@@ -25,15 +25,15 @@ module _ {K X : Type 0} (R : K → K → Ordering) (total : IsTotalOrder R) (A :
   Each-entries (e ∷ es) h =
       subst (AllByRecursion (λ e. A e.0 × B e.1)) (sym (entries-insert total (from_entries {R = R} es) e.0 e.1)) (Each-put e.0 e.1 (entries (from_entries {R = R} es)) h.0.0 h.0.1 (Each-entries es h.1))
 
-first : (a b : Bool) → T (a && b) → T a
+pub first : (a b : Bool) → T (a && b) → T a
 first true b h = tt
 first false b h = h
 
-second : (a b : Bool) → T (a && b) → T b
+pub second : (a b : Bool) → T (a && b) → T b
 second true b h = h
 second false b h = absurd h
 
-less : (r : Ordering) → T (is_lt r) → r ≡ Less
+pub less : (r : Ordering) → T (is_lt r) → r ≡ Less
 less Less h = refl
 less Equal h = absurd h
 less Greater h = absurd h

@@ -18,7 +18,7 @@ use Rattle.cell_model.specs.declared.cells.Row.{Row}
 use Rattle.cell_model.specs.declared.events.Placed.{Placed}
 use Rattle.cell_model.specs.declared.events.Reply.TheVariants.{BumpReply, ClaimReply}
 use Rattle.cell_model.specs.declared.events.Step.TheVariants.{Read, Bump, Claim}
-use Rattle.cell_model.specs.Deeds.{Made}
+use Rattle.cell_model.specs.Deeds.{Extends, Made}
 use Rattle.cell_model.specs.History.{History, first, len, store_after}
 use Rattle.cell_model.specs.History.History.{Then}
 use Rattle.cell_model.specs.Ids as model
@@ -31,15 +31,16 @@ use Rattle.uid_table.specs.declared.answers.Assigned.{Assigned}
 use Rattle.uid_table.specs.declared.answers.Assigned.TheVariants.{Fresh, Existing, Lost}
 use Rattle.uid_table.specs.declared.answers.AssignFault.TheVariants.{Exhausted}
 use Rattle.uid_table.specs.Answers.{answered_id}
-use Rattle.uid_table.specs.Steps.{MadeSo, AssignMade, DidLook, DidBump, DidReverse, DidForward}
+use Rattle.uid_table.specs.Shown.{HasShown}
+use Rattle.uid_table.specs.Steps.{MadeSo, AssignMade, LookedOrKept, DidLook, DidBump, DidReverse, DidForward}
 use Rattle.tsd_main.specs.Naming.{Names, id_in, list_of, with_list, with_listed, noted_all, and_then_noted}
 use Rattle.tsd_main.specs.Numbered.{tag_names}
-use Rattle.tsd_main.specs.Storing.{HasIds, IsNaming, IsNumbered, Notes, WasPut}
+use Rattle.tsd_main.specs.Storing.{HasIds, IsNaming, IsNumbered, IsUnmerged, Notes, WasPut}
 use Rattle.tsd_main.proofs.LastPoints.{same_bytes}
-use Rattle.tsd_main.proofs.Entering.{PutNothing, bump_keeps, claim_keeps, looked, no_counter_row, nothing_by, nothing_more, nothing_nil, put_nothing, quals_differ, read_keeps, rows_differ, tables_differ}
+use Rattle.tsd_main.proofs.Entering.{PutNothing, bump_keeps, claim_keeps, looked, no_counter_row, nothing_by, nothing_more, nothing_nil, put_nothing, quals_differ, read_keeps, rows_differ, tables_differ, unmerged_follow}
 use Rattle.tsd_main.proofs.Follows.{follow, went, alone_still}
 use Rattle.tsd_main.proofs.KnownLemmas.{noted_all-known}
-use Rattle.tsd_main.proofs.Lower.{Names_Ids, claim_wrote, given_counts, held_there, id_read_back, same_kind}
+use Rattle.tsd_main.proofs.Lower.{Names_Ids, claim_wrote, first_fits, first_lawful, given_counts, held_there, id_read_back, same_kind}
 use Rattle.tsd_main.proofs.NameLemmas.{id_in-append}
 use Rattle.tsd_main.proofs.NotedLemmas.{noted_all-append}
 
@@ -216,10 +217,10 @@ module _ (h : History) (r b n f : Placed) (kind : Kind) (name : List ℕ) (id : 
 
   pub puts_nothing : PutNothing (r ∷ b ∷ n ∷ f ∷ [])
   puts_nothing =
-      nothing_more r (b ∷ n ∷ f ∷ []) (nothing_by r (Read (name_row name)) look.did.0 (λ x p. p))
-      (nothing_more b (n ∷ f ∷ []) (nothing_by b (Bump kind) bumped.0 (λ x p. p))
-      (nothing_more n (f ∷ []) (nothing_by n (Claim (id_row id) (kind_qual kind) name) reversed.0 (λ x p. p))
-      (nothing_more f [] (nothing_by f (Claim (name_row name) (kind_qual kind) (id_bytes id)) forwarded.0 (λ x p. p)) nothing_nil)))
+      nothing_more r (b ∷ n ∷ f ∷ []) (nothing_by r (Read (name_row name)) look.did.0 tt)
+      (nothing_more b (n ∷ f ∷ []) (nothing_by b (Bump kind) bumped.0 tt)
+      (nothing_more n (f ∷ []) (nothing_by n (Claim (id_row id) (kind_qual kind) name) reversed.0 tt)
+      (nothing_more f [] (nothing_by f (Claim (name_row name) (kind_qual kind) (id_bytes id)) forwarded.0 tt) nothing_nil)))
 
 -- ---- what an assignment makes
 module _ (old new : Seen) (kind : Kind) (name : List ℕ) (is_name : IsName name) (names : Names) (naming : IsNaming names old) where
@@ -231,6 +232,9 @@ module _ (old new : Seen) (kind : Kind) (name : List ℕ) (is_name : IsName name
     numbered = λ h lawful fits.
         let w = went old new list h made naming.by lawful fits in
         subst (IsNumbered more) (sym w.after_is) (goes (first old.length h) w.lawful (naming.numbered h (lawful) w.fitted));
+    unmerged = λ h lawful fits.
+        let w = went old new list h made naming.by lawful fits in
+        subst IsUnmerged (sym w.after_is) (unmerged_follow (first old.length h) list never (naming.unmerged h lawful w.fitted));
     unput = λ h lawful fits r put.
         let w = went old new list h made naming.by lawful fits in
         naming.unput h lawful w.fitted r (put_nothing (first old.length h) list never r (subst (λ x. WasPut x r) w.after_is put));
@@ -246,15 +250,29 @@ module _ (old new : Seen) (kind : Kind) (name : List ℕ) (is_name : IsName name
   abbrev Noted : Type 0
   Noted = (more : Names) × (noted_all names ((kind, name) ∷ []) ≡ Ok more) × IsNaming more new
 
-  existing : (id : ℕ) (d : Placed) → Made old (d ∷ []) new → DidLook d kind name (Some (id_bytes id)) → IsId id → Noted
-  existing id d made look is_id =
-      let known : is_some (id_in (list_of names kind) name) ≡ true =
-      at_some (d ∷ []) made (λ h lawful n. ap is_some (sym (n.ids kind name is_name) ∙ ap (option_and_then id_number) (looked h d kind name (Some (id_bytes id)) lawful.2 look) ∙ id_read_back id is_id.1)) in (
-        names,
-        one_known names kind name known,
-        named_after (d ∷ []) names made (nothing_more d [] (nothing_by d (Read (name_row name)) look.did.0 (λ x p. p)) nothing_nil)
-            (λ h lawful n. numbered_same names h (Then h d.entry) (read_keeps h d.entry (name_row name) look.did.0) n),
-      )
+  cut : (list : List Placed) (other : List Placed) → list ≡ other → Made old list new → Made old other new
+  cut list other same made = subst (λ xs. Made old xs new) same made
+
+  -- an id that was shown is among those of the names
+  has_id : IsNaming names new → (id : ℕ) → HasShown new kind name id → is_some (id_in (list_of names kind) name) ≡ true
+  has_id naming_new id shown =
+      let p = naming_new.by.possible in
+      let itself : Extends new new = record { base = refl; length = omega arith; kept = λ place e saw. saw; fits = λ h f. f } in
+      ap is_some
+      (sym ((naming_new.numbered p.history p.lawful p.fits).ids kind name is_name)
+      ∙ shown.stands new itself (first new.length p.history) (first_lawful p.history new.length p.lawful) (first_fits new p.history p.fits))
+
+  -- behind one read, or none, the names have the ids that they had
+  still : (id : ℕ) (list : List Placed) → Made old list new → LookedOrKept kind name id list → IsNaming names new
+  still id list made (inl none) = named_after [] names (cut list [] none made) nothing_nil (λ h lawful n. n)
+  still id list made (inr (d, is, look)) =
+      named_after (d ∷ []) names (cut list (d ∷ []) is made) (nothing_more d [] (nothing_by d (Read (name_row name)) look.did.0 tt) nothing_nil)
+      (λ h lawful n. numbered_same names h (Then h d.entry) (read_keeps h d.entry (name_row name) look.did.0) n)
+
+  existing : (id : ℕ) (list : List Placed) → Made old list new → LookedOrKept kind name id list → HasShown new kind name id → Noted
+  existing id list made kept shown =
+      let naming_new = still id list made kept in
+      (names, one_known names kind name (has_id naming_new id shown), naming_new)
 
   given_new : (id : ℕ) (r b n f : Placed) → Made old (r ∷ b ∷ n ∷ f ∷ []) new → DidLook r kind name None → DidBump b kind id → DidReverse n kind name id → DidForward f kind name id Done → IsId id → Noted
   given_new id r b n f made look bumped reversed forwarded is_id =
@@ -274,14 +292,11 @@ module _ (old new : Seen) (kind : Kind) (name : List ℕ) (is_name : IsName name
   lost wasted id r b n f made look bumped reversed forwarded =
       at_some (r ∷ b ∷ n ∷ f ∷ []) made (λ h lawful num. not_held h r b n f kind name wasted (Held (id_bytes id)) names is_name lawful look bumped reversed forwarded num (id_bytes id) refl)
 
-  cut : (list : List Placed) (other : List Placed) → list ≡ other → Made old list new → Made old other new
-  cut list other same made = subst (λ xs. Made old xs new) same made
-
-  assigned : (a : Assigned) → MadeSo old (AssignMade kind name (Ok a)) new → IsId (answered_id a) → Noted
-  assigned (Existing id) (list, made, (d, list_is, look)) is_id = existing id d (cut list (d ∷ []) list_is made) look is_id
-  assigned (Fresh id) (list, made, (d, rest, list_is, look, gave)) is_id =
-      given_new id d gave.bump gave.reverse gave.forward (cut list (d ∷ gave.bump ∷ gave.reverse ∷ gave.forward ∷ []) (list_is ∙ ap (λ xs. d ∷ xs) gave.list_is) made) look gave.bumped gave.reversed gave.forwarded is_id
-  assigned (Lost wasted id) (list, made, (d, rest, list_is, look, gave)) is_id =
+  assigned : (a : Assigned) → MadeSo old (AssignMade kind name (Ok a)) new → HasShown new kind name (answered_id a) → Noted
+  assigned (Existing id) (list, made, kept) shown = existing id list made kept shown
+  assigned (Fresh id) (list, made, (d, rest, list_is, look, gave)) shown =
+      given_new id d gave.bump gave.reverse gave.forward (cut list (d ∷ gave.bump ∷ gave.reverse ∷ gave.forward ∷ []) (list_is ∙ ap (λ xs. d ∷ xs) gave.list_is) made) look gave.bumped gave.reversed gave.forwarded shown.is_id
+  assigned (Lost wasted id) (list, made, (d, rest, list_is, look, gave)) shown =
       absurd (lost wasted id d gave.bump gave.reverse gave.forward (cut list (d ∷ gave.bump ∷ gave.reverse ∷ gave.forward ∷ []) (list_is ∙ ap (λ xs. d ∷ xs) gave.list_is) made) look gave.bumped gave.reversed gave.forwarded)
 
   -- the counter was full
@@ -302,8 +317,8 @@ module _ (old new : Seen) (kind : Kind) (name : List ℕ) (is_name : IsName name
       one_full names kind name unknown (ap (λ n. nat_lt n MOST_IDS) (sym counter) ∙ full) ∙ ap Err (sym same))
 
 -- what an assignment notes
-pub assign_notes : (old new : Seen) (kind : Kind) (name : List ℕ) → IsName name → (a : Assigned) → MadeSo old (AssignMade kind name (Ok a)) new → IsId (answered_id a) → Notes old ((kind, name) ∷ []) None new
-assign_notes old new kind name is_name a made is_id = λ names naming. assigned old new kind name is_name names naming a made is_id
+pub assign_notes : (old new : Seen) (kind : Kind) (name : List ℕ) → IsName name → (a : Assigned) → MadeSo old (AssignMade kind name (Ok a)) new → HasShown new kind name (answered_id a) → Notes old ((kind, name) ∷ []) None new
+assign_notes old new kind name is_name a made shown = λ names naming. assigned old new kind name is_name names naming a made shown
 
 pub assign_full : (old new : Seen) (kind : Kind) (name : List ℕ) → IsName name → (k : Kind) → MadeSo old (AssignMade kind name (Err (Exhausted k))) new → Notes old ((kind, name) ∷ []) (Some k) new
 assign_full old new kind name is_name k made = λ names naming. exhausted old new kind name is_name names naming k made

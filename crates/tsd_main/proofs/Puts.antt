@@ -1,7 +1,6 @@
 -- Putting points whose names have ids.
-use Rattle.std.proofs.Common.{◌≡◌, ◌⊎◌, inl, inr, ⊎_elim, ℕ, ℤ, true, List, [], ◌∷◌, ◌++◌, refl, sym, ap, subst, ◌∙◌}
+use Rattle.std.proofs.Common.{◌≡◌, ◌⊎◌, inl, inr, ⊎_elim, ℕ, ℤ, Bool, List, [], ◌∷◌, ◌++◌, refl, sym, ap, subst, ◌∙◌}
 use Rattle.std.specs.Prelude.{◌↔◌, None, Some, Ok, Err, Contains, option_and_then}
-use Rattle.std.proofs.lemmas.Bool.{true≢false}
 use Rattle.std.proofs.lemmas.List.Elements.{Contains-append_cases, Contains-append_left, Contains-append_right}
 use Rattle.tsd_base.specs.declared.kinds.Kind.{Kind}
 use Rattle.tsd_base.specs.Points.{DataPoint}
@@ -14,23 +13,22 @@ use Rattle.cell_model.specs.Deeds.{Made}
 use Rattle.cell_model.specs.History.{History, first, store_after}
 use Rattle.cell_model.specs.History.History.{Then}
 use Rattle.cell_model.specs.Ids.{id_number, id_of, name_row}
+use Rattle.cell_model.specs.Laws.{IsCompaction}
 use Rattle.cell_model.specs.Layout.{names_of}
 use Rattle.cell_model.specs.Lawful.{IsLawful}
 use Rattle.cell_model.specs.Machine.{kind_qual}
-use Rattle.cell_model.specs.Readings.{Reading, IsPut, reading_of}
 use Rattle.cell_model.specs.Seen.{Seen, Fits}
 use Rattle.cell_model.specs.Store.{Store, value_at}
 use Rattle.point_put.specs.declared.config.Config.{Config}
-use Rattle.point_put.specs.declared.fault.PutFault.TheVariants.{Unknown, Exhausted}
-use Rattle.point_put.specs.Configs.{makes}
+use Rattle.point_put.specs.declared.fault.PutFault.TheVariants.{Exhausted}
 use Rattle.point_put.specs.Entries.{ForName, ForNames}
 use Rattle.point_put.specs.Entries.ForName.{none, look, full, bump, reverse, forward}
 use Rattle.point_put.specs.Entries.ForNames.{nil, more}
 use Rattle.point_put.specs.Putting.{AllResolved, DidPut, PutSays, WasPut as PutSo}
 use Rattle.uid_table.specs.Steps.{DidLook}
-use Rattle.tsd_main.specs.Putting.{Adds, AddsSome, AreResolved, readings_in}
-use Rattle.tsd_main.specs.Storing.{IsAlone, WasPut}
-use Rattle.tsd_main.proofs.Entering.{Ids_Points, PutNothing, looked, nothing_by, put_before, put_keeps, put_last, put_nothing, puts_stay, read_keeps, rows_differ, tables_differ}
+use Rattle.tsd_main.specs.Putting.{Adds, AddsSome, AreResolved, points_in}
+use Rattle.tsd_main.specs.Storing.{IsAlone, IsUnmerged, Puts, WasPut}
+use Rattle.tsd_main.proofs.Entering.{Ids_Points, PutNothing, looked, nothing_by, put_before, put_keeps, put_last, put_nothing, puts_stay, read_keeps, rows_differ, tables_differ, unmerged_follow, unmerged_then}
 use Rattle.tsd_main.proofs.Follows.{Went, follow, follow-append, went, alone_still}
 use Rattle.tsd_main.proofs.Lower.{here, not_in, not_Some, split}
 
@@ -57,7 +55,7 @@ reads_keep h (d ∷ list) reads =
     reads_keep (Then h d.entry) list (λ x c. reads x (Contains-append_right (d ∷ []) list x c)) ∙ read_keeps h d.entry one.0 one.1
 
 reads_put_nothing : (list : List Placed) → AreReads list → PutNothing list
-reads_put_nothing list reads d c = let one = reads d c in nothing_by d (Read one.0) one.1 (λ r p. p)
+reads_put_nothing list reads d c = let one = reads d c in nothing_by d (Read one.0) one.1 tt
 
 lawful_front : (h : History) (list : List Placed) → IsLawful (follow h list) → IsLawful h
 lawful_front h [] l = l
@@ -121,36 +119,36 @@ module _ (old new : Seen) (c : Config) (point : DataPoint) (resolved : AreResolv
           (rows_differ (name_row name) stored.row _ _ (tables_differ (name_row name) stored.row (λ e. Ids_Points (e ∙ did.layout.in_points))))
           ∙ ap (λ s. value_at s (name_row name) (kind_qual kind)) (reads_keep (first old.length h) so.names are_reads))
 
-      puts_one : (r : Reading) → WasPut (first new.length h) r ↔ (WasPut (first old.length h) r ⊎ Contains (reading_of point ∷ []) r)
+      puts_one : (r : DataPoint) → WasPut (first new.length h) r ↔ (WasPut (first old.length h) r ⊎ Contains (point ∷ []) r)
       puts_one r = (
         λ put. ⊎_elim
             (λ (before : WasPut (follow (first old.length h) so.names) r). inl (put_nothing (first old.length h) so.names (reads_put_nothing so.names are_reads) r before))
-            (λ (now : IsPut so.put.entry.step r).
-            let same : reading_of point ≡ r = subst (λ s. IsPut s r) did.did.0 now in
-            inr (subst (Contains (reading_of point ∷ [])) same (here (reading_of point) [])))
+            (λ (now : Puts so.put.entry.step r).
+            let same : point ≡ r = subst (λ s. Puts s r) did.did.0 now in
+            inr (subst (Contains (point ∷ [])) same (here point [])))
             (put_before (follow (first old.length h) so.names) so.put.entry r (subst (λ x. WasPut x r) after put)),
         λ either. subst (λ x. WasPut x r) (sym after) (⊎_elim
             (λ (before : WasPut (first old.length h) r). subst (λ x. WasPut x r) cut (puts_stay (first old.length h) list r before))
-            (λ (now : Contains (reading_of point ∷ []) r). put_last (follow (first old.length h) so.names) so.put.entry r
-            (subst (λ s. IsPut s r) (sym did.did.0) (⊎_elim (λ (same : reading_of point ≡ r). same) (λ (no : Contains [] r). absurd (not_in r no)) (split (reading_of point) r [] now))))
+            (λ (now : Contains (point ∷ []) r). put_last (follow (first old.length h) so.names) so.put.entry r
+            (subst (λ s. Puts s r) (sym did.did.0) (⊎_elim (λ (same : point ≡ r). same) (λ (no : Contains [] r). absurd (not_in r no)) (split point r [] now))))
             either),
       )
 
-  pub put_adds : (stored : Stored) → PutSays c point old (Ok stored) new → Adds old (reading_of point ∷ []) new
+      unmerged_one : IsUnmerged (first old.length h) → IsUnmerged (first new.length h)
+      unmerged_one before =
+          subst IsUnmerged (sym after)
+          (unmerged_then (follow (first old.length h) so.names) so.put.entry (λ c. subst IsCompaction did.did.0 c) (unmerged_follow (first old.length h) so.names (reads_put_nothing so.names are_reads) before))
+
+  pub put_adds : (stored : Stored) → PutSays c point old (Ok stored) new → Adds old (point ∷ []) new
   put_adds stored (list, made, asked) = record {
     by = alone_still old new list made resolved.by;
     fits = made.since.extends.fits;
     ids = λ h lawful fits. ids_stay list made h lawful fits stored (asked h lawful fits);
     puts = λ h lawful fits. puts_one list made h lawful fits stored (asked h lawful fits);
+    unmerged = λ h lawful fits. unmerged_one list made h lawful fits stored (asked h lawful fits);
   }
 
-  -- all names have ids, so none is unknown, and no counter is asked
-  pub never_unknown : ((kind : Kind) → makes c kind ≡ true) → (kind : Kind) (name : List ℕ) → PutSays c point old (Err (Unknown kind name)) new → ⊥
-  never_unknown makes_all kind name (list, made, asked) =
-      let p = made.since.lives resolved.by.possible in
-      let x = asked p.history p.lawful p.fits in
-      true≢false (sym (makes_all kind) ∙ x.1.0)
-
+  -- all names have ids, so no counter is asked
   pub never_exhausted : (kind : Kind) → PutSays c point old (Err (Exhausted kind)) new → ⊥
   never_exhausted kind (list, made, asked) =
       let p = made.since.lives resolved.by.possible in
@@ -170,13 +168,15 @@ adds_none s by = record {
   fits = λ h f. f;
   ids = λ h lawful fits kind name. refl;
   puts = λ h lawful fits r. (λ put. inl put, λ either. ⊎_elim (λ (put : WasPut (first s.length h) r). put) (λ (no : Contains [] r). absurd (not_in r no)) either);
+  unmerged = λ h lawful fits before. before;
 }
 
-pub adds_then : (P Q R : Reading → Type 0) (a b c : Seen) → AddsSome a P b → AddsSome b Q c → ((r : Reading) → R r ↔ (P r ⊎ Q r)) → AddsSome a R c
+pub adds_then : (P Q R : DataPoint → Type 0) (a b c : Seen) → AddsSome a P b → AddsSome b Q c → ((r : DataPoint) → R r ↔ (P r ⊎ Q r)) → AddsSome a R c
 adds_then P Q R a b c x y both = record {
   by = y.by;
   fits = λ h f. x.fits h (y.fits h f);
   ids = λ h lawful fits kind name. y.ids h lawful fits kind name ∙ x.ids h lawful (y.fits h fits) kind name;
+  unmerged = λ h lawful fits before. y.unmerged h lawful fits (x.unmerged h lawful (y.fits h fits) before);
   puts = λ h lawful fits r. (
     λ put. ⊎_elim
         (λ (before : WasPut (first b.length h) r). ⊎_elim (λ (first_ : WasPut (first a.length h) r). inl first_) (λ (p : P r). inr ((both r).1 (inl p))) ((x.puts h lawful (y.fits h fits) r).0 before))
@@ -189,11 +189,12 @@ adds_then P Q R a b c x y both = record {
   );
 }
 
-pub adds_alike : (P Q : Reading → Type 0) (a b : Seen) → AddsSome a P b → ((r : Reading) → P r ↔ Q r) → AddsSome a Q b
+pub adds_alike : (P Q : DataPoint → Type 0) (a b : Seen) → AddsSome a P b → ((r : DataPoint) → P r ↔ Q r) → AddsSome a Q b
 adds_alike P Q a b x same = record {
   by = x.by;
   fits = x.fits;
   ids = x.ids;
+  unmerged = x.unmerged;
   puts = λ h lawful fits r. (
     λ put. ⊎_elim (λ (before : WasPut (first a.length h) r). inl before) (λ (p : P r). inr ((same r).0 p)) ((x.puts h lawful fits r).0 put),
     λ either. (x.puts h lawful fits r).1 (⊎_elim (λ (put : WasPut (first a.length h) r). inl put) (λ (q : Q r). inr ((same r).1 q)) either),
@@ -201,21 +202,21 @@ adds_alike P Q a b x same = record {
 }
 
 -- what has ids keeps them
-pub still_resolved : (P : Reading → Type 0) (a b : Seen) (names : List (Kind × List ℕ)) → AddsSome a P b → AreResolved a names → AreResolved b names
+pub still_resolved : (P : DataPoint → Type 0) (a b : Seen) (names : List (Kind × List ℕ)) → AddsSome a P b → AreResolved a names → AreResolved b names
 still_resolved P a b names x r = record {
   by = x.by;
   resolved = λ h lawful fits kind name has. let found = r.resolved h lawful (x.fits h fits) kind name has in (found.0, x.ids h lawful fits kind name ∙ found.1);
 }
 
 -- ---- the points of a series
-pub one_more : (metric : List ℕ) (tags : List Pair) (a b c : Seen) (done : List (ℕ × ℤ)) (d : ℕ × ℤ) → Adds a (readings_in metric tags done) b → Adds b (readings_in metric tags (d ∷ [])) c → Adds a (readings_in metric tags (done ++ d ∷ [])) c
-one_more metric tags a b c done d x y =
-    adds_then (Contains (readings_in metric tags done)) (Contains (readings_in metric tags (d ∷ []))) (Contains (readings_in metric tags (done ++ d ∷ []))) a b c x y
-    (λ r. subst (λ (rs : List Reading). Contains rs r ↔ (Contains (readings_in metric tags done) r ⊎ Contains (readings_in metric tags (d ∷ [])) r)) (sym (map_append done)) (
-      λ has. Contains-append_cases (readings_in metric tags done) (readings_in metric tags (d ∷ [])) r has,
-      λ either. ⊎_elim (λ (e : Contains (readings_in metric tags done) r). Contains-append_left (readings_in metric tags done) (readings_in metric tags (d ∷ [])) r e) (λ (e : Contains (readings_in metric tags (d ∷ [])) r). Contains-append_right (readings_in metric tags done) (readings_in metric tags (d ∷ [])) r e) either,
+pub one_more : (metric : List ℕ) (tags : List Pair) (fine : Bool) (a b c : Seen) (done : List (ℕ × ℤ)) (d : ℕ × ℤ) → Adds a (points_in metric tags fine done) b → Adds b (points_in metric tags fine (d ∷ [])) c → Adds a (points_in metric tags fine (done ++ d ∷ [])) c
+one_more metric tags fine a b c done d x y =
+    adds_then (Contains (points_in metric tags fine done)) (Contains (points_in metric tags fine (d ∷ []))) (Contains (points_in metric tags fine (done ++ d ∷ []))) a b c x y
+    (λ r. subst (λ (rs : List DataPoint). Contains rs r ↔ (Contains (points_in metric tags fine done) r ⊎ Contains (points_in metric tags fine (d ∷ [])) r)) (sym (map_append done)) (
+      λ has. Contains-append_cases (points_in metric tags fine done) (points_in metric tags fine (d ∷ [])) r has,
+      λ either. ⊎_elim (λ (e : Contains (points_in metric tags fine done) r). Contains-append_left (points_in metric tags fine done) (points_in metric tags fine (d ∷ [])) r e) (λ (e : Contains (points_in metric tags fine (d ∷ [])) r). Contains-append_right (points_in metric tags fine done) (points_in metric tags fine (d ∷ [])) r e) either,
     ))
   where
-    map_append : (xs : List (ℕ × ℤ)) → readings_in metric tags (xs ++ d ∷ []) ≡ readings_in metric tags xs ++ readings_in metric tags (d ∷ [])
+    map_append : (xs : List (ℕ × ℤ)) → points_in metric tags fine (xs ++ d ∷ []) ≡ points_in metric tags fine xs ++ points_in metric tags fine (d ∷ [])
     map_append [] = refl
-    map_append (e ∷ xs) = ap (λ rs. (record { metric = metric; tags = tags; time = e.0; value = e.1 }) ∷ rs) (map_append xs)
+    map_append (e ∷ xs) = ap (λ rs. (record { metric = metric; tags = tags; time = e.0; fine = fine; value = e.1 }) ∷ rs) (map_append xs)

@@ -1,5 +1,5 @@
 -- What is printed, and its status.
-use Rattle.std.proofs.Common.{◌≡◌, ⊎_elim, ℕ, ◌*◌, ◌<◌, Bool, true, false, cond, List, [], ◌++◌, refl, sym, ap, subst, ◌∙◌, arith}
+use Rattle.std.proofs.Common.{◌≡◌, ⊎_elim, ℕ, ℤ, ◌*◌, ◌<◌, Bool, true, false, cond, List, [], ◌++◌, refl, sym, ap, subst, ◌∙◌, arith}
 use Rattle.std.specs.Prelude.{Option, Some, None, Result, Ok, Err, codes, decimal}
 use Rattle.std.proofs.KnownBytes.{Appends-nil, Consumes-nil}
 use Rattle.std.proofs.lemmas.Bool.{false≢true}
@@ -20,11 +20,13 @@ use Rattle.tsd_main.specs.declared.gathered.Gathered.{Gathered}
 use Rattle.tsd_main.specs.declared.input.BadLine.{BadLine}
 use Rattle.tsd_main.specs.declared.query.NoQuery.{NoQuery}
 use Rattle.tsd_main.specs.declared.query.NoQuery.TheVariants as query
-use Rattle.tsd_main.specs.Inputs.{IsPointsOf, ReadsInputTo}
+use Rattle.tsd_main.specs.Inputs.{IsPointsOf, IsUnrefused, ReadsInputTo}
+use Rattle.query_run.specs.Answers.{answer}
+use Rattle.tsd_main.specs.Clashes.{first_clash}
 use Rattle.tsd_main.specs.Lines.{points_of}
 use Rattle.json_reply.specs.Replies.{Group}
 use Rattle.tsd_base.specs.declared.kinds.Aggregator.{Aggregator}
-use Rattle.tsd_main.specs.Outcomes.{Outcome, answer_of, outcome, over_input, over_points, answered, refused, refused_line, replied}
+use Rattle.tsd_main.specs.Outcomes.{Outcome, kept, names_after, outcome, over_input, over_points, answered, refused, refused_line, replied, unless_clash}
 use Rattle.tsd_main.specs.Printing.{outcome_of}
 use Rattle.tsd_main.specs.Runs.{Decides, Decided, ReadsInput, Taken, Works, Answers, Runs}
 use Rattle.tsd_main.specs.Working.{RefusesQuery, WorksQuery, DecidesQuery, DecidedQuery, over_lines}
@@ -47,15 +49,22 @@ cond_printed : (b : Bool) (x y : Outcome) → IsPrinted x.status → IsPrinted y
 cond_printed true x y p q = p
 cond_printed false x y p q = q
 
-answered_printed : (start end : ℕ) (how : Aggregator) (metric : List ℕ) (points : List DataPoint) → IsPrinted (answered start end how metric points).status
-answered_printed start end how metric points = cond_printed (list_any (λ p. is_same p.metric metric) points) (replied (answer_of start end how metric points)) _ (replied_printed (answer_of start end how metric points)) tt
+unless_printed : (clash : Option (ℕ × ℤ × ℤ)) (o : Outcome) → IsPrinted o.status → IsPrinted (unless_clash clash o).status
+unless_printed None o p = p
+unless_printed (Some clash) o p = tt
+
+answered_printed : (ms : Bool) (start end : ℕ) (how : Aggregator) (metric : List ℕ) (points : List DataPoint) → IsPrinted (answered ms start end how metric points).status
+answered_printed ms start end how metric points =
+    let told = answer ms how metric (kept start end metric points) in
+    cond_printed (list_any (λ p. is_same p.metric metric) points) (unless_clash (first_clash (names_after points) (kept start end metric points)) (replied told)) _
+    (unless_printed (first_clash (names_after points) (kept start end metric points)) (replied told) (replied_printed told)) tt
 
 over_points_printed : (batch : Batch) (asked : Asked) (r : Result (List DataPoint) (ℕ × List ℕ)) → IsPrinted (over_points batch asked r).status
-over_points_printed batch asked (Ok points) = answered_printed (batch.start * 1000) (batch.end * 1000) asked.0 asked.1 points
+over_points_printed batch asked (Ok points) = answered_printed batch.ms (batch.start * 1000) (batch.end * 1000) asked.0 asked.1 points
 over_points_printed batch asked (Err line) = tt
 
 over_input_printed : (batch : Batch) (m : Result Asked (List ℕ)) (input : List ℕ) → IsPrinted (over_input batch m input).status
-over_input_printed batch (Ok asked) input = over_points_printed batch asked (points_of input)
+over_input_printed batch (Ok asked) input = over_points_printed batch asked (points_of batch.ms input)
 over_input_printed batch (Err text) input = tt
 
 outcome_printed : (command : Option Batch) (input : List ℕ) → IsPrinted (outcome command input).status
@@ -96,24 +105,27 @@ module _ (command : Option Batch) (taken taken' left left' held held' : Option (
   printed_status printed w = decided_printed command w.input w.ended (outcome_of printed) w.decided.0
 
 -- a batch's outcome is that of its query
-query_outcome_is : (batch : Batch) (query : Query) (input : List ℕ) → IsQueryOf query batch → outcome (Some batch) input ≡ over_lines query (points_of input)
-query_outcome_is batch query input q = ap (λ m. over_input batch m input) q.asked ∙ of_points (points_of input)
+query_outcome_is : (batch : Batch) (query : Query) (input : List ℕ) → IsQueryOf query batch → outcome (Some batch) input ≡ over_lines query (points_of query.ms input)
+query_outcome_is batch query input q = ap (λ m. over_input batch m input) q.asked ∙ ap (λ (ms : Bool). over_points batch (query.sub.how, query.sub.metric) (points_of ms input)) (sym q.ms) ∙ of_points (points_of query.ms input)
   where
+    same : (points : List DataPoint) → answered query.ms query.start query.end query.sub.how query.sub.metric points ≡ answered batch.ms (batch.start * 1000) (batch.end * 1000) query.sub.how query.sub.metric points
+    same points = λ i. answered (q.ms i) (q.start i) (q.end i) query.sub.how query.sub.metric points
+
     of_points : (r : Result (List DataPoint) (ℕ × List ℕ)) → over_points batch (query.sub.how, query.sub.metric) r ≡ over_lines query r
-    of_points (Ok points) = ap (λ n. answered n (batch.end * 1000) query.sub.how query.sub.metric points) (sym q.start) ∙ ap (λ n. answered query.start n query.sub.how query.sub.metric points) (sym q.end)
+    of_points (Ok points) = sym (same points)
     of_points (Err line) = refl
 
 query_decides : (batch : Batch) (query : Query) (input : List ℕ) (ended : Bool) (o : Outcome) → IsQueryOf query batch → DecidesQuery query input ended o → Decides (Some batch) input ended o
 query_decides batch query input true o q d = query_outcome_is batch query input q ∙ d
 query_decides batch query input false o q d = λ more. query_outcome_is batch query (input ++ more) q ∙ d more
 
-pub reads_input : (batch : Batch) (query : Query) → IsQueryOf query batch → ReadsInput (Some batch)
+abbrev pub reads_input : (batch : Batch) (query : Query) → IsQueryOf query batch → ReadsInput (Some batch)
 reads_input batch query q = record { batch = batch; command_is = refl; asked = (query.sub.how, query.sub.metric); query = q.asked }
 
 query_decided : (batch : Batch) (query : Query) (input : List ℕ) (ended : Bool) (result : Result Printed InputFault) → IsQueryOf query batch → DecidedQuery query input ended result → Decided (Some batch) input ended result
 query_decided batch query input ended (Ok printed) q d = (query_decides batch query input ended (outcome_of printed) q d.0, d.1)
-query_decided batch query input ended (Err fault.Failed) q d = ((reads_input batch query q, d.0), d.1)
-query_decided batch query input ended (Err fault.Full) q d = ((reads_input batch query q, d.0), d.1)
+query_decided batch query input ended (Err fault.Failed) q d = ((reads_input batch query q, subst (λ (ms : Bool). IsUnrefused ms input) q.ms d.0), d.1)
+query_decided batch query input ended (Err fault.Full) q d = ((reads_input batch query q, subst (λ (ms : Bool). IsUnrefused ms input) q.ms d.0), d.1)
 query_decided batch query input ended (Err fault.OutOfMemory) q d = tt
 
 -- a batch whose query is good is worked as its query is
@@ -162,8 +174,18 @@ module _ (taken left : Option (List ℕ)) where
   refuses_query batch query.UnknownAggregator printed asked is = refuses_text batch (codes "unknown aggregator") printed asked is
   refuses_query batch query.OutOfMemory printed asked is = absurd is
 
+-- the input wasn't read to an answer
+pub not_read : (query : Query) (taken taken' left left' : Option (List ℕ)) (g : Gathered) (f : InputFault) → ReadsInputTo query.ms taken taken' left left' g (Err f) → WorksQuery query taken taken' left left' (Err f)
+not_read query taken taken' left left' g fault.Failed r = record { input = r.input; ended = r.ended; takes = r.takes; leaves = r.leaves; end = r.end; most = r.most; early = r.early; decided = r.reads }
+not_read query taken taken' left left' g fault.Full r = record { input = r.input; ended = r.ended; takes = r.takes; leaves = r.leaves; end = r.end; most = r.most; early = r.early; decided = r.reads }
+not_read query taken taken' left left' g fault.OutOfMemory r = record { input = r.input; ended = r.ended; takes = r.takes; leaves = r.leaves; end = r.end; most = r.most; early = r.early; decided = tt }
+
+-- there was no memory behind the reading
+pub not_told : (query : Query) (taken taken' left left' : Option (List ℕ)) (g : Gathered) (read : Result (Option BadLine) InputFault) → ReadsInputTo query.ms taken taken' left left' g read → WorksQuery query taken taken' left left' (Err fault.OutOfMemory)
+not_told query taken taken' left left' g read r = record { input = r.input; ended = r.ended; takes = r.takes; leaves = r.leaves; end = r.end; most = r.most; early = r.early; decided = tt }
+
 -- a line is refused
-pub line_refused : (query : Query) (taken taken' left left' : Option (List ℕ)) (g : Gathered) (bad : BadLine) (printed : Printed) → ReadsInputTo taken taken' left left' g (Ok (Some bad))
+pub line_refused : (query : Query) (taken taken' left left' : Option (List ℕ)) (g : Gathered) (bad : BadLine) (printed : Printed) → ReadsInputTo query.ms taken taken' left left' g (Ok (Some bad))
     → outcome_of printed ≡ refused_line bad.number bad.text.items → WorksQuery query taken taken' left left' (Ok printed)
 line_refused query taken taken' left left' g bad printed r is = record {
   input = r.input;
@@ -176,7 +198,7 @@ line_refused query taken taken' left left' g bad printed r is = record {
   decided = (decides r.input r.ended r.reads, λ done. absurd (not_done (sym done ∙ ap (λ (o : Outcome). o.status) is)));
 }
   where
-    decides : (input : List ℕ) (ended : Bool) → IsPointsOf input ended (Err (bad.number, bad.text.items)) → DecidesQuery query input ended (outcome_of printed)
+    decides : (input : List ℕ) (ended : Bool) → IsPointsOf query.ms input ended (Err (bad.number, bad.text.items)) → DecidesQuery query input ended (outcome_of printed)
     decides input true points = ap (over_lines query) points ∙ sym is
     decides input false points = λ more. ap (over_lines query) (points more) ∙ sym is
 

@@ -1,6 +1,6 @@
--- An answer with its times in seconds.
-use Rattle.std.proofs.Common.{◌≡◌, ℕ, ℤ, true, false, cond, List, [], ◌∷◌, Option, Some, None, Result, Ok, Err, map, All, refl, ap, subst}
-use Rattle.std.specs.Prelude.{◌%◌, filter}
+-- An answer with its times in milliseconds or in seconds.
+use Rattle.std.proofs.Common.{◌≡◌, ℕ, ℤ, Bool, true, false, cond, List, [], ◌∷◌, Option, Some, None, Result, Ok, Err, map, All, refl, ap, subst}
+use Rattle.std.specs.Prelude.{◌%◌, Contains, filter}
 use Rattle.std.specs.Cmp.{nat_cmp_total}
 use Rattle.std.specs.FinMap.{entries, from_entries}
 use Rattle.std.specs.List.{AllByRecursion, find, flat_map}
@@ -15,7 +15,9 @@ use Rattle.tsd_base.specs.TagList.{Pair, is_same_tags}
 use Rattle.json_reply.specs.Replies.{Group, IsReady, plain}
 use Rattle.json_reply.specs.declared.reply.Group as code
 use Rattle.query_run.specs.Answers.{all_groups, answer, group_answer, grouped, groups_in}
-use Rattle.tsd_main.specs.Replying.{in_seconds}
+use Rattle.tsd_main.specs.Replying.{told_in}
+use Rattle.tsd_main.specs.Outcomes.{kept}
+use Rattle.tsd_main.proofs.Lower.{in_filter}
 use Rattle.tsd_main.proofs.MapLemmas.{Each-entries}
 
 -- ---- times
@@ -43,33 +45,33 @@ module _ (P : ℕ → Type 0) (lists : List (List (ℕ × ℤ))) (all : All (λ 
       subst (All (λ dot. P dot.0)) (points_are (find (λ point. overflows how point.1) (points_of how lists)) (points_of how lists) dots e)
       (All-map (λ dot. P dot.0) (λ (time : ℕ). (time, combined how (values_at how lists time))) (times_of lists) times_hold)
 
--- ---- groups in seconds
-abbrev pub coarse : Group → Group
-coarse group = record group { ms = false }
+-- ---- groups in one or the other
+module _ (ms : Bool) where
+  abbrev pub told : Group → Group
+  told group = record group { ms = ms }
 
-abbrev pub in_coarse : Result (List Group) ℕ → Result (List Group) ℕ
-in_coarse (Ok groups) = Ok (map coarse groups)
-in_coarse (Err time) = Err time
+  abbrev pub all_told : Result (List Group) ℕ → Result (List Group) ℕ
+  all_told (Ok groups) = Ok (map told groups)
+  all_told (Err time) = Err time
 
-module _ (metric : List ℕ) (series : List (List Pair)) (f t : List (Result Group ℕ)) where
-  one_group : (r : Result (List (ℕ × ℤ)) ℕ) (a b : Result (List Group) ℕ) → all_groups t ≡ a → all_groups f ≡ b → b ≡ in_coarse a
-      → all_groups (grouped false metric series r ∷ f) ≡ in_coarse (all_groups (grouped true metric series r ∷ t))
-  one_group (Err time) a b ta fb same = refl
-  one_group (Ok dots) (Ok gs) b ta fb same = rw (ta, fb, same) refl
-  one_group (Ok dots) (Err time) b ta fb same = rw (ta, fb, same) refl
+  one_group : (metric : List ℕ) (series : List (List Pair)) (f t : List (Result Group ℕ)) (r : Result (List (ℕ × ℤ)) ℕ) (a b : Result (List Group) ℕ) → all_groups t ≡ a → all_groups f ≡ b → b ≡ all_told a
+      → all_groups (grouped ms metric series r ∷ f) ≡ all_told (all_groups (grouped true metric series r ∷ t))
+  one_group metric series f t (Err time) a b ta fb same = refl
+  one_group metric series f t (Ok dots) (Ok gs) b ta fb same = rw (ta, fb, same) refl
+  one_group metric series f t (Ok dots) (Err time) b ta fb same = rw (ta, fb, same) refl
 
-pub coarse_groups : (how : Aggregator) (metric : List ℕ) (points : List DataPoint) (lists : List (List (List Pair)))
-    → all_groups (map (group_answer false how metric points) lists) ≡ in_coarse (all_groups (map (group_answer true how metric points) lists))
-coarse_groups how metric points [] = refl
-coarse_groups how metric points (series ∷ lists) =
-    one_group metric series (map (group_answer false how metric points) lists) (map (group_answer true how metric points) lists) (aggregated how (map (dots_of points) series)) _ _ refl refl (coarse_groups how metric points lists)
+  told_groups : (how : Aggregator) (metric : List ℕ) (points : List DataPoint) (lists : List (List (List Pair)))
+      → all_groups (map (group_answer ms how metric points) lists) ≡ all_told (all_groups (map (group_answer true how metric points) lists))
+  told_groups how metric points [] = refl
+  told_groups how metric points (series ∷ lists) =
+      one_group metric series (map (group_answer ms how metric points) lists) (map (group_answer true how metric points) lists) (aggregated how (map (dots_of points) series)) _ _ refl refl (told_groups how metric points lists)
 
-pub coarse_answer : (how : Aggregator) (metric : List ℕ) (points : List DataPoint) → answer false how metric points ≡ in_coarse (answer true how metric points)
-coarse_answer how metric points = coarse_groups how metric points (groups_in how (series_of points))
+  pub told_answer : (how : Aggregator) (metric : List ℕ) (points : List DataPoint) → answer ms how metric points ≡ all_told (answer true how metric points)
+  told_answer how metric points = told_groups how metric points (groups_in how (series_of points))
 
-pub plain_seconds : (groups : List code.Group) → map plain (map in_seconds groups) ≡ map coarse (map plain groups)
-plain_seconds [] = refl
-plain_seconds (g ∷ groups) = ap (λ gs. coarse (plain g) ∷ gs) (plain_seconds groups)
+  pub plain_told : (groups : List code.Group) → map plain (map (told_in ms) groups) ≡ map told (map plain groups)
+  plain_told [] = refl
+  plain_told (g ∷ groups) = ap (λ gs. told (plain g) ∷ gs) (plain_told groups)
 
 -- ---- the times of an answer
 module _ (P : ℕ → Type 0) where
@@ -123,16 +125,23 @@ module _ (P : ℕ → Type 0) where
     pub answer_holds : (groups : List Group) → answer true how metric points ≡ Ok groups → AllByRecursion TimesHold groups
     answer_holds groups e = groups_hold (groups_in how (series_of points)) groups e
 
--- groups whose times are whole are ready in seconds
-pub ready_seconds : (groups : List code.Group) → All IsReady groups → AllByRecursion (TimesHold (λ time. time % 1000 ≡ 0)) (map plain groups) → AllByRecursion IsReady (map in_seconds groups)
-ready_seconds [] ready whole = tt
-ready_seconds (g ∷ groups) ready whole =
+-- groups whose times are whole, where they are told in seconds, are ready
+pub ready_told : (ms : Bool) (groups : List code.Group) → All IsReady groups → (ms ≡ false → AllByRecursion (TimesHold (λ time. time % 1000 ≡ 0)) (map plain groups)) → AllByRecursion IsReady (map (told_in ms) groups)
+ready_told ms [] ready whole = tt
+ready_told ms (g ∷ groups) ready whole =
     let one = All-head IsReady g groups ready in
-    (record { tags = one.tags; aggregate_tags = one.aggregate_tags; whole = λ _. whole.0 }, ready_seconds groups (All-tail IsReady g groups ready) whole.1)
+    (record { tags = one.tags; aggregate_tags = one.aggregate_tags; whole = λ seconds. (whole seconds).0 }, ready_told ms groups (All-tail IsReady g groups ready) (λ seconds. (whole seconds).1))
 
 -- what holds of points holds of the chosen ones of the last of them
-pub kept_hold : (P : DataPoint → Type 0) (start end : ℕ) (metric : List ℕ) (points : List DataPoint) → AllByRecursion P points → AllByRecursion P (chosen start end metric (last_points points))
-kept_hold P start end metric points all = filtered (last_points points) (lasts points all)
+pub last_hold : (P : DataPoint → Type 0) (points : List DataPoint) → AllByRecursion P points → AllByRecursion P (last_points points)
+last_hold P [] all = tt
+last_hold P (p ∷ points) all = elim (list_any (is_same_place p) points) as (λ b. AllByRecursion P (cond b (last_points points) (p ∷ last_points points))) [
+  | true ↦ last_hold P points all.1
+  | false ↦ (all.0, last_hold P points all.1)
+]
+
+pub kept_hold : (P : DataPoint → Type 0) (start end : ℕ) (metric : List ℕ) (points : List DataPoint) → AllByRecursion P points → AllByRecursion P (kept start end metric points)
+kept_hold P start end metric points all = filtered (last_points points) (last_hold P points all)
   where
     filtered : (ps : List DataPoint) → AllByRecursion P ps → AllByRecursion P (chosen start end metric ps)
     filtered [] all = tt
@@ -141,9 +150,5 @@ kept_hold P start end metric points all = filtered (last_points points) (lasts p
       | false ↦ filtered ps all.1
     ]
 
-    lasts : (ps : List DataPoint) → AllByRecursion P ps → AllByRecursion P (last_points ps)
-    lasts [] all = tt
-    lasts (p ∷ ps) all = elim (list_any (is_same_place p) ps) as (λ b. AllByRecursion P (cond b (last_points ps) (p ∷ last_points ps))) [
-      | true ↦ lasts ps all.1
-      | false ↦ (all.0, lasts ps all.1)
-    ]
+pub kept_last : (start end : ℕ) (metric : List ℕ) (points : List DataPoint) (p : DataPoint) → Contains (kept start end metric points) p → Contains (last_points points) p
+kept_last start end metric points p has = (in_filter (is_chosen start end metric) (last_points points) p has).0

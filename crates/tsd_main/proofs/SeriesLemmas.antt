@@ -16,7 +16,7 @@ use Rattle.tsd_main.specs.Naming.{names_in}
 use Rattle.tsd_main.specs.Numbered.{tag_names}
 use Rattle.tsd_main.proofs.LastPoints.{AreCoarse}
 use Rattle.tsd_main.proofs.Lower.{not_in, split}
-use Rattle.tsd_main.specs.Gathering.{values_of, unless_empty, IsCoarse}
+use Rattle.tsd_main.specs.Gathering.{values_of, unless_empty, IsTaken}
 use Rattle.tsd_main.specs.Putting.{AreTimes}
 use Rattle.tsd_main.specs.Series.{Series, is_same_series, series_of_point}
 use Rattle.tsd_main.proofs.GatherLemmas.{dot, same_series, none_not_some}
@@ -49,34 +49,34 @@ names_are p is n has = ⊎_elim
         (split (TagValue, t.1) n (tag_names tags) rest))
         (split (TagKey, t.0) n ((TagValue, t.1) ∷ tag_names tags) has)
 
-pub named_series : (ps : List DataPoint) (s : Series) (values : List (ℕ × ℤ)) → AllByRecursion IsCoarse ps → unless_empty (values_of ps s) ≡ Some values → (n : Kind × List ℕ) → Contains (names_in s.0 s.1) n → IsName n.1
-named_series [] s values coarse is = absurd (none_not_some is)
-named_series (p ∷ ps) s values coarse is =
-    elim (is_same_series (series_of_point p) s) as (λ b. is_same_series (series_of_point p) s ≡ b → unless_empty (map dot (cond b (p ∷ filter (λ q. is_same_series (series_of_point q) s) ps) (filter (λ q. is_same_series (series_of_point q) s) ps))) ≡ Some values → (n : Kind × List ℕ) → Contains (names_in s.0 s.1) n → IsName n.1) [
-      | true ↦ λ e _. subst (λ (t : Series). (n : Kind × List ℕ) → Contains (names_in t.0 t.1) n → IsName n.1) (same_series (series_of_point p) s e) (names_are p coarse.0.is_point)
-      | false ↦ λ _ found. named_series ps s values coarse.1 found
+pub named_series : (ms : Bool) (ps : List DataPoint) (s : Series) (values : List (ℕ × ℤ)) → AllByRecursion (IsTaken ms) ps → unless_empty (values_of ps s) ≡ Some values → (n : Kind × List ℕ) → Contains (names_in s.0.0 s.0.1) n → IsName n.1
+named_series ms [] s values taken is = absurd (none_not_some is)
+named_series ms (p ∷ ps) s values taken is =
+    elim (is_same_series (series_of_point p) s) as (λ b. is_same_series (series_of_point p) s ≡ b → unless_empty (map dot (cond b (p ∷ filter (λ q. is_same_series (series_of_point q) s) ps) (filter (λ q. is_same_series (series_of_point q) s) ps))) ≡ Some values → (n : Kind × List ℕ) → Contains (names_in s.0.0 s.0.1) n → IsName n.1) [
+      | true ↦ λ e _. subst (λ (t : Series). (n : Kind × List ℕ) → Contains (names_in t.0.0 t.0.1) n → IsName n.1) (same_series (series_of_point p) s e) (names_are p taken.0.is_point)
+      | false ↦ λ _ found. named_series ms ps s values taken.1 found
     ] refl is
 
 -- points in seconds
-pub coarse_points : (ps : List DataPoint) → AllByRecursion IsCoarse ps → AreCoarse ps
-coarse_points [] c = tt
-coarse_points (p ∷ ps) c = (c.0.form, coarse_points ps c.1)
+pub coarse_points : (ps : List DataPoint) → AllByRecursion (IsTaken false) ps → AreCoarse ps
+coarse_points [] taken = tt
+coarse_points (p ∷ ps) taken = (taken.0.form refl, coarse_points ps taken.1)
 
-pub whole_points : (ps : List DataPoint) → AllByRecursion IsCoarse ps → AllByRecursion (λ p. p.time % 1000 ≡ 0) ps
-whole_points [] c = tt
-whole_points (p ∷ ps) c = (c.0.is_point.timed.whole c.0.form, whole_points ps c.1)
+pub whole_points : (ps : List DataPoint) → AllByRecursion (IsTaken false) ps → AllByRecursion (λ p. p.time % 1000 ≡ 0) ps
+whole_points [] taken = tt
+whole_points (p ∷ ps) taken = (taken.0.is_point.timed.whole (taken.0.form refl), whole_points ps taken.1)
 
 -- the times of points
-time_of : (p : DataPoint) → IsCoarse p → IsTime p.time false
-time_of p c = subst (IsTime p.time) c.form c.is_point.timed
+time_of : (ms : Bool) (p : DataPoint) (s : Series) → IsTaken ms p → series_of_point p ≡ s → IsTime p.time s.1
+time_of ms p s taken same = subst (IsTime p.time) (ap (λ (t : Series). t.1) same) taken.is_point.timed
 
-pub times_of_values : (ps : List DataPoint) (s : Series) → AllByRecursion IsCoarse ps → AreTimes (values_of ps s)
-times_of_values [] s coarse = tt
-times_of_values (p ∷ ps) s coarse =
-    elim (is_same_series (series_of_point p) s) as (λ b. AllByRecursion (λ (d : ℕ × ℤ). IsTime d.0 false) (map dot (cond b (p ∷ filter (λ q. is_same_series (series_of_point q) s) ps) (filter (λ q. is_same_series (series_of_point q) s) ps)))) [
-      | true ↦ (time_of p coarse.0, times_of_values ps s coarse.1)
-      | false ↦ times_of_values ps s coarse.1
-    ]
+pub times_of_values : (ms : Bool) (ps : List DataPoint) (s : Series) → AllByRecursion (IsTaken ms) ps → AreTimes s.1 (values_of ps s)
+times_of_values ms [] s taken = tt
+times_of_values ms (p ∷ ps) s taken =
+    elim (is_same_series (series_of_point p) s) as (λ b. is_same_series (series_of_point p) s ≡ b → AllByRecursion (λ (d : ℕ × ℤ). IsTime d.0 s.1) (map dot (cond b (p ∷ filter (λ q. is_same_series (series_of_point q) s) ps) (filter (λ q. is_same_series (series_of_point q) s) ps)))) [
+      | true ↦ λ e. (time_of ms p s taken.0 (same_series (series_of_point p) s e), times_of_values ms ps s taken.1)
+      | false ↦ λ _. times_of_values ms ps s taken.1
+    ] refl
 
 -- ---- what a look-up finds
 pub record FoundAt {K X : Type 0} (test : K → Bool) (es : List (K × X)) (x : X) : Type 0 where

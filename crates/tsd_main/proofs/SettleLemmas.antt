@@ -104,7 +104,7 @@ pub take_next : {A : Type 0} (xs : List A) (i : ℕ) (d : A) → i < length xs �
 take_next xs i d less = ap (λ k. take k xs) (add-one i) ∙ take-suc xs i d less
 
 -- ---- the entries of a map rise
-below_from_Less : (a b : ℕ) → nat_cmp a b ≡ Less → a < b
+pub below_from_Less : (a b : ℕ) → nat_cmp a b ≡ Less → a < b
 below_from_Less a b h = grind (arith, nat_tests)
 
 -- among keys in order each is above those before it

@@ -1,5 +1,5 @@
 -- The points of all series in the store.
-use Rattle.std.proofs.Common.{◌≡◌, ◌⊎◌, inl, inr, ⊎_elim, ℕ, ℤ, true, List, [], ◌∷◌, ◌++◌, ◌+◌, ◌<◌, ◌≤◌, length, take, zero, suc, get_or, refl, sym, ap, subst, ◌∙◌, arith, append_assoc, append-nil}
+use Rattle.std.proofs.Common.{◌≡◌, ◌⊎◌, inl, inr, ⊎_elim, ℕ, ℤ, Bool, true, List, [], ◌∷◌, ◌++◌, ◌+◌, ◌<◌, ◌≤◌, length, take, zero, suc, get_or, refl, sym, ap, subst, ◌∙◌, arith, append_assoc, append-nil}
 use Rattle.std.specs.Prelude.{◌↔◌, Option, None, Some, All, Contains, is_some, pos}
 use Rattle.std.specs.List.{flat_map}
 use Rattle.std.specs.HashMap.{get}
@@ -14,7 +14,6 @@ use Rattle.tsd_base.specs.declared.kinds.Kind.{Kind}
 use Rattle.tsd_base.specs.declared.kinds.Kind.TheVariants.{Metric}
 use Rattle.cell_model.specs.History.{first}
 use Rattle.cell_model.specs.Layout.{names_of}
-use Rattle.cell_model.specs.Readings.{Reading}
 use Rattle.cell_model.specs.Seen.{Seen}
 use Rattle.cell_solo.specs.Turns.{sight}
 use Rattle.tsd_main.specs.declared.gathered.Gathered.{Gathered}
@@ -23,8 +22,8 @@ use Rattle.tsd_main.specs.Ids.{id_in}
 use Rattle.tsd_main.specs.Known.{AreKnown, IsKnown}
 use Rattle.tsd_main.specs.Naming.{list_of, names_in}
 use Rattle.tsd_main.specs.Numbered.{tag_names}
-use Rattle.tsd_main.specs.Putting.{Adds, AddsSome, AreResolved, AreTimes, IsLast, MayPut, PutsAll, readings_in}
-use Rattle.tsd_main.specs.Series.{Series, is_same_series}
+use Rattle.tsd_main.specs.Putting.{Adds, AddsSome, AreResolved, AreTimes, IsLast, MayPut, PutsAll, points_in}
+use Rattle.tsd_main.specs.Series.{Series, is_same_series, series_of_point}
 use Rattle.tsd_main.specs.Settling.{last_at}
 use Rattle.tsd_main.specs.Storing.{IsAlone, IsStored, WasPut}
 use Rattle.tsd_main.proofs.SettleLemmas.{take_next}
@@ -33,48 +32,52 @@ use Rattle.tsd_main.proofs.KnownLemmas.{notes_all}
 use Rattle.tsd_main.proofs.LastPoints.{last_points_are}
 use Rattle.tsd_main.proofs.Lower.{here, map_in, in_map, not_in, split}
 use Rattle.tsd_main.proofs.Puts.{adds_alike, adds_none, adds_then, one_more, still_resolved}
-use Rattle.tsd_main.proofs.SeriesLemmas.{coarse_points, lookup_contains, named_series, times_of_values, values_are}
+use Rattle.tsd_main.proofs.SeriesLemmas.{lookup_contains, named_series, times_of_values, values_are}
 use Rattle.tsd_main.proofs.ValueLemmas.{contains_value, value_contains}
 
 abbrev Entry : Type 0
 Entry = Series × List (ℕ × ℤ)
 
 -- ---- one series
-module _ (metric : List ℕ) (tags : List Pair) (dots values : List (ℕ × ℤ)) (rising : IsRising dots) (settled : (time : ℕ) → value_at dots time ≡ last_at values time) where
-  last_of_one : (r : Reading) → Contains (readings_in metric tags dots) r ↔ IsLast (((metric, tags), values) ∷ []) r
-  last_of_one r = (
+module _ (metric : List ℕ) (tags : List Pair) (fine : Bool) (dots values : List (ℕ × ℤ)) (rising : IsRising dots) (settled : (time : ℕ) → value_at dots time ≡ last_at values time) where
+  abbrev named : Series
+  named = ((metric, tags), fine)
+
+  abbrev point_at : ℕ × ℤ → DataPoint
+  point_at d = record { metric = metric; tags = tags; time = d.0; fine = fine; value = d.1 }
+
+  last_of_one : (p : DataPoint) → Contains (points_in metric tags fine dots) p ↔ IsLast ((named, values) ∷ []) p
+  last_of_one p = (
     λ has.
-        let d = map_in (λ (d : ℕ × ℤ). record { metric = metric; tags = tags; time = d.0; value = d.1 }) dots r has in
-        subst (IsLast (((metric, tags), values) ∷ [])) d.2
-        (record { entry = ((metric, tags), values); among = here ((metric, tags), values) []; series_is = refl; last = sym (settled (d.0).0) ∙ contains_value dots (d.0).0 (d.0).1 rising d.1 }),
+        let d = map_in point_at dots p has in
+        subst (IsLast ((named, values) ∷ [])) d.2
+        (record { entry = (named, values); among = here (named, values) []; series_is = refl; last = sym (settled (d.0).0) ∙ contains_value dots (d.0).0 (d.0).1 rising d.1 }),
     λ l. ⊎_elim
-        (λ (same : ((metric, tags), values) ≡ l.entry).
-        let named : (metric, tags) ≡ (r.metric, r.tags) = ap (λ (e : Entry). e.0) same ∙ l.series_is in
-        let last : last_at values r.time ≡ Some r.value = ap (λ (e : Entry). last_at e.1 r.time) same ∙ l.last in
-        let has : Contains dots (r.time, r.value) = value_contains dots r.time r.value (settled r.time ∙ last) in
-        let is : (record { metric = metric; tags = tags; time = r.time; value = r.value }) ≡ r = λ i. record { metric = (named i).0; tags = (named i).1; time = r.time; value = r.value } in
-        subst (Contains (readings_in metric tags dots)) is (in_map (λ (d : ℕ × ℤ). record { metric = metric; tags = tags; time = d.0; value = d.1 }) dots (r.time, r.value) has))
+        (λ (same : (named, values) ≡ l.entry).
+        let series : named ≡ series_of_point p = ap (λ (e : Entry). e.0) same ∙ l.series_is in
+        let last : last_at values p.time ≡ Some p.value = ap (λ (e : Entry). last_at e.1 p.time) same ∙ l.last in
+        let has : Contains dots (p.time, p.value) = value_contains dots p.time p.value (settled p.time ∙ last) in
+        let is : point_at (p.time, p.value) ≡ p = λ i. record { metric = (series i).0.0; tags = (series i).0.1; time = p.time; fine = (series i).1; value = p.value } in
+        subst (Contains (points_in metric tags fine dots)) is (in_map point_at dots (p.time, p.value) has))
         (λ (no : Contains [] l.entry). absurd (not_in l.entry no))
-        (split ((metric, tags), values) l.entry [] l.among),
+        (split (named, values) l.entry [] l.among),
   )
 
-  pub series_put : (a b : Seen) → Adds a (readings_in metric tags dots) b → PutsAll a (((metric, tags), values) ∷ []) b
-  series_put a b adds = adds_alike (Contains (readings_in metric tags dots)) (IsLast (((metric, tags), values) ∷ [])) a b adds last_of_one
+  pub series_put : (a b : Seen) → Adds a (points_in metric tags fine dots) b → PutsAll a ((named, values) ∷ []) b
+  series_put a b adds = adds_alike (Contains (points_in metric tags fine dots)) (IsLast ((named, values) ∷ [])) a b adds last_of_one
 
 -- ---- one point of a series
-pub first_dot : (metric : List ℕ) (tags : List Pair) (s : Seen) (items : List (ℕ × ℤ)) → IsAlone s → Adds s (readings_in metric tags (take 0 items)) s
-first_dot metric tags s items by = adds_none s by
+pub first_dot : (metric : List ℕ) (tags : List Pair) (fine : Bool) (s : Seen) (items : List (ℕ × ℤ)) → IsAlone s → Adds s (points_in metric tags fine (take 0 items)) s
+first_dot metric tags fine s items by = adds_none s by
 
-pub next_dot : (metric : List ℕ) (tags : List Pair) (m : List ℕ) (t : List Pair) (items : List (ℕ × ℤ)) (i time : ℕ) (value : ℤ) (a b c : Seen) → i < length items → m ≡ metric → t ≡ tags
-    → time ≡ (get_or items i (0, pos 0)).0 → value ≡ (get_or items i (0, pos 0)).1
-    → Adds a (readings_in metric tags (take i items)) b → Adds b (readings_in m t ((time, value) ∷ [])) c → Adds a (readings_in metric tags (take (i + 1) items)) c
-next_dot metric tags m t items i time value a b c within named tagged time_is value_is before one =
+pub next_dot : (metric : List ℕ) (tags : List Pair) (fine : Bool) (p : DataPoint) (items : List (ℕ × ℤ)) (i : ℕ) (a b c : Seen) → i < length items → p.metric ≡ metric → p.tags ≡ tags → p.fine ≡ fine
+    → p.time ≡ (get_or items i (0, pos 0)).0 → p.value ≡ (get_or items i (0, pos 0)).1
+    → Adds a (points_in metric tags fine (take i items)) b → Adds b (p ∷ []) c → Adds a (points_in metric tags fine (take (i + 1) items)) c
+next_dot metric tags fine p items i a b c within named tagged formed time_is value_is before one =
     let d : ℕ × ℤ = get_or items i (0, pos 0) in
-    let is : (time, value) ≡ d = λ k. (time_is k, value_is k) in
-    let now : Adds b (readings_in metric tags (d ∷ [])) c =
-    subst (λ (e : ℕ × ℤ). Adds b (readings_in metric tags (e ∷ [])) c) is
-    (subst (λ (x : List Pair). Adds b (readings_in metric x ((time, value) ∷ [])) c) tagged (subst (λ (x : List ℕ). Adds b (readings_in x t ((time, value) ∷ [])) c) named one)) in
-    subst (λ (ds : List (ℕ × ℤ)). Adds a (readings_in metric tags ds) c) (sym (take_next items i (0, pos 0) within)) (one_more metric tags a b c (take i items) d before now)
+    let is : p ≡ record { metric = metric; tags = tags; time = d.0; fine = fine; value = d.1 } = λ k. record { metric = named k; tags = tagged k; time = time_is k; fine = formed k; value = value_is k } in
+    let now : Adds b (points_in metric tags fine (d ∷ [])) c = subst (λ (q : DataPoint). Adds b (q ∷ []) c) is one in
+    subst (λ (ds : List (ℕ × ℤ)). Adds a (points_in metric tags fine ds) c) (sym (take_next items i (0, pos 0) within)) (one_more metric tags fine a b c (take i items) d before now)
 
 take_all : (xs : List (ℕ × ℤ)) (n : ℕ) → length xs ≤ n → take n xs ≡ xs
 take_all [] zero le = refl
@@ -82,17 +85,17 @@ take_all [] (suc n) le = refl
 take_all (x ∷ xs) zero le = absurd (omega (arith, le))
 take_all (x ∷ xs) (suc n) le = ap (λ ys. x ∷ ys) (take_all xs n (omega (arith, le)))
 
-pub all_dots : (metric : List ℕ) (tags : List Pair) (items dots : List (ℕ × ℤ)) (i : ℕ) (a b : Seen) → length items ≤ i → items ≡ dots → Adds a (readings_in metric tags (take i items)) b → Adds a (readings_in metric tags dots) b
-all_dots metric tags items dots i a b le same adds = subst (λ (ds : List (ℕ × ℤ)). Adds a (readings_in metric tags ds) b) (take_all items i le ∙ same) adds
+pub all_dots : (metric : List ℕ) (tags : List Pair) (fine : Bool) (items dots : List (ℕ × ℤ)) (i : ℕ) (a b : Seen) → length items ≤ i → items ≡ dots → Adds a (points_in metric tags fine (take i items)) b → Adds a (points_in metric tags fine dots) b
+all_dots metric tags fine items dots i a b le same adds = subst (λ (ds : List (ℕ × ℤ)). Adds a (points_in metric tags fine ds) b) (take_all items i le ∙ same) adds
 
 -- the names of the point are those of the series
-pub point_resolved : (metric : List ℕ) (tags : List Pair) (p : DataPoint) (values : List (ℕ × ℤ)) (P : Reading → Type 0) (a b : Seen) → p.metric ≡ metric → p.tags ≡ tags → MayPut a ((metric, tags), values) → AddsSome a P b → AreResolved b (names_of p)
-point_resolved metric tags p values P a b named tagged may adds =
+pub point_resolved : (metric : List ℕ) (tags : List Pair) (fine : Bool) (p : DataPoint) (values : List (ℕ × ℤ)) (P : DataPoint → Type 0) (a b : Seen) → p.metric ≡ metric → p.tags ≡ tags → MayPut a (((metric, tags), fine), values) → AddsSome a P b → AreResolved b (names_of p)
+point_resolved metric tags fine p values P a b named tagged may adds =
     still_resolved P a b (names_of p) adds
     (subst (λ (x : List Pair). AreResolved a ((Metric, p.metric) ∷ tag_names x)) (sym tagged) (subst (λ (x : List ℕ). AreResolved a ((Metric, x) ∷ tag_names tags)) (sym named) may.resolved))
 
 -- ---- series after series
-last_cut : (done : List Entry) (e : Entry) (r : Reading) → IsLast (done ++ e ∷ []) r ↔ (IsLast done r ⊎ IsLast (e ∷ []) r)
+last_cut : (done : List Entry) (e : Entry) (r : DataPoint) → IsLast (done ++ e ∷ []) r ↔ (IsLast done r ⊎ IsLast (e ∷ []) r)
 last_cut done e r = (
   λ l. ⊎_elim
       (λ (before : Contains done l.entry). inl (record { entry = l.entry; among = before; series_is = l.series_is; last = l.last }))
@@ -128,7 +131,7 @@ module _ (a b : Seen) (entries rest more : List Entry) (e : Entry) (are : rest �
   pub may_next : MayPut b e
   may_next =
       let m = All-contains (MayPut a) entries e may (subst (λ (es : List Entry). Contains es e) next (Contains-append_right put.done (e ∷ more) e (here e more))) in
-      record { resolved = still_resolved (IsLast put.done) a b (names_in e.0.0 e.0.1) put.puts m.resolved; times = m.times }
+      record { resolved = still_resolved (IsLast put.done) a b (names_in e.0.0.0 e.0.0.1) put.puts m.resolved; times = m.times }
 
   pub put_next : (c : Seen) → PutsAll b (e ∷ []) c → ArePut a entries more c
   put_next c one = record {
@@ -138,7 +141,7 @@ module _ (a b : Seen) (entries rest more : List Entry) (e : Entry) (are : rest �
   }
 
 -- ---- the series that were gathered
-module _ (points : List DataPoint) (g : Gathered) (h : Gathers points g) (found : All (λ e. get is_same_series g.series e.0 ≡ Some e.1) g.series.entries) where
+module _ (ms : Bool) (points : List DataPoint) (g : Gathered) (h : Gathers ms points g) (found : All (λ e. get is_same_series g.series e.0 ≡ Some e.1) g.series.entries) where
   known_all : AreKnown h.names (flat_map names_of points)
   known_all = (notes_all _ (flat_map names_of points) h.names h.noted).known
 
@@ -163,41 +166,42 @@ module _ (points : List DataPoint) (g : Gathered) (h : Gathers points g) (found 
       (λ e is.
       let there : unless_empty (values_of points e.0) ≡ Some e.1 = sym (h.series e.0) ∙ is in
       record {
-        resolved = have_ids (names_in e.0.0 e.0.1) (known_series h.names points e.0 e.1 known_all there) (named_series points e.0 e.1 h.coarse there);
-        times = subst AreTimes (sym (values_are points e.0 e.1 there)) (times_of_values points e.0 h.coarse);
+        resolved = have_ids (names_in e.0.0.0 e.0.0.1) (known_series h.names points e.0 e.1 known_all there) (named_series ms points e.0 e.1 h.taken there);
+        times = subst (AreTimes e.0.1) (sym (values_are points e.0 e.1 there)) (times_of_values ms points e.0 h.taken);
       })
       g.series.entries found
 
   -- the last values of the series are the last points
-  last_is : (r : Reading) → IsLast g.series.entries r ↔ (last_at (values_of points (r.metric, r.tags)) r.time ≡ Some r.value)
-  last_is r = (to, λ is. from (values_of points (r.metric, r.tags)) refl is)
+  last_is : (r : DataPoint) → IsLast g.series.entries r ↔ (last_at (values_of points (series_of_point r)) r.time ≡ Some r.value)
+  last_is r = (to, λ is. from (values_of points (series_of_point r)) refl is)
     where
-      to : IsLast g.series.entries r → last_at (values_of points (r.metric, r.tags)) r.time ≡ Some r.value
+      to : IsLast g.series.entries r → last_at (values_of points (series_of_point r)) r.time ≡ Some r.value
       to l =
           let is = All-contains (λ e. get is_same_series g.series e.0 ≡ Some e.1) g.series.entries l.entry found l.among in
           let values = values_are points l.entry.0 l.entry.1 (sym (h.series l.entry.0) ∙ is) in
           ap (λ (s : Series). last_at (values_of points s) r.time) (sym l.series_is) ∙ ap (λ xs. last_at xs r.time) (sym values) ∙ l.last
 
-      from : (values : List (ℕ × ℤ)) → values_of points (r.metric, r.tags) ≡ values → last_at (values_of points (r.metric, r.tags)) r.time ≡ Some r.value → IsLast g.series.entries r
+      from : (values : List (ℕ × ℤ)) → values_of points (series_of_point r) ≡ values → last_at (values_of points (series_of_point r)) r.time ≡ Some r.value → IsLast g.series.entries r
       from [] told is = absurd (none_not_some (sym (ap (λ xs. last_at xs r.time) told) ∙ is))
       from (x ∷ xs) told is =
-          let s : Series = (r.metric, r.tags) in
+          let s : Series = series_of_point r in
           let at = lookup_contains (is_same_series s) g.series.entries (x ∷ xs) (h.series s ∙ ap unless_empty told) in
           record { entry = (at.key, x ∷ xs); among = at.among; series_is = sym (same_series s at.key at.passes); last = sym (ap (λ ys. last_at ys r.time) told) ∙ is }
 
   -- all points are stored
-  pub stored : (s : Seen) → PutsAll (sight g.store) g.series.entries s → IsStored points s
+  pub stored : (s : Seen) → PutsAll (sight g.store) g.series.entries s → IsStored ms points s
   stored s puts = record {
-    coarse = h.coarse;
+    taken = h.taken;
     names = h.names;
     noted = h.noted;
     by = puts.by;
+    unmerged = λ x lawful fits. puts.unmerged x lawful fits (h.naming.unmerged x lawful (puts.fits x fits));
     ids = λ x lawful fits kind name is. puts.ids x lawful fits kind name ∙ (h.naming.numbered x lawful (puts.fits x fits)).ids kind name is;
     puts = λ x lawful fits r. (
-      λ put. (last_points_are points r (coarse_points points h.coarse)).1 ((last_is r).0 (⊎_elim
+      λ put. (last_points_are points r).1 ((last_is r).0 (⊎_elim
           (λ (before : WasPut (first (sight g.store).length x) r). absurd (h.naming.unput x lawful (puts.fits x fits) r before))
           (λ (l : IsLast g.series.entries r). l)
           ((puts.puts x lawful fits r).0 put))),
-      λ has. (puts.puts x lawful fits r).1 (inr ((last_is r).1 ((last_points_are points r (coarse_points points h.coarse)).0 has))),
+      λ has. (puts.puts x lawful fits r).1 (inr ((last_is r).1 ((last_points_are points r).0 has))),
     );
   }

@@ -57,7 +57,7 @@ last_contains (d ∷ values) time value is = by_rest (last_at values time) (nat_
     by_rest None false same later told = absurd cc
 
 -- settled values have the times of the values
-pub settled_times : (dots values : List (ℕ × ℤ)) → IsRising dots → ((time : ℕ) → value_at dots time ≡ last_at values time) → AreTimes values → (d : ℕ × ℤ) → Contains dots d → IsTime d.0 false
-settled_times dots values rising settled times d has =
+pub settled_times : (fine : Bool) (dots values : List (ℕ × ℤ)) → IsRising dots → ((time : ℕ) → value_at dots time ≡ last_at values time) → AreTimes fine values → (d : ℕ × ℤ) → Contains dots d → IsTime d.0 fine
+settled_times fine dots values rising settled times d has =
     let last : last_at values d.0 ≡ Some d.1 = sym (settled d.0) ∙ contains_value dots d.0 d.1 rising has in
-    All-contains (λ (e : ℕ × ℤ). IsTime e.0 false) values (d.0, d.1) (All-from_recursion (λ (e : ℕ × ℤ). IsTime e.0 false) values times) (last_contains values d.0 d.1 last)
+    All-contains (λ (e : ℕ × ℤ). IsTime e.0 fine) values (d.0, d.1) (All-from_recursion (λ (e : ℕ × ℤ). IsTime e.0 fine) values times) (last_contains values d.0 d.1 last)

@@ -12,6 +12,7 @@ pub mod Commands
 pub mod Inputs
 pub mod Judgements
 pub mod Lines
+pub mod Clashes
 pub mod Outcomes
 pub mod Printing
 pub mod Queries

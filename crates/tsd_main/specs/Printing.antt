@@ -10,4 +10,4 @@ outcome_of printed = record { status = printed.status; text = printed.text.items
 
 -- the outcome of a query over points
 abbrev pub query_outcome : Query → List DataPoint → Outcome
-query_outcome query points = answered query.start query.end query.sub.how query.sub.metric points
+query_outcome query points = answered query.ms query.start query.end query.sub.how query.sub.metric points

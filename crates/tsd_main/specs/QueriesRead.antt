@@ -20,6 +20,7 @@ pub record IsQueryOf (query : Query) (batch : Batch) : Type 0 where
   pub plain : IsPlain query.sub
   pub start : query.start ≡ batch.start * 1000
   pub end : query.end ≡ batch.end * 1000
+  pub ms : query.ms ≡ batch.ms
 
 -- the query of the batch, or why there is none; want of memory may always be told
 abbrev pub GivesQuery : Result Query NoQuery → Batch → Type 0

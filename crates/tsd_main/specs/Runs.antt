@@ -26,7 +26,7 @@ pub record ReadsInput (command : Option Batch) : Type 0 where
 
 -- The input so far decides nothing: more of it is asked.
 abbrev pub AsksOn : Option Batch → List ℕ → Type 0
-AsksOn command input = ReadsInput command × IsUnrefused input
+AsksOn command input = (reads : ReadsInput command) × IsUnrefused reads.batch.ms input
 
 -- What was taken of the input, and whether its end came.
 pub record Taken (command : Option Batch) (taken taken' left left' : Option (List ℕ)) (input : List ℕ) (ended : Bool) : Type 0 where

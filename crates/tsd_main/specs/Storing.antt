@@ -1,5 +1,5 @@
 -- What one caller that steps alone did in a store that began empty.
-use Rattle.std.specs.Prelude.{◌≡◌, ◌↔◌, ℕ, true, false, List, length, map, Contains, Option, None, Some, Ok, Err}
+use Rattle.std.specs.Prelude.{◌≡◌, ◌↔◌, ℕ, Bool, true, false, List, length, Contains, Option, None, Some, Ok, Err}
 use Rattle.std.specs.List.{AllByRecursion, flat_map}
 use Rattle.std.specs.FinMap.{empty}
 use Rattle.tsd_base.specs.Alphabet.{IsName}
@@ -9,9 +9,11 @@ use Rattle.tsd_base.specs.Readings.{last_points}
 use Rattle.cell_model.specs.declared.events.Entry.{Entry}
 use Rattle.cell_model.specs.History.{History, Had, first, store_after}
 use Rattle.cell_model.specs.Ids.{id_of}
+use Rattle.cell_model.specs.Laws.{IsCompaction}
 use Rattle.cell_model.specs.Layout.{IsPoint, names_of}
 use Rattle.cell_model.specs.Machine.{counter_of}
-use Rattle.cell_model.specs.Readings.{Reading, IsPut, reading_of}
+use Rattle.cell_model.specs.declared.events.Step.{Step}
+use Rattle.cell_model.specs.declared.events.Step.TheVariants.{PutPoint}
 use Rattle.cell_model.specs.Seen.{Seen, InEach, IsPossible}
 use Rattle.tsd_main.specs.Naming.{Names, id_in, list_of, no_names, noted_all}
 
@@ -34,31 +36,42 @@ pub record IsNumbered (names : Names) (h : History) : Type 0 where
   pub counts : (kind : Kind) → counter_of (store_after h) kind ≡ length (list_of names kind)
   pub ids : HasIds names h
 
--- an entry of the history puts a point of this reading
-abbrev pub WasPut : History → Reading → Type 0
-WasPut h r = (e : Entry) × Had h e × IsPut e.step r
+-- the step puts this point
+abbrev pub Puts : Step → DataPoint → Type 0
+Puts (PutPoint point row qual value) p = point ≡ p
+Puts _ p = ⊥
 
--- these names have their ids, and no point was put
+-- no entry of the history merges or drops cells
+abbrev pub IsUnmerged : History → Type 0
+IsUnmerged h = (e : Entry) → Had h e → IsCompaction e.step → ⊥
+
+-- an entry of the history puts this point
+abbrev pub WasPut : History → DataPoint → Type 0
+WasPut h p = (e : Entry) × Had h e × Puts e.step p
+
+-- these names have their ids, and no point was put, nor cells merged or dropped
 pub record IsNaming (names : Names) (s : Seen) : Type 0 where
   pub by : IsAlone s
   pub numbered : Holds s (IsNumbered names)
-  pub unput : Holds s (λ h. (r : Reading) → WasPut h r → ⊥)
+  pub unput : Holds s (λ h. (p : DataPoint) → WasPut h p → ⊥)
+  pub unmerged : Holds s IsUnmerged
 
 -- names got their ids, from the left; or there is none left for the first one of this kind that had none
 abbrev pub Notes : Seen → List (Kind × List ℕ) → Option Kind → Seen → Type 0
 Notes old ns None new = (names : Names) → IsNaming names old → (more : Names) × (noted_all names ns ≡ Ok more) × IsNaming more new
 Notes old ns (Some kind) new = (names : Names) → IsNaming names old → noted_all names ns ≡ Err kind
 
--- a point in seconds, of names
-pub record IsCoarse (p : DataPoint) : Type 0 where
-  pub form : p.fine ≡ false
+-- a point of names, in seconds unless ms tells that those in milliseconds are taken too
+pub record IsTaken (ms : Bool) (p : DataPoint) : Type 0 where
+  pub form : ms ≡ false → p.fine ≡ false
   pub is_point : IsPoint p
 
--- the names of the points, all in seconds, have their ids, and exactly the last points were put
-pub record IsStored (points : List DataPoint) (s : Seen) : Type 0 where
-  pub coarse : AllByRecursion IsCoarse points
+-- the names of the points have their ids, exactly the last points were put, and no cells were merged or dropped
+pub record IsStored (ms : Bool) (points : List DataPoint) (s : Seen) : Type 0 where
+  pub taken : AllByRecursion (IsTaken ms) points
   pub names : Names
   pub noted : noted_all no_names (flat_map names_of points) ≡ Ok names
   pub by : IsAlone s
   pub ids : Holds s (HasIds names)
-  pub puts : Holds s (λ h. (r : Reading) → WasPut h r ↔ Contains (map reading_of (last_points points)) r)
+  pub puts : Holds s (λ h. (p : DataPoint) → WasPut h p ↔ Contains (last_points points) p)
+  pub unmerged : Holds s IsUnmerged

@@ -28,13 +28,13 @@ over_lines query (Err line) = refused_line line.0 line.1
 
 -- the outcome of a query over an input, as far as it is known
 abbrev pub DecidesQuery : Query → List ℕ → Bool → Outcome → Type 0
-DecidesQuery query input true o = over_lines query (points_of input) ≡ o
-DecidesQuery query input false o = (more : List ℕ) → over_lines query (points_of (input ++ more)) ≡ o
+DecidesQuery query input true o = over_lines query (points_of query.ms input) ≡ o
+DecidesQuery query input false o = (more : List ℕ) → over_lines query (points_of query.ms (input ++ more)) ≡ o
 
 abbrev pub DecidedQuery : Query → List ℕ → Bool → Result Printed InputFault → Type 0
 DecidedQuery query input ended (Ok printed) = DecidesQuery query input ended (outcome_of printed) × (printed.status ≡ Done → ended ≡ true)
-DecidedQuery query input ended (Err Failed) = IsUnrefused input × (length input < 2 ^ 40)
-DecidedQuery query input ended (Err Full) = IsUnrefused input × (length input ≡ 2 ^ 40)
+DecidedQuery query input ended (Err Failed) = IsUnrefused query.ms input × (length input < 2 ^ 40)
+DecidedQuery query input ended (Err Full) = IsUnrefused query.ms input × (length input ≡ 2 ^ 40)
 DecidedQuery query input ended (Err OutOfMemory) = Unit {0}
 
 -- the query is worked up to what is to be printed

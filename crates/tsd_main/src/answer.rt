@@ -4,16 +4,16 @@ ghost use Rattle.cell_solo.specs.Turns.{sight};
 ghost use Rattle.query_run.specs.Queries.{IsPlain};
 ghost use Rattle.tsd_base.specs.Points.{DataPoint};
 ghost use Rattle.tsd_main.specs.Gathering.{Gathers};
-ghost use Rattle.tsd_main.specs.Outcomes.{refused, replied};
+ghost use Rattle.tsd_main.specs.Outcomes.{clashed, refused, replied};
 ghost use Rattle.tsd_main.specs.Printing.{outcome_of, query_outcome};
 ghost use Rattle.tsd_main.specs.Replying.{CanCome, RefusesAsked};
 ghost use Rattle.tsd_main.specs.Storing.{IsStored};
 
 use crate::gathered::Gathered;
-use crate::printed::{Printed, push_number};
+use crate::printed::{Printed, push_number, push_signed};
 use crate::putting::put_all;
 use crate::query::Query;
-use crate::reply::{in_seconds, printed_reply};
+use crate::reply::{printed_reply, tell_in};
 use crate::store::Store;
 use query_run::laws::answer_is_unordered;
 use query_run::{AskFault, ask};
@@ -27,8 +27,8 @@ pub fn answer(alloc: Global, query: Query, gathered: Gathered) -> Result<Printed
     requires plain { IsPlain query.sub }
     requires range { query.start ≤ query.end }
     requires last { query.end ≤ 4294967295000 }
-    requires gathers { (points : List DataPoint) × Gathers points gathered }
-    ensures { IfOk result (λ printed. (points : List DataPoint) → Gathers points gathered → outcome_of printed ≡ query_outcome query points) }
+    requires gathers { (points : List DataPoint) × Gathers query.ms points gathered }
+    ensures { IfOk result (λ printed. (points : List DataPoint) → Gathers query.ms points gathered → outcome_of printed ≡ query_outcome query points) }
 {
     let Gathered { mut store, series } = gathered;
     // For the proof: no two series are the same.
@@ -42,16 +42,17 @@ fn answer_from(alloc: Global, query: Query, store: &mut Store) -> Result<Printed
     requires plain { IsPlain query.sub }
     requires range { query.start ≤ query.end }
     requires last { query.end ≤ 4294967295000 }
-    requires stored { (points : List DataPoint) × IsStored points (sight store.old) }
-    ensures { IfOk result (λ printed. (points : List DataPoint) → IsStored points (sight store.old) → outcome_of printed ≡ query_outcome query points) }
+    requires stored { (points : List DataPoint) × IsStored query.ms points (sight store.old) }
+    ensures { IfOk result (λ printed. (points : List DataPoint) → IsStored query.ms points (sight store.old) → outcome_of printed ≡ query_outcome query points) }
 {
     // For the proof: the metric is a name, and a law.
     let _ = query.sub.metric.bytes();
     answer_is_unordered();
+    let ms = query.ms;
     let asked = asked(alloc, query)?;
     match ask(alloc, store, &asked) {
         Ok(mut reply) => {
-            in_seconds(&mut reply.groups);
+            tell_in(&mut reply.groups, ms);
             printed_reply(alloc, &reply)
         }
         Err(fault) => refusal(alloc, fault),
@@ -65,7 +66,12 @@ fn asked(alloc: Global, query: Query) -> Result<Asked, AllocError>
     ensures ms { IfOk result (λ asked. asked.ms ≡ true) }
     ensures subs { IfOk result (λ asked. asked.subs ≡ query.sub ∷ []) }
 {
-    let Query { sub, start, end } = query;
+    let Query {
+        sub,
+        start,
+        end,
+        ..
+    } = query;
     let mut subs = Vec::new(alloc);
     subs.push(sub)?;
     Ok(Asked {
@@ -83,11 +89,10 @@ fn refusal(alloc: Global, fault: AskFault) -> Result<Printed, AllocError>
 {
     match fault {
         AskFault::Unknown { name, .. } => unknown_metric(alloc, &name),
+        AskFault::Duplicate { time, a, b } => clash(alloc, time, a, b),
         AskFault::Overflow { time } => overflow(alloc, time),
         AskFault::OutOfMemory => Err(AllocError),
-        AskFault::TooManyBuckets { .. } | AskFault::Duplicate { .. } | AskFault::Stopped => {
-            unreachable!()
-        }
+        AskFault::TooManyBuckets { .. } | AskFault::Stopped => unreachable!(),
     }
 }
 
@@ -96,6 +101,18 @@ fn unknown_metric(alloc: Global, metric: &Name) -> Result<Printed, AllocError>
 {
     let mut text = Vec::from_slice(alloc, b"query: unknown metric ")?;
     text.extend_from_slice(metric.bytes())?;
+    Printed::refused(text)
+}
+
+fn clash(alloc: Global, time: u64, a: i64, b: i64) -> Result<Printed, AllocError>
+    ensures { IfOk result (λ printed. outcome_of printed ≡ clashed (time, a, b)) }
+{
+    let mut text = Vec::from_slice(alloc, b"query: two values at ")?;
+    push_number(&mut text, time)?;
+    text.extend_from_slice(b": ")?;
+    push_signed(&mut text, a)?;
+    text.extend_from_slice(b" and ")?;
+    push_signed(&mut text, b)?;
     Printed::refused(text)
 }
 

@@ -2,7 +2,7 @@
 ghost use Rattle.std.specs.Prelude.{◌≡◌, IfOk};
 ghost use Rattle.tsd_main.specs.Lines.{judged, without_cr, is_blank};
 ghost use Rattle.tsd_main.specs.Lines.Judged.{Refused};
-ghost use Rattle.tsd_main.specs.Judgements.{judged_of, IsCoarse};
+ghost use Rattle.tsd_main.specs.Judgements.{judged_of, IsInForm};
 
 use std::alloc::{AllocError, Global};
 use tsd_base::points::{Point, PointFault};
@@ -16,17 +16,18 @@ pub const LONGEST_LINE: usize = 8192;
 pub enum Judgement {
     /// Nothing but spaces.
     Blank,
-    /// A point given in seconds.
+    /// A point.
     Taken { point: Point },
     /// Anything else; the text says what is wrong.
     Refused { text: Vec<u8> },
 }
 
-/// Judges a line of these bytes, of which an LF followed or not. It fails only for want of memory.
+/// Judges a line of these bytes, of which an LF followed or not; `ms` tells whether points in milliseconds are taken.
+/// It fails only for want of memory.
 #[tactic(auto, unfolding(crate::specs::Lines::judged))]
-pub fn judge(alloc: Global, bytes: &[u8], ended: bool) -> Result<Judgement, AllocError>
-    ensures judged { IfOk result (λ judgement. judged_of judgement ≡ judged (record { bytes = bytes.now; ended = ended })) }
-    ensures coarse { IfOk result IsCoarse }
+pub fn judge(alloc: Global, bytes: &[u8], ended: bool, ms: bool) -> Result<Judgement, AllocError>
+    ensures judged { IfOk result (λ judgement. judged_of judgement ≡ judged ms (record { bytes = bytes.now; ended = ended })) }
+    ensures form { IfOk result (IsInForm ms) }
 {
     if bytes.len() > LONGEST_LINE {
         return refused(alloc, b"line too long");
@@ -36,7 +37,7 @@ pub fn judge(alloc: Global, bytes: &[u8], ended: bool) -> Result<Judgement, Allo
         return Ok(Judgement::Blank);
     }
     match read_point(alloc, text) {
-        Ok(point) if point.fine => refused(alloc, b"not built"),
+        Ok(point) if point.fine && !ms => refused(alloc, b"not built"),
         Ok(point) => Ok(Judgement::Taken { point }),
         Err(PointFault::OutOfMemory) => Err(AllocError),
         Err(fault) => {

@@ -4,7 +4,7 @@ ghost use Rattle.cell_model.specs.Layout.{names_of};
 ghost use Rattle.cell_solo.specs.Turns.{sight};
 ghost use Rattle.tsd_base.specs.Moments.{IsTime};
 ghost use Rattle.tsd_base.specs.Points.{data_point};
-ghost use Rattle.tsd_main.specs.Putting.{Adds, AreResolved, MayPut, PutsAll, readings_in};
+ghost use Rattle.tsd_main.specs.Putting.{Adds, AreResolved, MayPut, PutsAll, points_in};
 ghost use Rattle.tsd_main.specs.Storing.{IsAlone};
 
 use crate::settling::settled;
@@ -24,40 +24,41 @@ const ALL_KINDS: Config = Config {
     auto_tag_value: true,
 };
 
-/// Puts the points of all series: of each series at each time the last value. It fails only for want of memory.
+/// Puts the points of all series: of each series at each time in each form the last value. It fails only for want of memory.
 pub fn put_all(
     alloc: Global,
     store: &mut Store,
-    series: HashMap<(Name, Tags), Values>,
+    series: HashMap<((Name, Tags), bool), Values>,
 ) -> Result<(), AllocError>
     requires by { IsAlone (sight store.old) }
     requires may { All (MayPut (sight store.old)) series.entries }
     ensures puts { OnOk result (PutsAll (sight store.old) series.entries (sight store.new)) }
 {
     for (name, values) in series {
-        let (metric, tags) = name;
-        put_series(alloc, store, metric, tags, &values)?;
+        let ((metric, tags), fine) = name;
+        put_series(alloc, store, metric, tags, fine, &values)?;
     }
     Ok(())
 }
 
-/// Puts the points of one series.
+/// Puts the points of one series in one form.
 fn put_series(
     alloc: Global,
     store: &mut Store,
     metric: Name,
     tags: Tags,
+    fine: bool,
     values: &Values,
 ) -> Result<(), AllocError>
-    requires may { MayPut (sight store.old) ((metric, tags), values.now) }
-    ensures puts { OnOk result (PutsAll (sight store.old) (((metric, tags), values.now) ∷ []) (sight store.new)) }
+    requires may { MayPut (sight store.old) (((metric, tags), fine), values.now) }
+    ensures puts { OnOk result (PutsAll (sight store.old) ((((metric, tags), fine), values.now) ∷ []) (sight store.new)) }
 {
     let dots = settled(alloc, values)?;
     let mut point = Point {
         metric,
         tags,
         time: 0,
-        fine: false,
+        fine,
         value: 0,
     };
     for &(time, value) in dots.list() {
@@ -84,7 +85,7 @@ fn set(point: &mut Point, time: u64, value: i64)
 /// Puts a point whose names have ids.
 fn put_point(alloc: Global, store: &mut Store, point: &Point) -> Result<(), AllocError>
     requires resolved { AreResolved (sight store.old) (names_of (data_point point.now)) }
-    ensures adds { OnOk result (Adds (sight store.old) (readings_in point.now.metric point.now.tags ((point.now.time, point.now.value) ∷ [])) (sight store.new)) }
+    ensures adds { OnOk result (Adds (sight store.old) (data_point point.now ∷ []) (sight store.new)) }
 {
     match put(alloc, store, &ALL_KINDS, point) {
         Ok(_) => Ok(()),

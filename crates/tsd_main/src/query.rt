@@ -8,12 +8,14 @@ use query_text::queries::{QueryFault, Sub};
 use query_text::subs::{asks_more, read_m};
 use std::alloc::Global;
 
-/// A sub query over a range of times, in milliseconds, both ends included.
+/// A sub query over a range of times, in milliseconds, both ends included. Its answer tells times in milliseconds or in
+/// seconds.
 #[derive(Drop)]
 pub struct Query {
     pub sub: Sub,
     pub start: u64,
     pub end: u64,
+    pub ms: bool,
 }
 
 /// Why there is no query.
@@ -50,11 +52,13 @@ fn query_of(sub: Sub, batch: &Batch<'_>) -> Query
     ensures sub { result.sub ≡ sub }
     ensures start { result.start ≡ batch.now.start * 1000 }
     ensures end { result.end ≡ batch.now.end * 1000 }
+    ensures ms { result.ms ≡ batch.now.ms }
 {
     Query {
         sub,
         start: batch.start * 1000,
         end: batch.end * 1000,
+        ms: batch.ms,
     }
 }
 

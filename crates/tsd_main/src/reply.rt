@@ -3,7 +3,7 @@ ghost use Rattle.std.specs.Prelude.{◌≡◌, map, All, IfOk, Ok};
 ghost use Rattle.json_reply.specs.Replies.{IsReady, plain};
 ghost use Rattle.tsd_main.specs.Outcomes.{replied};
 ghost use Rattle.tsd_main.specs.Printing.{outcome_of};
-ghost use Rattle.tsd_main.specs.Replying.{in_seconds};
+ghost use Rattle.tsd_main.specs.Replying.{told_in};
 
 use crate::printed::Printed;
 use crate::status::Status;
@@ -23,11 +23,11 @@ pub fn printed_reply(alloc: Global, reply: &Reply) -> Result<Printed, AllocError
     })
 }
 
-/// Has the times of all groups written in seconds.
-pub fn in_seconds(groups: &mut Vec<Group>)
-    ensures { groups.new.items ≡ map in_seconds groups.old.items }
+/// Has the times of all groups told in milliseconds or in seconds.
+pub fn tell_in(groups: &mut Vec<Group>, ms: bool)
+    ensures { groups.new.items ≡ map (told_in ms) groups.old.items }
 {
     for group in groups.iter_mut() {
-        group.ms = false;
+        group.ms = ms;
     }
 }

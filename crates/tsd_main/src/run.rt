@@ -22,10 +22,10 @@ use tsd_io::ports::{Failed, Sink, Source};
 
 /// Runs the command that the words ask for, over an input and an output.
 ///
-/// `batch START END M` reads points, one a line, to the end of the input, and prints the answer of the query M over
-/// the seconds from START to END as one JSON array. Words that are no command print the usage line. The first thing
-/// that is wrong is told: the words, then the query, then the first line that is refused, then an unknown metric or
-/// a sum outside `i64`.
+/// `batch START END M [--ms]` reads points, one a line, to the end of the input, and prints the answer of the query M
+/// over the seconds from START to END as one JSON array, with times in seconds, or in milliseconds with `--ms`. Words
+/// that are no command print the usage line. The first thing that is wrong is told: the words, then the query, then the
+/// first line that is refused, then an unknown metric, two values of one series at one time, or a sum outside `i64`.
 pub fn run<S: Source, K: Sink>(
     alloc: Global,
     words: &[String],
@@ -102,7 +102,7 @@ fn run_query<S: Source>(alloc: Global, query: Query, input: &mut S) -> Result<Pr
     ensures failed { result ≡ Err InputFault.Failed → Rose (S.faults input.old) (S.faults input.new) }
 {
     let mut gathered = Gathered::make(alloc)?;
-    match read_points(alloc, input, &mut gathered)? {
+    match read_points(alloc, input, &mut gathered, query.ms)? {
         Some(bad) => Ok(bad_line(alloc, &bad)?),
         None => Ok(answer(alloc, query, gathered)?),
     }

@@ -11,7 +11,7 @@ use std::alloc::{AllocError, Global};
 use uid_table::uids::Uids;
 
 /// How many pairs of a name and its id are kept beside the store.
-const KEPT_PAIRS: u32 = 65_536;
+const KEPT_PAIRS: u32 = 10_000;
 
 /// The names and points of a run, in the memory of one caller, which steps alone.
 pub type Store = Uids<Solo<MapBody>>;

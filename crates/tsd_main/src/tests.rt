@@ -54,7 +54,10 @@ fn other_words_print_the_usage(rt: HostRuntime) -> Result<(), Fail> {
     for words in [
         "batch;1;10",
         "batch;10;1;zimsum:m",
-        "batch;1;10;zimsum:m;--ms",
+        "batch;1;10;zimsum:m;--Ms",
+        "batch;1;10;zimsum:m;--ms;--ms",
+        "batch;1;10;--ms;zimsum:m",
+        "batch;1;4294967296;zimsum:m;--ms",
         "batch;1;4294967296;zimsum:m",
         "batch;-1;10;zimsum:m",
         "batch;;10;zimsum:m",
@@ -223,6 +226,144 @@ fn each_aggregator_makes_one_value_at_each_time(rt: HostRuntime) -> Result<(), F
         ),
     ];
     for (words, output) in cases {
+        expect(&rt, rt.alloc(), words, input, output, Status::Done)?;
+    }
+    Ok(())
+}
+
+#[test]
+fn times_are_told_in_milliseconds(rt: HostRuntime) -> Result<(), Fail> {
+    let input: &[u8] = b"m 100 10 h=a\nm 0000000100.500 7 h=b\nm 0000000101.000 20 h=a\n";
+    let cases: [(&str, &[u8]); 9] = [
+        (
+            "batch;100;101;sum:m;--ms",
+            b"[{\"aggregateTags\":[\"h\"],\"dps\":{\"100000\":10,\"100500\":22,\"101000\":20},\"metric\":\"m\",\"tags\":{}}]\n",
+        ),
+        (
+            "batch;100;101;avg:m;--ms",
+            b"[{\"aggregateTags\":[\"h\"],\"dps\":{\"100000\":10,\"100500\":11,\"101000\":20},\"metric\":\"m\",\"tags\":{}}]\n",
+        ),
+        (
+            "batch;100;101;min:m;--ms",
+            b"[{\"aggregateTags\":[\"h\"],\"dps\":{\"100000\":10,\"100500\":7,\"101000\":20},\"metric\":\"m\",\"tags\":{}}]\n",
+        ),
+        (
+            "batch;100;101;max:m;--ms",
+            b"[{\"aggregateTags\":[\"h\"],\"dps\":{\"100000\":10,\"100500\":15,\"101000\":20},\"metric\":\"m\",\"tags\":{}}]\n",
+        ),
+        (
+            "batch;100;101;zimsum:m;--ms",
+            b"[{\"aggregateTags\":[\"h\"],\"dps\":{\"100000\":10,\"100500\":7,\"101000\":20},\"metric\":\"m\",\"tags\":{}}]\n",
+        ),
+        (
+            "batch;100;101;mimmin:m;--ms",
+            b"[{\"aggregateTags\":[\"h\"],\"dps\":{\"100000\":10,\"100500\":7,\"101000\":20},\"metric\":\"m\",\"tags\":{}}]\n",
+        ),
+        (
+            "batch;100;101;mimmax:m;--ms",
+            b"[{\"aggregateTags\":[\"h\"],\"dps\":{\"100000\":10,\"100500\":7,\"101000\":20},\"metric\":\"m\",\"tags\":{}}]\n",
+        ),
+        (
+            "batch;100;101;count:m;--ms",
+            b"[{\"aggregateTags\":[\"h\"],\"dps\":{\"100000\":1,\"100500\":1,\"101000\":1},\"metric\":\"m\",\"tags\":{}}]\n",
+        ),
+        (
+            "batch;100;100;none:m;--ms",
+            b"[{\"aggregateTags\":[],\"dps\":{\"100000\":10},\"metric\":\"m\",\"tags\":{\"h\":\"a\"}}]\n",
+        ),
+    ];
+    for (words, output) in cases {
+        expect(&rt, rt.alloc(), words, input, output, Status::Done)?;
+    }
+    Ok(())
+}
+
+#[test]
+fn two_values_at_one_time_are_told(rt: HostRuntime) -> Result<(), Fail> {
+    let cases: [(&str, &[u8], &[u8]); 9] = [
+        (
+            "batch;1356998400;1356998400;sum:m;--ms",
+            b"m 1356998400 5 h=a\nm 1356998400000 6 h=a\n",
+            b"query: two values at 1356998400000: 5 and 6\n",
+        ),
+        // The value in seconds comes first, whichever line does, and the last line of each form counts.
+        (
+            "batch;1356998400;1356998400;sum:m;--ms",
+            b"m 1356998400000 -6 h=a\nm 1356998400 4 h=a\nm 1356998400 -5 h=a\n",
+            b"query: two values at 1356998400000: -5 and -6\n",
+        ),
+        // Of two series the one whose names came first, and not the one that is less.
+        (
+            "batch;100;100;sum:m;--ms",
+            b"m 100 1 h=z\nm 100 3 h=a\nm 0000000100.000 4 h=a\nm 0000000100.000 2 h=z\n",
+            b"query: two values at 100000: 1 and 2\n",
+        ),
+        (
+            "batch;100;200;sum:m;--ms",
+            b"m 50 0 k=v h=b\nm 100 1 h=b\nm 0000000100.000 2 h=b\nm 200 3 k=v\nm 0000000200.000 4 k=v\n",
+            b"query: two values at 100000: 1 and 2\n",
+        ),
+        // Of two hours the first, also where its series comes later.
+        (
+            "batch;0;9000;sum:m;--ms",
+            b"m 3600 1 h=a\nm 0000003600.000 2 h=a\nm 3599 3 h=b\nm 0000003599.000 4 h=b\n",
+            b"query: two values at 3599000: 3 and 4\n",
+        ),
+        // Of one row the least time, and of two rows the first, also where its time is later.
+        (
+            "batch;0;9000;sum:m;--ms",
+            b"m 9 1 h=a\nm 0000000009.000 2 h=a\nm 8 3 h=a\nm 0000000008.000 4 h=a\nm 7 5 h=b\nm 0000000007.000 6 h=b\n",
+            b"query: two values at 8000: 3 and 4\n",
+        ),
+        // A clash comes before an overflow.
+        (
+            "batch;0;9;sum:m;--ms",
+            b"m 1 9223372036854775807 h=a\nm 1 9223372036854775807 h=b\nm 2 1 h=a\nm 0000000002.000 2 h=a\n",
+            b"query: two values at 2000: 1 and 2\n",
+        ),
+        (
+            "batch;0;9;sum:n;--ms",
+            b"m 2 1 h=a\nm 0000000002.000 2 h=a\n",
+            b"query: unknown metric n\n",
+        ),
+        (
+            "batch;100;100;sum:m",
+            b"m 100 1 h=a\nm 0000000100.000 2 h=a\n",
+            b"line 2: not built\n",
+        ),
+    ];
+    for (words, input, output) in cases {
+        expect(&rt, rt.alloc(), words, input, output, Status::Refused)?;
+    }
+    Ok(())
+}
+
+#[test]
+fn one_value_in_both_forms_is_one_reading(rt: HostRuntime) -> Result<(), Fail> {
+    let cases: [(&str, &[u8], &[u8]); 4] = [
+        (
+            "batch;100;100;sum:m;--ms",
+            b"m 100 5 h=a\nm 0000000100.000 5 h=a\n",
+            b"[{\"aggregateTags\":[],\"dps\":{\"100000\":5},\"metric\":\"m\",\"tags\":{\"h\":\"a\"}}]\n",
+        ),
+        (
+            "batch;100;100;count:m;--ms",
+            b"m 100 5 h=a\nm 0000000100.000 300 h=a\nm 0000000100.000 5 h=a\n",
+            b"[{\"aggregateTags\":[],\"dps\":{\"100000\":1},\"metric\":\"m\",\"tags\":{\"h\":\"a\"}}]\n",
+        ),
+        // A clash out of the range, or of another metric, is none.
+        (
+            "batch;101;102;sum:m;--ms",
+            b"m 100 5 h=a\nm 0000000100.000 6 h=a\nm 101 9 h=a\nm 103 5 h=a\nm 0000000103.000 6 h=a\n",
+            b"[{\"aggregateTags\":[],\"dps\":{\"101000\":9},\"metric\":\"m\",\"tags\":{\"h\":\"a\"}}]\n",
+        ),
+        (
+            "batch;100;102;sum:m;--ms",
+            b"n 100 5 h=a\nn 0000000100.000 6 h=a\nm 101 9 h=a\n",
+            b"[{\"aggregateTags\":[],\"dps\":{\"101000\":9},\"metric\":\"m\",\"tags\":{\"h\":\"a\"}}]\n",
+        ),
+    ];
+    for (words, input, output) in cases {
         expect(&rt, rt.alloc(), words, input, output, Status::Done)?;
     }
     Ok(())

@@ -1,5 +1,6 @@
 mod ByteOrder
 mod Gathering
+mod Keeping
 mod Lower
 mod Making
 mod NamesThere

@@ -65,7 +65,7 @@ no_name kind id rows.Stopped = refl
 -- a read that was, and what became of the name
 pub name_made : (old new : Seen) (kind : Kind) (id : ℕ) (cells : List Cell) (name : List ℕ) → Stepped old (Read (id_row id)) (Shown cells) new → IsPossible new → value_among cells (kind_qual kind) ≡ Some name
     → (r : Result (List ℕ) RowsFault) → IsNamed name r → MadeSo old (NameMade kind id r) new
-name_made old new kind id cells name step p shows (Ok n) same = (_, step_made old new _ _ step p, (_, refl, record { cells = cells; did = (refl, refl); shows = shows ∙ ap (λ x. Some x) (sym same) }))
+name_made old new kind id cells name step p shows (Ok n) same = (_, step_made old new _ _ step p, inr (_, refl, record { cells = cells; did = (refl, refl); shows = shows ∙ ap (λ x. Some x) (sym same) }))
 name_made old new kind id cells name step p shows (Err rows.OutOfMemory) is = (_, step_made old new _ _ step p, inr (name, (_, refl, record { cells = cells; did = (refl, refl); shows = shows })))
 name_made old new kind id cells name step p shows (Err rows.Stopped) is = absurd is
 

@@ -52,9 +52,13 @@ abbrev pub LookMade : Kind → List ℕ → Result (Option ℕ) RowsFault → Li
 LookMade kind name (Ok id) list = OneLook kind name (option_map id_bytes id) list
 LookMade kind name (Err fault) list = list ≡ []
 
--- a resolve makes one read, and its answer is what that showed
+-- one read, which showed this id, or none, where the pair was kept
+abbrev pub LookedOrKept : Kind → List ℕ → ℕ → List Placed → Type 0
+LookedOrKept kind name id list = (list ≡ []) ⊎ OneLook kind name (Some (id_bytes id)) list
+
+-- A resolve makes at most one read. `Unknown` comes only of a read that found no cell.
 abbrev pub ResolveMade : Kind → List ℕ → Result ℕ ResolveFault → List Placed → Type 0
-ResolveMade kind name (Ok id) list = OneLook kind name (Some (id_bytes id)) list
+ResolveMade kind name (Ok id) list = LookedOrKept kind name id list
 ResolveMade kind name (Err (resolve.Unknown k)) list = (k ≡ kind) × OneLook kind name None list
 ResolveMade kind name (Err resolve.OutOfMemory) list = list ≡ []
 ResolveMade kind name (Err resolve.Stopped) list = list ≡ []
@@ -129,9 +133,9 @@ GiveMade kind name (Err assign.Stopped) list = GaveUp kind name list
 abbrev pub AfterLook : Kind → List ℕ → (List Placed → Type 0) → List Placed → Type 0
 AfterLook kind name P list = (d : Placed) × (rest : List Placed) × (list ≡ d ∷ rest) × DidLook d kind name None × P rest
 
--- An assignment makes one read. Where that found the cell it makes nothing more; else it gives an id.
+-- An assignment makes no entry where the pair was kept, and else one read. Where that found the cell it makes nothing more; else it gives an id.
 abbrev pub AssignMade : Kind → List ℕ → Result Assigned AssignFault → List Placed → Type 0
-AssignMade kind name (Ok (Existing id)) list = OneLook kind name (Some (id_bytes id)) list
+AssignMade kind name (Ok (Existing id)) list = LookedOrKept kind name id list
 AssignMade kind name (Ok (Fresh id)) list = AfterLook kind name (GiveMade kind name (Ok (Fresh id))) list
 AssignMade kind name (Ok (Lost wasted id)) list = AfterLook kind name (GiveMade kind name (Ok (Lost wasted id))) list
 AssignMade kind name (Err (assign.Exhausted k)) list = AfterLook kind name (GiveMade kind name (Err (assign.Exhausted k))) list
@@ -142,9 +146,9 @@ AssignMade kind name (Err assign.Stopped) list = (list ≡ []) ⊎ AfterLook kin
 abbrev pub OneNameRead : Kind → ℕ → List ℕ → List Placed → Type 0
 OneNameRead kind id name list = (d : Placed) × (list ≡ d ∷ []) × DidRead d (id_row id) kind (Some name)
 
--- the naming of an id makes one read, and its answer is what that showed
+-- the naming of an id makes one read, which showed the name, or none, where the pair was kept
 abbrev pub NameMade : Kind → ℕ → Result (List ℕ) RowsFault → List Placed → Type 0
-NameMade kind id (Ok name) list = OneNameRead kind id name list
+NameMade kind id (Ok name) list = (list ≡ []) ⊎ OneNameRead kind id name list
 NameMade kind id (Err rows.OutOfMemory) list = (list ≡ []) ⊎ ((name : List ℕ) × OneNameRead kind id name list)
 NameMade kind id (Err rows.Stopped) list = list ≡ []
 

@@ -3,6 +3,7 @@
 
 pub mod answers;
 mod giving;
+mod kept;
 mod naming;
 mod reading;
 mod suggesting;

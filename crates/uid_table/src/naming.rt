@@ -5,7 +5,7 @@ ghost use Rattle.cell_model.specs.Seen.{IsPossible, RoseIfStopped};
 ghost use Rattle.uid_table.specs.Shown.{KnowsName, HasShownName};
 ghost use Rattle.uid_table.specs.Steps.{MadeSo, NameMade, IsNamed};
 
-use crate::reading::{qualifier, row_of_id, value_at};
+use crate::reading::{qualifier_bytes, row_of_id, value_at};
 use cell_model::answers::RowsFault;
 use cell_model::rows::Rows;
 use std::alloc::Global;
@@ -33,7 +33,7 @@ pub fn name_in<R: Rows>(rows: &mut R, alloc: Global, kind: Kind, id: u32) -> Res
     ensures stopped { IfErr result (RoseIfStopped (R.stops rows.old) (R.stops rows.new)) }
 {
     let cells = rows.read(alloc, &row_of_id(id))?;
-    match value_at(cells.list(), qualifier(kind).list()) {
+    match value_at(cells.list(), qualifier_bytes(kind)) {
         Some(bytes) => name_from(alloc, bytes),
         None => unreachable!(),
     }

@@ -13,19 +13,26 @@ use cell_model::cells::Row;
 use cell_model::rows::Rows;
 use qual_codec::{Bytes, Cell};
 use row_key::Table;
-use std::alloc::{AllocError, Global};
+use std::alloc::Global;
 use tsd_base::kinds::Kind;
-use tsd_base::names::Name;
+
+/// The bytes of the qualifier of a kind's cells in the tables of ids and names.
+pub fn qualifier_bytes(kind: Kind) -> &'static [u8]
+    ensures bytes { result.now ≡ kind_qual kind }
+    ensures short { length result.now ≤ 7 }
+{
+    match kind {
+        Kind::Metric => b"metrics",
+        Kind::TagKey => b"tagk",
+        Kind::TagValue => b"tagv",
+    }
+}
 
 /// The qualifier of a kind's cells in the tables of ids and names. It takes no memory.
 pub fn qualifier(kind: Kind) -> Bytes
     ensures { result ≡ kind_qual kind }
 {
-    match kind {
-        Kind::Metric => Bytes::short(b"metrics"),
-        Kind::TagKey => Bytes::short(b"tagk"),
-        Kind::TagValue => Bytes::short(b"tagv"),
-    }
+    Bytes::short(qualifier_bytes(kind))
 }
 
 /// The three bytes of an id. They take no memory.
@@ -44,17 +51,6 @@ pub fn row_of_id(id: u32) -> Row
         table: Table::Names,
         bytes: bytes_of_id(id),
     }
-}
-
-/// The row of a name in the table of ids.
-pub fn row_of_name(alloc: Global, name: &Name) -> Result<Row, AllocError>
-    ensures row { IfOk result (λ row. row ≡ name_row name.now) }
-    ensures named { IsName name.now }
-{
-    Ok(Row {
-        table: Table::Ids,
-        bytes: Bytes::of(alloc, name.bytes())?,
-    })
 }
 
 /// The value at a qualifier.
@@ -94,7 +90,7 @@ pub fn look<R: Rows>(
     ensures spare { OnOk result (2 ≤ R.spare rows.new) }
 {
     let cells = rows.read(alloc, row)?;
-    match value_at(cells.list(), qualifier(kind).list()) {
+    match value_at(cells.list(), qualifier_bytes(kind)) {
         Some(value) => Ok(Some(id_from(value))),
         None => Ok(None),
     }

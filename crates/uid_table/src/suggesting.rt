@@ -13,7 +13,7 @@ ghost use Rattle.uid_table.specs.Steps.{MadeSo};
 ghost use Rattle.uid_table.specs.Suggesting.{AllLooks, CanSearch, Gathers, GathersTo, GoesOn, HasPrefix, IsNameRange, StartsAt, Suggests, Takes, TurnsTo};
 
 use crate::naming::name_from;
-use crate::reading::{qualifier, value_at};
+use crate::reading::{qualifier_bytes, value_at};
 use cell_model::answers::RowsFault;
 use cell_model::cells::Found;
 use cell_model::rows::Rows;
@@ -78,7 +78,7 @@ fn take(
     if !has_prefix(bytes, prefix) {
         return Ok(None);
     }
-    if value_at(found.cells.list(), qualifier(kind).list()).is_some() {
+    if value_at(found.cells.list(), qualifier_bytes(kind)).is_some() {
         let name = name_from(alloc, bytes)?;
         let Ok(()) = names.push(name) else {
             return Err(RowsFault::OutOfMemory);

@@ -3,13 +3,19 @@ ghost use Rattle.std.specs.Prelude.{◌≡◌, ◌≤◌, IfOk, IfErr, OnOk};
 ghost use Rattle.cell_model.specs.Seen.{IsPossible, RoseIfStopped};
 ghost use Rattle.uid_table.specs.Answers.{answered_id, ResolveRose, AssignRose};
 ghost use Rattle.uid_table.specs.Shown.{HasShown, KnowsName, HasShownName};
+ghost use Rattle.tsd_base.specs.Alphabet.{IsName};
+ghost use Rattle.uid_table.specs.Kept.{KeepsIds, KeepsNames};
 ghost use Rattle.uid_table.specs.Suggesting.{AllLooks, Suggests};
 ghost use Rattle.uid_table.specs.Steps.{MadeSo, ResolveMade, AssignMade, NameMade};
 
 use crate::answers::{AssignFault, Assigned, ResolveFault};
 use crate::giving::look_or_give;
+use crate::kept::{
+    IdKey, Ids, NameKey, Names, keep_id, keep_name, kept_id, kept_name, key_of_row, name_key,
+    nothing_kept, row_of_key,
+};
 use crate::naming::name_in;
-use crate::reading::{look, row_of_name};
+use crate::reading::look;
 use crate::suggesting::suggest_in;
 use cell_model::answers::{Bumped, Claimed, RowsFault, Stopped};
 use cell_model::cells::{Cells, Drops, Found, Row};
@@ -24,46 +30,69 @@ use tsd_base::points::Point;
 
 /// Rows, with calls that give ids to names and find the names of ids.
 ///
+/// Pairs of a name and its id are kept, so that they needn't be read again: those that `resolve` and `assign` found or gave,
+/// by the name, and those that `name_of` found, by the id. Of either, at most the number that [`Uids::over`] was given are
+/// kept, of all kinds together, and for one more the least recently used goes. A pair for which there is no memory isn't
+/// kept. An id stays its name's, so what is kept stays true whatever other callers do.
+///
 /// It is itself [`Rows`], and passes each step on. Contracts see it as the rows.
 #[derive(Drop)]
 pub struct Uids<R: Rows + Drop> {
     rows: R,
+    ids: Ids,
+    names: Names,
 }
 
 impl<R: Rows + Drop> Model for Uids<R> {
+    ghost use Rattle.uid_table.specs.Kept.{KeepsIds, KeepsNames};
+
     ghost Value = { R };
 
     ghost view = { λ u. u.rows };
+
+    ghost invariant = { λ u. KeepsIds (R.seen u.rows) u.ids.entries × KeepsNames (R.seen u.rows) u.names.entries };
 }
 
 impl<R: Rows + Drop> Uids<R> {
-    /// The rows, with room for `cap` pairs of a name and its id, from 1 to 1,000,000.
+    /// The rows, with at most `cap` pairs kept by name, and at most `cap` by id. It is from 1 to 1,000,000.
     ///
-    /// Where there is no memory for the pairs, the rows are handed back as they were. No pairs are kept yet.
-    pub fn over(_alloc: Global, rows: R, _cap: u32) -> Result<Uids<R>, (AllocError, R)>
-        requires least { 1 ≤ _cap }
-        requires most { _cap ≤ 1000000 }
+    /// No pair is kept yet, and memory for a pair is taken when it comes. Where there is none for the two empty caches, the
+    /// rows are handed back as they were.
+    pub fn over(alloc: Global, rows: R, cap: u32) -> Result<Uids<R>, (AllocError, R)>
+        requires least { 1 ≤ cap }
+        requires most { cap ≤ 1000000 }
         ensures ok { IfOk result (λ uids. uids ≡ rows) }
         ensures err { IfErr result (λ refused. refused.1 ≡ rows) }
     {
-        Ok(Uids { rows })
+        match nothing_kept(alloc, cap) {
+            Ok((ids, names)) => Ok(Uids { rows, ids, names }),
+            Err(refused) => Err((refused, rows)),
+        }
     }
 
     /// The rows.
     pub fn part(self) -> R
         ensures { result ≡ self }
     {
-        self.rows
+        let Uids {
+            rows,
+            ids: _,
+            names: _,
+        } = self;
+        rows
     }
 
-    /// Forgets the pairs that are kept: none yet.
+    /// Forgets the pairs that are kept, so that each is read anew. How many may be kept stays as it is.
     pub fn drop_cache(&mut self)
         ensures { self.new ≡ self.old }
-    {}
+    {
+        self.ids.clear();
+        self.names.clear();
+    }
 
-    /// The id of a name, by one read.
+    /// The id of a name, by one read, or by none where the pair is kept.
     ///
-    /// `Unknown` exactly where that read found no cell of this kind for the name.
+    /// `Unknown` exactly where that read found no cell of this kind for the name, which is not kept. What it found is kept.
     pub fn resolve(&mut self, alloc: Global, kind: Kind, name: &Name) -> Result<u32, ResolveFault>
         ensures made { MadeSo (R.seen self.old) (ResolveMade kind name.now result) (R.seen self.new) }
         ensures id { IfOk result (HasShown (R.seen self.new) kind name.now) }
@@ -71,14 +100,18 @@ impl<R: Rows + Drop> Uids<R> {
         ensures grows { R.stops self.old ≤ R.stops self.new }
         ensures stopped { IfErr result (ResolveRose (R.stops self.old) (R.stops self.new)) }
     {
-        resolve_in(&mut self.rows, alloc, kind, name)
+        let Ok(key) = name_key(alloc, kind, name) else {
+            return Err(ResolveFault::OutOfMemory);
+        };
+        resolve_in(&mut self.rows, &mut self.ids, alloc, key)
     }
 
     /// The id of a name, which is given one where it has none.
     ///
-    /// It reads the cell of the name. Where there is none it bumps the counter of the kind, claims the new id for the name,
-    /// and then the name with this id. Where another caller was faster with the last of these, the name has the other's id,
-    /// and the own one is nobody's. What was done before a fault stays done.
+    /// Where the pair is kept it is `Existing`, by no step. Else it reads the cell of the name. Where there is none it bumps
+    /// the counter of the kind, claims the new id for the name, and then the name with this id. Where another caller was
+    /// faster with the last of these, the name has the other's id, and the own one is nobody's. The id that the name has is
+    /// kept. What was done before a fault stays done.
     pub fn assign(
         &mut self,
         alloc: Global,
@@ -91,12 +124,15 @@ impl<R: Rows + Drop> Uids<R> {
         ensures grows { R.stops self.old ≤ R.stops self.new }
         ensures stopped { IfErr result (AssignRose (R.stops self.old) (R.stops self.new)) }
     {
-        assign_in(&mut self.rows, alloc, kind, name)
+        let Ok(key) = name_key(alloc, kind, name) else {
+            return Err(AssignFault::OutOfMemory);
+        };
+        assign_in(&mut self.rows, &mut self.ids, alloc, key)
     }
 
-    /// The name of an id that a name is known to have, by one read.
+    /// The name of an id that a name is known to have, by one read, or by none where the pair is kept.
     ///
-    /// Where there was no memory for the name, that read may have been made.
+    /// What it found is kept. Where there was no memory for the name, that read may have been made.
     pub fn name_of(&mut self, alloc: Global, kind: Kind, id: u32) -> Result<Name, RowsFault>
         requires { KnowsName (R.seen self.old) kind id }
         ensures made { MadeSo (R.seen self.old) (NameMade kind id result) (R.seen self.new) }
@@ -105,7 +141,7 @@ impl<R: Rows + Drop> Uids<R> {
         ensures grows { R.stops self.old ≤ R.stops self.new }
         ensures stopped { IfErr result (RoseIfStopped (R.stops self.old) (R.stops self.new)) }
     {
-        name_in(&mut self.rows, alloc, kind, id)
+        name_of_in(&mut self.rows, &mut self.names, alloc, IdKey { kind, id })
     }
 
     /// The first names of a kind that begin with a prefix, in byte order, at most `max` of them, which is from 1 to 10,000.
@@ -129,44 +165,141 @@ impl<R: Rows + Drop> Uids<R> {
     }
 }
 
+/// The id of the name of a key, by what is kept or by a read.
 fn resolve_in<R: Rows>(
     rows: &mut R,
+    ids: &mut Ids,
     alloc: Global,
-    kind: Kind,
-    name: &Name,
+    key: NameKey,
 ) -> Result<u32, ResolveFault>
-    ensures made { MadeSo (R.seen rows.old) (ResolveMade kind name.now result) (R.seen rows.new) }
-    ensures id { IfOk result (HasShown (R.seen rows.new) kind name.now) }
+    requires named { IsName key.name }
+    requires kept { KeepsIds (R.seen rows.old) ids.old.entries }
+    ensures made { MadeSo (R.seen rows.old) (ResolveMade key.kind key.name result) (R.seen rows.new) }
+    ensures id { IfOk result (HasShown (R.seen rows.new) key.kind key.name) }
     ensures possible { OnOk result (IsPossible (R.seen rows.new)) }
     ensures grows { R.stops rows.old ≤ R.stops rows.new }
     ensures stopped { IfErr result (ResolveRose (R.stops rows.old) (R.stops rows.new)) }
+    ensures kept { KeepsIds (R.seen rows.new) ids.new.entries }
 {
-    let Ok(row) = row_of_name(alloc, name) else {
-        return Err(ResolveFault::OutOfMemory);
-    };
+    match kept_id(ids, &key) {
+        Some(id) => Ok(id),
+        None => resolve_anew(rows, ids, alloc, key),
+    }
+}
+
+/// The id of the name of a key, by a read. It is kept.
+fn resolve_anew<R: Rows>(
+    rows: &mut R,
+    ids: &mut Ids,
+    alloc: Global,
+    key: NameKey,
+) -> Result<u32, ResolveFault>
+    requires named { IsName key.name }
+    requires kept { KeepsIds (R.seen rows.old) ids.old.entries }
+    ensures made { MadeSo (R.seen rows.old) (ResolveMade key.kind key.name result) (R.seen rows.new) }
+    ensures id { IfOk result (HasShown (R.seen rows.new) key.kind key.name) }
+    ensures possible { OnOk result (IsPossible (R.seen rows.new)) }
+    ensures grows { R.stops rows.old ≤ R.stops rows.new }
+    ensures stopped { IfErr result (ResolveRose (R.stops rows.old) (R.stops rows.new)) }
+    ensures kept { KeepsIds (R.seen rows.new) ids.new.entries }
+{
+    let (kind, row) = row_of_key(key);
     let shown = look(rows, alloc, kind, &row)?;
     match shown {
-        Some(id) => Ok(id),
+        Some(id) => {
+            keep_id(ids, key_of_row(kind, row), id);
+            Ok(id)
+        }
         None => Err(ResolveFault::Unknown { kind }),
     }
 }
 
+/// The id of the name of a key, by what is kept, by a read, or by a giving.
 fn assign_in<R: Rows>(
     rows: &mut R,
+    ids: &mut Ids,
     alloc: Global,
-    kind: Kind,
-    name: &Name,
+    key: NameKey,
 ) -> Result<Assigned, AssignFault>
-    ensures made { MadeSo (R.seen rows.old) (AssignMade kind name.now result) (R.seen rows.new) }
-    ensures id { IfOk result (λ a. HasShown (R.seen rows.new) kind name.now (answered_id a)) }
+    requires named { IsName key.name }
+    requires kept { KeepsIds (R.seen rows.old) ids.old.entries }
+    ensures made { MadeSo (R.seen rows.old) (AssignMade key.kind key.name result) (R.seen rows.new) }
+    ensures id { IfOk result (λ a. HasShown (R.seen rows.new) key.kind key.name (answered_id a)) }
     ensures possible { OnOk result (IsPossible (R.seen rows.new)) }
     ensures grows { R.stops rows.old ≤ R.stops rows.new }
     ensures stopped { IfErr result (AssignRose (R.stops rows.old) (R.stops rows.new)) }
+    ensures kept { KeepsIds (R.seen rows.new) ids.new.entries }
 {
-    let Ok(row) = row_of_name(alloc, name) else {
-        return Err(AssignFault::OutOfMemory);
-    };
-    look_or_give(rows, alloc, kind, &row)
+    match kept_id(ids, &key) {
+        Some(id) => Ok(Assigned::Existing { id }),
+        None => assign_anew(rows, ids, alloc, key),
+    }
+}
+
+/// The id of the name of a key, by a read or by a giving. It is kept.
+fn assign_anew<R: Rows>(
+    rows: &mut R,
+    ids: &mut Ids,
+    alloc: Global,
+    key: NameKey,
+) -> Result<Assigned, AssignFault>
+    requires named { IsName key.name }
+    requires kept { KeepsIds (R.seen rows.old) ids.old.entries }
+    ensures made { MadeSo (R.seen rows.old) (AssignMade key.kind key.name result) (R.seen rows.new) }
+    ensures id { IfOk result (λ a. HasShown (R.seen rows.new) key.kind key.name (answered_id a)) }
+    ensures possible { OnOk result (IsPossible (R.seen rows.new)) }
+    ensures grows { R.stops rows.old ≤ R.stops rows.new }
+    ensures stopped { IfErr result (AssignRose (R.stops rows.old) (R.stops rows.new)) }
+    ensures kept { KeepsIds (R.seen rows.new) ids.new.entries }
+{
+    let (kind, row) = row_of_key(key);
+    let assigned = look_or_give(rows, alloc, kind, &row)?;
+    keep_id(ids, key_of_row(kind, row), assigned.id());
+    Ok(assigned)
+}
+
+/// The name of the id of a key, by what is kept or by a read.
+fn name_of_in<R: Rows>(
+    rows: &mut R,
+    names: &mut Names,
+    alloc: Global,
+    key: IdKey,
+) -> Result<Name, RowsFault>
+    requires known { KnowsName (R.seen rows.old) key.kind key.id }
+    requires kept { KeepsNames (R.seen rows.old) names.old.entries }
+    ensures made { MadeSo (R.seen rows.old) (NameMade key.kind key.id result) (R.seen rows.new) }
+    ensures name { IfOk result (HasShownName (R.seen rows.new) key.kind key.id) }
+    ensures possible { OnOk result (IsPossible (R.seen rows.new)) }
+    ensures grows { R.stops rows.old ≤ R.stops rows.new }
+    ensures stopped { IfErr result (RoseIfStopped (R.stops rows.old) (R.stops rows.new)) }
+    ensures kept { KeepsNames (R.seen rows.new) names.new.entries }
+{
+    match kept_name(names, alloc, key) {
+        Ok(Some(name)) => Ok(name),
+        Ok(None) => name_anew(rows, names, alloc, key),
+        Err(AllocError) => Err(RowsFault::OutOfMemory),
+    }
+}
+
+/// The name of the id of a key, by a read. It is kept.
+fn name_anew<R: Rows>(
+    rows: &mut R,
+    names: &mut Names,
+    alloc: Global,
+    key: IdKey,
+) -> Result<Name, RowsFault>
+    requires known { KnowsName (R.seen rows.old) key.kind key.id }
+    requires kept { KeepsNames (R.seen rows.old) names.old.entries }
+    ensures made { MadeSo (R.seen rows.old) (NameMade key.kind key.id result) (R.seen rows.new) }
+    ensures name { IfOk result (HasShownName (R.seen rows.new) key.kind key.id) }
+    ensures possible { OnOk result (IsPossible (R.seen rows.new)) }
+    ensures grows { R.stops rows.old ≤ R.stops rows.new }
+    ensures stopped { IfErr result (RoseIfStopped (R.stops rows.old) (R.stops rows.new)) }
+    ensures kept { KeepsNames (R.seen rows.new) names.new.entries }
+{
+    let name = name_in(rows, alloc, key.kind, key.id)?;
+    keep_name(names, alloc, key, &name);
+    Ok(name)
 }
 
 impl<R: Rows + Drop> Rows for Uids<R> {

@@ -16,7 +16,7 @@ printed_reply-requires c =
     let points = c.requires.stored.0 in
     let stored = c.requires.stored.1 in
     let told = told_ok q points (sight c.args.store.now) (sight c.ask.new.names) c.bytes.ensures.named stored c.answer_is_unordered.ensures c.in-Ok.reply says in
-    subst (All IsReady) (sym c.in_seconds.ensures) (told_ready q points (sight c.args.store.now) (sight c.ask.new.names) c.bytes.ensures.named stored c.in-Ok.reply told c.in-Ok.ensures.ready)
+    subst (All IsReady) (sym c.tell_in.ensures) (told_ready q points (sight c.args.store.now) (sight c.ask.new.names) c.bytes.ensures.named stored c.in-Ok.reply told c.in-Ok.ensures.ready)
 
 pub returns-in-Ok : goal.returns-in-Ok
 returns-in-Ok c =
@@ -26,7 +26,7 @@ returns-in-Ok c =
     IfOk-weaker c.printed_reply.result _ _
     (λ printed is points stored.
     let told = told_ok q points (sight c.args.store.now) (sight c.ask.new.names) c.bytes.ensures.named stored c.answer_is_unordered.ensures c.in-Ok.reply says in
-    is ∙ ap (λ gs. replied (Ok (map plain gs))) c.in_seconds.ensures ∙ told_outcome q points (sight c.args.store.now) (sight c.ask.new.names) c.bytes.ensures.named stored c.in-Ok.reply told)
+    is ∙ ap (λ gs. replied (Ok (map plain gs))) c.tell_in.ensures ∙ told_outcome q points (sight c.args.store.now) (sight c.ask.new.names) c.bytes.ensures.named stored c.in-Ok.reply told)
     c.printed_reply.ensures
 
 pub refusal-requires : goal.refusal-requires

@@ -8,7 +8,7 @@ use Rattle.tsd_main.proofs.naming.note.Goals as goal
 
 pub returns-in-Ok : goal.returns-in-Ok
 returns-in-Ok c =
-    assign_notes (sight c.args.store.now) (sight c.assign.new.self) c.args.kind c.args.name.now c.bytes.ensures.named c.in-Ok.field-0 c.in-Ok.ensures.made c.in-Ok.ensures.id.is_id
+    assign_notes (sight c.args.store.now) (sight c.assign.new.self) c.args.kind c.args.name.now c.bytes.ensures.named c.in-Ok.field-0 c.in-Ok.ensures.made c.in-Ok.ensures.id
 
 pub returns-in-Err-Exhausted : goal.returns-in-Err-Exhausted
 returns-in-Err-Exhausted c =

@@ -15,6 +15,7 @@ returns-in-Ok c =
       plain = subst IsPlain (sym q.sub) (record { down = ok.down; filters = ok.filters });
       start = q.start;
       end = q.end;
+      ms = q.ms;
     }
 
 pub returns-in-Err : goal.returns-in-Err

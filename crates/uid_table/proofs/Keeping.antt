@@ -1,0 +1,111 @@
+-- What is kept was kept before or put, and stays shown.
+use Rattle.std.proofs.Common.{◌≡◌, inl, inr, ℕ, Bool, true, false, List, [], Contains, rules, IfSome, Option, Some, None, refl, sym, ap, subst, ◌∙◌}
+use Rattle.std.specs.Borrow.{Bor}
+use Rattle.std.specs.Prelude.{◌&&◌, option_copied, Result, Ok, Err, IfOk, OnOk, OnErr}
+use Rattle.std.specs.Map.{lookup}
+use Rattle.lru.specs.LruCache.{LruCache, lru_cache, promoted, put_entries}
+use Rattle.lru.proofs.CallerLemmas.{Contains-lookup, Contains-promoted, Contains-put_entries}
+use Rattle.short_bytes.specs.Alike.{same_list}
+use Rattle.tsd_base.specs.declared.kinds.Kind.{Kind}
+use Rattle.tsd_base.specs.contracts.kinds.KindPartialEq.TheImpl as kinds
+use Rattle.uid_table.specs.declared.kept.NameKey.{NameKey}
+use Rattle.uid_table.specs.declared.kept.IdKey.{IdKey}
+use Rattle.uid_table.specs.contracts.kept.NameKeyPartialEq.TheImpl as names
+use Rattle.uid_table.specs.contracts.kept.IdKeyPartialEq.TheImpl as ids
+use Rattle.cell_model.specs.declared.events.Step.{Step}
+use Rattle.cell_model.specs.declared.events.Reply.{Reply}
+use Rattle.cell_model.specs.declared.events.Placed.{Placed}
+use Rattle.cell_model.specs.Seen.{Seen, Waited, Stepped, IsPossible}
+use Rattle.cell_model.specs.Deeds.{Extends}
+use Rattle.uid_table.specs.Shown.{HasShown, HasShownName}
+use Rattle.uid_table.specs.Steps.{MadeSo}
+use Rattle.uid_table.specs.Kept.{AreAmong, IsShownId, KeepsIds, KeepsNames}
+use Rattle.uid_table.proofs.Lower.{wait_made, step_extends, extends_joined}
+use Rattle.uid_table.proofs.Shows.{shown_kept}
+
+same_kind : (k j : Kind) → (kinds.eq-value).it k j ≡ true → k ≡ j
+same_kind k j e = search rules
+
+both : (a b : Bool) → (a && b) ≡ true → (a ≡ true) × (b ≡ true)
+both true b e = (refl, e)
+both false b e = cc
+
+pub same_name_key : (k j : NameKey) → (names.eq-value).it k j ≡ true → k ≡ j
+same_name_key k j e =
+    let p = both _ _ e in
+    let kind = same_kind k.kind j.kind p.0 in
+    let name = same_list k.name j.name p.1 in
+    λ i. record { kind = kind i; name = name i }
+
+pub same_id_key : (k j : IdKey) → (ids.eq-value).it k j ≡ true → k ≡ j
+same_id_key k j e = search rules
+
+module _ {K V : Type 0} (eq : K → K → Bool) (exact : (k j : K) → eq k j ≡ true → k ≡ j) where
+  -- a value that was found is kept by the key
+  pub found_kept : (es : List (K × V)) (k : K) (o : Option V) → o ≡ lookup (eq k) es → IfSome o (λ v. Contains es (k, v))
+  found_kept es k None e = tt
+  found_kept es k (Some v) e = let in_it = Contains-lookup (eq k) es v (sym e) in subst (λ j. Contains es (j, v)) (sym (exact k in_it.0 in_it.2)) in_it.1
+
+  -- and so is a copy of it
+  pub copy_kept : (es : List (K × V)) (k : K) (r : Option (Bor V)) (x : Bor V) (v : V) → option_copied r ≡ lookup (eq k) es → r ≡ Some x → v ≡ x.now → Contains es (k, v)
+  copy_kept es k r x v found is same = subst (λ w. Contains es (k, w)) (sym same) (found_kept es k (Some x.now) (ap option_copied (sym is) ∙ found))
+
+  each_put : (P : K × V → Type 0) (c : LruCache K V) (k : K) (v : V) → ((e : K × V) → Contains c.entries e → P e) → P (k, v) → (e : K × V) → Contains (put_entries eq c k v) e → P e
+  each_put P c k v all one e is = elim (Contains-put_entries eq c k v e is) [
+    | inl was ↦ all e was
+    | inr (value, inl key) ↦ subst P (λ i. (sym key i, sym value i)) one
+    | inr (value, inr (w, was, same)) ↦ subst P (λ i. (exact k e.0 same i, sym value i)) one
+  ]
+
+  -- what holds of each pair and of the one that is put holds of each afterwards, whether there was memory or not
+  pub after_put : {T E : Type 0} (P : K × V → Type 0) (old new : LruCache K V) (k : K) (v : V) (r : Result T E) → OnOk r (new ≡ lru_cache (put_entries eq old k v) old.cap) → OnErr r (new ≡ old)
+      → ((e : K × V) → Contains old.entries e → P e) → P (k, v) → (e : K × V) → Contains new.entries e → P e
+  after_put P old new k v (Ok x) done kept all one e is = each_put P old k v all one e (subst (λ (c : LruCache K V). Contains c.entries e) done is)
+  after_put P old new k v (Err x) done kept all one e is = all e (subst (λ (c : LruCache K V). Contains c.entries e) kept is)
+
+  -- a look leaves the pairs
+  pub after_get : (old new : LruCache K V) (k : K) → new ≡ lru_cache (promoted (eq k) old.entries) old.cap → AreAmong new.entries old.entries
+  after_get old new k same e is = Contains-promoted (eq k) old.entries e (subst (λ (c : LruCache K V). Contains c.entries e) same is)
+
+-- nothing seen was lost, and it is possible where it was
+abbrev pub IsLater : Seen → Seen → Type 0
+IsLater old new = Extends old new × (IsPossible old → IsPossible new)
+
+pub name_shown_kept : (s t : Seen) (kind : Kind) (id : ℕ) (name : List ℕ) → Extends s t → HasShownName s kind id name → HasShownName t kind id name
+name_shown_kept s t kind id name e h = record {
+  is_name = h.is_name;
+  known = let k = h.known in (k.0, k.1, e.kept k.0 k.1 k.2, k.3);
+  stands = λ later more. h.stands later (extends_joined s t later e more);
+}
+
+-- then what is kept stays shown
+pub ids_kept : (s t : Seen) (ids : List (NameKey × ℕ)) → IsLater s t → KeepsIds s ids → KeepsIds t ids
+ids_kept s t ids on all pair is = let shown = all pair is in (shown_kept s t pair.0.kind pair.0.name pair.1 on.0 shown.0, on.1 shown.1)
+
+pub names_kept : (s t : Seen) (names : List (IdKey × List ℕ)) → IsLater s t → KeepsNames s names → KeepsNames t names
+names_kept s t names on all pair is = let shown = all pair is in (name_shown_kept s t pair.0.kind pair.0.id pair.1 on.0 shown.0, on.1 shown.1)
+
+-- so it is after a call, whatever it made
+pub made_on : (old new : Seen) (P : List Placed → Type 0) → MadeSo old P new → IsLater old new
+made_on old new P m = (m.1.since.extends, m.1.since.lives)
+
+-- and after a step, whether it was made or not
+pub step_on : {T E : Type 0} (old new : Seen) (step : Step) (reply : T → Reply) (r : Result T E) → IfOk r (λ x. Stepped old step (reply x) new) → OnErr r (Waited old new)
+    → OnOk r (IsPossible new) → OnErr r (IsPossible old → IsPossible new) → IsLater old new
+step_on old new step reply (Ok x) done waited possible lives = (step_extends old new step (reply x) done, λ _. possible)
+step_on old new step reply (Err e) done waited possible lives = made_on old new (λ list. list ≡ []) ([], wait_made old new waited lives, refl)
+
+pub kept_on : (s t : Seen) (ids : List (NameKey × ℕ)) (names : List (IdKey × List ℕ)) → KeepsIds s ids × KeepsNames s names → IsLater s t → KeepsIds t ids × KeepsNames t names
+kept_on s t ids names all on = (ids_kept s t ids on all.0, names_kept s t names on all.1)
+
+-- a look leaves what is kept shown
+pub look_kept : {K V : Type 0} (P : K × V → Type 0) (old new : List (K × V)) → AreAmong new old → ((e : K × V) → Contains old e → P e) → (e : K × V) → Contains new e → P e
+look_kept P old new among all e is = all e (among e is)
+
+-- what was shown, under the names of its key
+pub shown_as : (s : Seen) (key : NameKey) (kind : Kind) (name : List ℕ) (id id' : ℕ) → key.kind ≡ kind → key.name ≡ name → id' ≡ id → HasShown s kind name id → IsPossible s → IsShownId s (key, id')
+shown_as s key kind name id id' k n i shown possible = (subst (λ (x : Kind × List ℕ × ℕ). HasShown s x.0 x.1 x.2) (λ j. (sym k j, sym n j, sym i j)) shown, possible)
+
+-- what holds of the id that a look showed
+pub one_found : (P : ℕ → Type 0) (o : Option ℕ) (id : ℕ) → o ≡ Some id → IfSome o P → P id
+one_found P o id is shows = subst (λ x. IfSome x P) is shows
