@@ -2,3 +2,4 @@ mod Lower
 pub mod Passing
 pub mod Known
 pub mod Allowing
+pub mod Puts

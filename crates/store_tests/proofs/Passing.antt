@@ -1,6 +1,7 @@
 -- What a step of caller 2 is to caller 1, and what either still knows behind it.
 use Rattle.std.proofs.Common.{◌≡◌, ◌⊎◌, inl, inr, ℕ, ◌+◌, ◌≤◌, Bool, false, List, refl, sym, ap, subst, ◌∙◌, arith}
 use Rattle.std.proofs.lemmas.Bool.{false≢true}
+use Rattle.std.proofs.lemmas.Bool.Decides.{nat_tests}
 use Rattle.std.specs.Prelude.{Contains, nat_eq, Result, Ok, Err, IsOk, IfOk}
 use Rattle.tsd_base.specs.Alphabet.{IsName}
 use Rattle.tsd_base.specs.declared.kinds.Kind.TheVariants.{Metric}
@@ -108,14 +109,24 @@ other_waits h e alone some other = record {
     older place x own (inl same) = absurd (not_own x (ap (λ (p : Placed). p.entry) same) own)
     older place x own (inr has) = (within h (record { place = place; entry = x }) has, has)
 
--- a step of caller 2
-pub passes_step : (old new : Play) (step : Step) (reply : Reply) → old.callers ≡ 2 → old.caller ≡ 2 → Steps old step reply new → Passes old new
-passes_step old new step reply two turn s = record {
+several : (n : ℕ) → 2 ≤ n → nat_eq n 1 ≡ false
+several n le = grind (arith, nat_tests, le)
+
+-- a step of caller 2 beside others
+pub passes_of : (old new : Play) (step : Step) (reply : Reply) → 2 ≤ old.callers → old.caller ≡ 2 → Steps old step reply new → Passes old new
+passes_of old new step reply some turn s = record {
   callers = s.callers;
   caller = s.caller;
   waits = subst (λ (x : History × ℕ). Waited (sight_of 1 old) (whole_seen x.0 1 (nat_eq x.1 1))) (λ i. (sym s.history i, sym s.callers i))
-      (other_waits (history_of old) (record { caller = old.caller; step = step; reply = reply }) (nat_eq old.callers 1) (ap (λ n. nat_eq n 1) two) (λ one. omega (arith, one, turn)));
+      (other_waits (history_of old) (record { caller = old.caller; step = step; reply = reply }) (nat_eq old.callers 1) (several old.callers some) (λ one. omega (arith, one, turn)));
 }
+
+-- and where there are two
+pub passes_step : (old new : Play) (step : Step) (reply : Reply) → old.callers ≡ 2 → old.caller ≡ 2 → Steps old step reply new → Passes old new
+passes_step old new step reply two turn s = passes_of old new step reply (omega (arith, two)) turn s
+
+pub passes_join : (a b c : Play) → Passes a b → Passes b c → Passes a c
+passes_join a b c x y = record { callers = y.callers ∙ x.callers; caller = y.caller ∙ x.caller; waits = waits_join (sight_of 1 a) (sight_of 1 b) (sight_of 1 c) x.waits y.waits }
 
 -- and one that wasn't made
 pub passes_same : (p : Play) → Passes p p
@@ -199,6 +210,16 @@ race_stay old new name stage stops left race stays = subst (λ (p : Play). IsRac
   most = omega arith;
   knows = race.knows;
 })
+
+-- a step of caller 2 behind others of its
+pub passes_then : (a b c : Play) (step : Step) (reply : Reply) → 2 ≤ a.callers → a.caller ≡ 2 → Passes a b → Steps b step reply c → Passes a c
+passes_then a b c step reply some turn p s = passes_join a b c p (passes_of b c step reply (let same = p.callers in omega (arith, some, same)) (p.caller ∙ turn) s)
+
+pub passes_stayed : (a b c : Play) → Passes a b → Stays b c → Passes a c
+passes_stayed a b c p stays = passes_join a b c p (passes_stay b c stays)
+
+pub passes_on : (a b c : Play) → 2 ≤ a.callers → a.caller ≡ 2 → Passes a b → (2 ≤ b.callers → b.caller ≡ 2 → Passes b c) → Passes a c
+passes_on a b c some turn p q = passes_join a b c p (q (let same = p.callers in omega (arith, some, same)) (p.caller ∙ turn))
 
 pub stay_waits : (old new : Play) → Stays old new → Waited (sight old) (sight new)
 stay_waits old new stays = subst (λ (p : Play). Waited (sight old) (sight p)) (sym stays) (waits_none (sight old))

@@ -2,11 +2,16 @@
 #![tactic(auto)]
 
 #[cfg(test)]
+mod asking_tests;
+#[cfg(test)]
 mod exhausted_tests;
+#[cfg(test)]
+mod filling;
 pub mod merging;
 #[cfg(test)]
 mod names;
 pub mod other;
+pub mod putting;
 #[cfg(test)]
 mod putting_tests;
 pub mod raced;
@@ -17,3 +22,4 @@ mod scanning_tests;
 pub mod stores;
 #[cfg(test)]
 mod suggesting_tests;
+pub mod visited;

@@ -5,6 +5,7 @@ ghost use Rattle.qual_codec.specs.declared.cells.Dot.{Dot};
 ghost use Rattle.qual_codec.specs.Dots.{IsDots};
 ghost use Rattle.qual_codec.specs.Order.{IsBelow};
 ghost use Rattle.cell_model.specs.Store.{value_among};
+ghost use Rattle.store_tests.specs.Others.{Passes};
 ghost use Rattle.store_tests.specs.Merges.{AllWithin, StandsIn, AllBelow};
 
 use cell_model::{Drops, Row, Rows};
@@ -45,7 +46,7 @@ fn all_within(low: &[Dot], high: &[Dot]) -> bool
 }
 
 /// The value at a qualifier.
-fn value_at<'a>(cells: &'a [Cell], qual: &[u8]) -> Option<&'a [u8]>
+pub(crate) fn value_at<'a>(cells: &'a [Cell], qual: &[u8]) -> Option<&'a [u8]>
     ensures { MatchOption result (value_among cells.now qual.now ≡ None) (λ value. value_among cells.now qual.now ≡ Some value.now) }
 {
     for cell in cells {
@@ -102,7 +103,8 @@ pub fn merge(
     value: &[u8],
 ) -> Result<bool, AllocError>
     requires { row.now.table ≡ Points }
-    ensures { solo.new.callers ≡ solo.old.callers }
+    ensures callers { solo.new.callers ≡ solo.old.callers }
+    ensures passes { 2 ≤ solo.old.callers → solo.old.caller ≡ 2 → Passes solo.old solo.new }
 {
     let qual = Bytes::of(alloc, qual)?;
     let value = Bytes::of(alloc, value)?;
@@ -159,7 +161,8 @@ pub fn drop_below(
     qual: &[u8],
 ) -> Result<u64, AllocError>
     requires { row.table ≡ Points }
-    ensures { solo.new.callers ≡ solo.old.callers }
+    ensures callers { solo.new.callers ≡ solo.old.callers }
+    ensures passes { 2 ≤ solo.old.callers → solo.old.caller ≡ 2 → Passes solo.old solo.new }
 {
     let Ok(cells) = solo.read(alloc, &row) else {
         return Err(AllocError);

@@ -1,19 +1,18 @@
 //! Scans over the rows of a metric, while another caller puts, merges and drops.
 ghost use Rattle.std.specs.Prelude.{◌≤◌, IfOk};
 
+use crate::filling::{filled, put_line};
 use crate::merging::{drop_below, merge};
-use crate::stores::{empty, named};
+use crate::visited::Deed;
 use cell_model::{Found, Row};
 use cell_solo::Solo;
 use map_body::MapBody;
-use point_put::{Config, put};
 use qual_codec::Bytes;
 use row_key::Table;
 use row_scan::Scan;
 use std::alloc::Global;
 use std::process::Abort;
 use std::test::Fail;
-use tsd_base::reading::read_point;
 
 /// Rows of `m h=a` in the first hour, in that from 1356998400, in the next two, and in the last one.
 const FIRST: &[u8] = b"\x00\x00\x01\x00\x00\x00\x00\x00\x00\x01\x00\x00\x01";
@@ -38,21 +37,6 @@ const POINTS: [&[u8]; 6] = [
     b"m 4294965600 9 h=a",
     b"n 1357002000 3 h=a",
 ];
-
-/// What caller 2 does.
-#[derive(Clone, Copy, Debug)]
-enum Deed {
-    /// It puts the point of this line.
-    Put {
-        line: &'static [u8],
-    },
-    /// It writes this cell of a row in place of those that it merges.
-    Merge {
-        row: &'static [u8],
-        qual: &'static [u8],
-        value: &'static [u8],
-    },
-}
 
 /// What caller 2 does before a turn of the scan, turns counted from 1. A merge leaves one cell of two.
 const DEEDS: [(u32, Deed); 9] = [
@@ -129,24 +113,6 @@ const FOUND: [Wanted; 6] = [
     (6, LAST, b"\x00\x00\x69\xf0", 1),
 ];
 
-/// Puts the point of a line.
-fn put_line(alloc: Global, mut solo: Solo<MapBody>, line: &[u8]) -> Result<Solo<MapBody>, Fail>
-    requires { 2 ≤ solo.callers }
-    ensures { IfOk result (λ solo. 2 ≤ solo.callers) }
-{
-    let config = Config {
-        auto_metric: true,
-        ..Config::usual()
-    };
-    let point = read_point(alloc, line)?;
-    solo.turn(2);
-    let mut uids = named(alloc, solo)?;
-    let stored = put(alloc, &mut uids, &config, &point);
-    let solo = uids.part();
-    stored?;
-    Ok(solo)
-}
-
 /// Writes a merged cell, and drops those that it merges.
 fn compact(
     rt: &impl Abort,
@@ -209,17 +175,6 @@ fn turn(
     Ok((solo, found))
 }
 
-/// A store with the points.
-fn filled(alloc: Global) -> Result<Solo<MapBody>, Fail>
-    ensures { IfOk result (λ solo. 2 ≤ solo.callers) }
-{
-    let mut solo = empty(alloc, 2)?;
-    for line in &POINTS {
-        solo = put_line(alloc, solo, line)?;
-    }
-    Ok(solo)
-}
-
 fn assert_found(rt: &impl Abort, found: &Found, wanted: &Wanted) {
     let (_, row, qual, count) = *wanted;
     let cells = found.cells.list();
@@ -233,7 +188,7 @@ fn assert_found(rt: &impl Abort, found: &Found, wanted: &Wanted) {
 #[test]
 fn each_row_of_the_start_is_found_once_and_in_order(rt: HostRuntime) -> Result<(), Fail> {
     let alloc = rt.alloc();
-    let mut solo = filled(alloc)?;
+    let mut solo = filled(alloc, &POINTS)?;
     let mut scan = Scan::start(1, 0, 4294965600);
     for wanted in &FOUND {
         let (next, found) = turn(&rt, alloc, solo, &mut scan, wanted.0)?;
@@ -293,7 +248,7 @@ fn letters(alloc: Global, solo: &mut Solo<MapBody>, scan: &mut Scan) -> Result<V
 #[test]
 fn the_hours_of_a_range_are_found_with_both_ends(rt: HostRuntime) -> Result<(), Fail> {
     let alloc = rt.alloc();
-    let mut solo = filled(alloc)?;
+    let mut solo = filled(alloc, &POINTS)?;
     for (metric, first, last, wanted) in RANGES {
         let mut scan = Scan::start(metric, first, last);
         let letters = letters(alloc, &mut solo, &mut scan)?;

@@ -1,5 +1,5 @@
 use Rattle.std.proofs.Common.{◌≤◌}
-use Rattle.store_tests.proofs.scanning_tests.filled.Given as goal
+use Rattle.store_tests.proofs.filling.filled.Given as goal
 
 abbrev pub invariant-loop-line : goal.invariant-loop-line
 invariant-loop-line l = 2 ≤ l.solo.callers
