@@ -1,5 +1,5 @@
-//! The job of `tsd batch START END zimsum:METRIC`, in plain Rust with `std` alone: what the speed of `tsd` is
-//! measured against. It accepts and refuses the same lines, and prints the same bytes.
+//! The job of `tsd batch START END M` where M is `zimsum:METRIC` or `sum:METRIC`, in plain Rust with `std` alone: what the
+//! speed of `tsd` is measured against. It accepts and refuses the same lines, and prints the same bytes.
 
 use std::collections::{BTreeMap, HashMap};
 use std::io::{self, BufRead, BufReader, Write};
@@ -33,9 +33,18 @@ fn refused(text: impl Into<String>) -> Stop {
     }
 }
 
+/// What a series has at a time where it has no point: with `Sum` what stands on the line between its points, if it has
+/// some before and after.
+#[derive(Clone, Copy, PartialEq)]
+enum Aggregator {
+    Sum,
+    Zimsum,
+}
+
 struct Words {
     start: u64,
     end: u64,
+    aggregator: Aggregator,
     metric: Vec<u8>,
 }
 
@@ -84,17 +93,23 @@ fn read_words(args: &[String]) -> Result<Words, Stop> {
     if command != "batch" || end < start {
         return Err(usage());
     }
-    match m.strip_prefix("zimsum:") {
-        Some(metric) if !metric.contains([':', '{']) => match name_fault(metric.as_bytes()) {
-            None => Ok(Words {
-                start,
-                end,
-                metric: metric.into(),
-            }),
-            Some(_) => Err(refused("query: bad query at byte 7")),
-        },
-        _ => Err(refused("query: not built")),
+    let (aggregator, metric) = match m.split_once(':') {
+        Some(("sum", metric)) => (Aggregator::Sum, metric),
+        Some(("zimsum", metric)) => (Aggregator::Zimsum, metric),
+        _ => return Err(refused("query: not built")),
+    };
+    if metric.contains([':', '{']) {
+        return Err(refused("query: not built"));
     }
+    if name_fault(metric.as_bytes()).is_some() {
+        return Err(refused(format!("query: bad query at byte {}", m.len() - metric.len())));
+    }
+    Ok(Words {
+        start,
+        end,
+        aggregator,
+        metric: metric.into(),
+    })
 }
 
 fn read_lines(mut input: impl BufRead) -> Result<Store, Stop> {
@@ -297,6 +312,7 @@ fn answer(store: &Store, words: &Words) -> Result<String, Stop> {
     let mut is_known = false;
     let mut shared = Shared::default();
     let mut sums: BTreeMap<u64, i128> = BTreeMap::new();
+    let mut all_chosen = Vec::new();
     for (key, points) in store {
         let mut parts = key.split(|b| *b == b' ');
         if parts.next() != Some(&words.metric) {
@@ -304,14 +320,19 @@ fn answer(store: &Store, words: &Words) -> Result<String, Stop> {
         }
         is_known = true;
         let from = points.partition_point(|point| point.0 < words.start);
-        let chosen = points[from..].iter().take_while(|point| point.0 <= words.end);
-        let mut is_empty = true;
+        let to = points.partition_point(|point| point.0 <= words.end);
+        let chosen = &points[from..to];
         for (time, value) in chosen {
-            is_empty = false;
             *sums.entry(*time).or_default() += i128::from(*value);
         }
-        if !is_empty {
+        if !chosen.is_empty() {
+            all_chosen.push(chosen);
             shared.add(parts);
+        }
+    }
+    if words.aggregator == Aggregator::Sum {
+        for chosen in all_chosen {
+            add_between(chosen, &mut sums);
         }
     }
     if !is_known {
@@ -327,6 +348,20 @@ fn answer(store: &Store, words: &Words) -> Result<String, Stop> {
         return Ok("[]".into());
     }
     Ok(json(metric, &shared, &sums))
+}
+
+/// Adds what stands on the lines between points that follow each other. The sums have each time of the points.
+fn add_between(points: &[(u64, i64)], sums: &mut BTreeMap<u64, i128>) {
+    for pair in points.windows(2) {
+        let ((time, value), (next_time, next_value)) = (pair[0], pair[1]);
+        if time + 1 == next_time {
+            continue;
+        }
+        for (at, sum) in sums.range_mut(time + 1..next_time) {
+            let rise = i128::from(next_value) - i128::from(value);
+            *sum += i128::from(value) + i128::from(at - time) * rise / i128::from(next_time - time);
+        }
+    }
 }
 
 /// The keys that all series have, with their value where it is the same in all.

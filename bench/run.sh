@@ -19,8 +19,9 @@ trap 'rm -rf "$folder"' EXIT
 
 rustc --edition 2024 -O -o "$folder/plain" "$here/plain.rs"
 
-# Series, points of each, tags, order of the lines.
-sets=("1000 100 2 time" "1000 1000 2 time" "100000 10 2 time" "1000 1000 8 time" "1000 1000 2 random")
+# Series, points of each, tags, order of the lines, aggregator.
+sets=("1000 100 2 time zimsum" "1000 1000 2 time zimsum" "1000 1000 2 time sum" "100000 10 2 time zimsum" "100000 10 2 time sum"
+    "1000 1000 8 time zimsum" "1000 1000 2 random zimsum")
 
 # The peak memory of a command, in KiB, goes into the file $folder/peak. What Python measures is never below its own.
 with_peak() {
@@ -41,7 +42,7 @@ measure() {
     local run begin end
     for ((run = 0; run < runs; run++)); do
         begin=${EPOCHREALTIME/[.,]/}
-        with_peak "$1" batch 1356998400 "$2" zimsum:sys.cpu.user <"$folder/lines" >"$3"
+        with_peak "$1" batch 1356998400 "$2" "$aggregator:sys.cpu.user" <"$folder/lines" >"$3"
         end=${EPOCHREALTIME/[.,]/}
         if [ -z "$micros" ] || [ $((end - begin)) -lt "$micros" ]; then
             micros=$((end - begin))
@@ -52,10 +53,10 @@ measure() {
     done
 }
 
-echo '| series | points each | tags | order | lines | tsd, lines/s | plain, lines/s | time, tsd / plain | tsd, peak MB | plain, peak MB | memory, tsd / plain |'
-echo '|---|---|---|---|---|---|---|---|---|---|---|'
+echo '| series | points each | tags | order | aggregator | lines | tsd, lines/s | plain, lines/s | time, tsd / plain | tsd, peak MB | plain, peak MB | memory, tsd / plain |'
+echo '|---|---|---|---|---|---|---|---|---|---|---|---|'
 for set in "${sets[@]}"; do
-    read -r series points tags order <<<"$set"
+    read -r series points tags order aggregator <<<"$set"
     shuffle=()
     if [ "$order" = random ]; then
         shuffle=(--shuffle)
@@ -70,10 +71,10 @@ for set in "${sets[@]}"; do
         echo "$0: the outputs differ at $series series of $points points with $tags tags" >&2
         exit 1
     fi
-    awk -v series="$series" -v points="$points" -v tags="$tags" -v order="$order" -v ours="$micros" -v theirs="$plain_micros" \
+    awk -v series="$series" -v points="$points" -v tags="$tags" -v order="$order" -v aggregator="$aggregator" -v ours="$micros" -v theirs="$plain_micros" \
         -v our_peak="$peak" -v their_peak="$plain_peak" 'BEGIN {
         lines = series * points
-        printf "| %d | %d | %d | %s | %d | %.0f | %.0f | %.2f | %.1f | %.1f | %.2f |\n", series, points, tags, order, lines,
+        printf "| %d | %d | %d | %s | %s | %d | %.0f | %.0f | %.2f | %.1f | %.1f | %.2f |\n", series, points, tags, order, aggregator, lines,
             lines * 1e6 / ours, lines * 1e6 / theirs, ours / theirs,
             our_peak / 1024, their_peak / 1024, our_peak / their_peak
     }'
