@@ -1,24 +1,34 @@
 -- What was packed last is unpacked last.
-use Rattle.std.proofs.Common.{◌≡◌, ℕ, zero, suc, ◌+◌, ◌≤◌, ◌<◌, cond, List, [], ◌∷◌, ◌++◌, length, take, drop, refl, sym, ap, subst, ◌∙◌, arith}
+use Rattle.std.proofs.Common.{◌≡◌, ℕ, zero, suc, ◌+◌, ◌*◌, ◌/◌, ◌%◌, ◌^◌, ◌≤◌, ◌<◌, cond, List, [], ◌∷◌, ◌++◌, length, take, drop, refl, sym, ap, subst, ◌∙◌, arith}
 use Rattle.std.specs.Prelude.{sum_by, count_by, nat_eq, ℤ, All, Some, slice_get}
+use mir.Val.{bits}
+use Rattle.std.specs.Int.{to_be_bytes, from_be_bytes, cast_unsigned, cast_signed}
+use Rattle.std.proofs.lemmas.Nat.{from_be_bytes-to_be_bytes_2, from_be_bytes-to_be_bytes_4, from_be_bytes-to_be_bytes_8}
+use Rattle.std.proofs.Math.Facts.{Fits-of_z}
+use Rattle.std.proofs.lemmas.Int.{to_z-of_z}
 use Rattle.std.proofs.Math.Seq.{take-append_seam, drop-append_seam, take-length}
 use Rattle.std.proofs.lemmas.List.{append-nil, take-append-le, drop-append-le, length-append, length-drop}
 use Rattle.std.proofs.lemmas.List.Elements.{All-push}
 use Rattle.std.proofs.lemmas.Option.{slice_get_within}
 use Rattle.std.proofs.lemmas.List.Sums.{sum_by-cons, sum_by_push}
 use Rattle.tsd_base.specs.Points.{DataPoint}
+use Rattle.qual_codec.specs.Items.{IsLength, item_bytes}
+use Rattle.qual_codec.specs.Items.IsLength.{one, two, four, eight}
+use Rattle.qual_codec.specs.Dots.{width_of}
+use Rattle.qual_codec.specs.Spelling.{IsShortest, dot_of}
+use Rattle.tsd_base.specs.declared.kinds.Kind.{Kind}
 use Rattle.cell_model.specs.declared.cells.Row.{Row}
+use Rattle.cell_model.specs.Layout.{IsLayout}
 use Rattle.row_key.specs.declared.tables.Table.{Table}
 use Rattle.cell_model.specs.declared.events.Step.{Step}
 use Rattle.cell_model.specs.declared.events.Step.TheVariants.{NextRow, PutPoint}
 use Rattle.cell_solo.specs.declared.turns.Head.{Head}
-use Rattle.cell_solo.specs.declared.turns.Shape.{Shape}
-use Rattle.cell_solo.specs.declared.turns.Shape.TheVariants as shape
+use Rattle.cell_solo.specs.declared.turns.Head.TheVariants as head
 use Rattle.cell_solo.specs.declared.turns.Dropped.{Dropped}
 use Rattle.cell_solo.specs.Turns.{Turn}
 use Rattle.cell_solo.specs.declared.block.CellLengths.{CellLengths}
 use Rattle.cell_solo.specs.Places.{NamedRow, named_row_of, GoesOn}
-use Rattle.cell_solo.specs.Packed.{row_in, qual_in, value_in, put_at, cell_size, step_in, size_of, numbers_of, drops_of, places_of, unpacked, Fills}
+use Rattle.cell_solo.specs.Packed.{row_in, qual_in, value_in, number_in, put_at, cell_size, caller_of, step_in, size_of, drops_of, places_of, unpacked, Fills}
 use Rattle.cell_solo.proofs.Placing.{slice_get-append_left}
 
 none : {A : Type 0} (xs : List A) → 0 ≡ length xs → xs ≡ []
@@ -26,119 +36,113 @@ none [] e = refl
 none (x ∷ xs) e = absurd (omega (arith, e))
 
 -- the head's turn, of these parts
-abbrev pub turn_in : List NamedRow → Head → List ℕ → List (ℕ × ℤ) → List Dropped → Turn
-turn_in places h bytes numbers drops = record { caller = h.caller; step = step_in h.shape bytes numbers drops places }
+abbrev pub turn_in : List NamedRow → Head → List ℕ → List Dropped → Turn
+turn_in places h bytes drops = record { caller = caller_of h; step = step_in h bytes drops places }
 
 -- the parts are as many as the head says
-pub record HasParts (shape : Shape) (bytes : List ℕ) (numbers : List (ℕ × ℤ)) (drops : List Dropped) : Type 0 where
-  pub bytes_are : size_of shape ≡ length bytes
-  pub numbers_are : numbers_of shape ≡ length numbers
-  pub drops_are : drops_of shape ≡ length drops
+pub record HasParts (h : Head) (bytes : List ℕ) (drops : List Dropped) : Type 0 where
+  pub bytes_are : size_of h ≡ length bytes
+  pub drops_are : drops_of h ≡ length drops
 
 whole : {A : Type 0} (n : ℕ) (xs : List A) → n ≡ length xs → take n xs ≡ xs
 whole n xs e = ap (λ (m : ℕ). take m xs) e ∙ take-length xs
 
-pub unpacked-push : (heads : List Head) (bytes : List ℕ) (numbers : List (ℕ × ℤ)) (drops : List Dropped) (places ps : List NamedRow) (h : Head) (b : List ℕ) (n : List (ℕ × ℤ)) (d : List Dropped)
-    → Fills heads bytes numbers drops places → HasParts h.shape b n d → unpacked (heads ++ h ∷ []) (bytes ++ b) (numbers ++ n) (drops ++ d) ps ≡ unpacked heads bytes numbers drops ps ++ turn_in ps h b n d ∷ []
-unpacked-push [] bytes numbers drops places ps h b n d fills parts =
+pub unpacked-push : (heads : List Head) (bytes : List ℕ) (drops : List Dropped) (places ps : List NamedRow) (h : Head) (b : List ℕ) (d : List Dropped)
+    → Fills heads bytes drops places → HasParts h b d → unpacked (heads ++ h ∷ []) (bytes ++ b) (drops ++ d) ps ≡ unpacked heads bytes drops ps ++ turn_in ps h b d ∷ []
+unpacked-push [] bytes drops places ps h b d fills parts =
     let no_bytes : bytes ≡ [] = none bytes fills.bytes_fit in
-    let no_numbers : numbers ≡ [] = none numbers fills.numbers_fit in
     let no_drops : drops ≡ [] = none drops fills.drops_fit in
-    let own : turn_in ps h (take (size_of h.shape) (bytes ++ b)) (take (numbers_of h.shape) (numbers ++ n)) (take (drops_of h.shape) (drops ++ d)) ≡ turn_in ps h b n d =
-    (λ i. turn_in ps h (take (size_of h.shape) (no_bytes i ++ b)) (take (numbers_of h.shape) (no_numbers i ++ n)) (take (drops_of h.shape) (no_drops i ++ d)))
-    ∙ (λ i. turn_in ps h (whole _ b parts.bytes_are i) (whole _ n parts.numbers_are i) (whole _ d parts.drops_are i)) in
+    let own : turn_in ps h (take (size_of h) (bytes ++ b)) (take (drops_of h) (drops ++ d)) ≡ turn_in ps h b d =
+    (λ i. turn_in ps h (take (size_of h) (no_bytes i ++ b)) (take (drops_of h) (no_drops i ++ d)))
+    ∙ (λ i. turn_in ps h (whole _ b parts.bytes_are i) (whole _ d parts.drops_are i)) in
     ap (λ (t : Turn). t ∷ []) own
-unpacked-push (x ∷ heads) bytes numbers drops places ps h b n d fills parts =
-    let bytes_sum : size_of x.shape + sum_by (λ (x : Head). size_of x.shape) heads ≡ length bytes = sym (sum_by-cons (λ (x : Head). size_of x.shape) x heads) ∙ fills.bytes_fit in
-    let bytes_in : size_of x.shape ≤ length bytes = omega arith in
-    let numbers_sum : numbers_of x.shape + sum_by (λ (x : Head). numbers_of x.shape) heads ≡ length numbers = sym (sum_by-cons (λ (x : Head). numbers_of x.shape) x heads) ∙ fills.numbers_fit in
-    let numbers_in : numbers_of x.shape ≤ length numbers = omega arith in
-    let drops_sum : drops_of x.shape + sum_by (λ (x : Head). drops_of x.shape) heads ≡ length drops = sym (sum_by-cons (λ (x : Head). drops_of x.shape) x heads) ∙ fills.drops_fit in
-    let drops_in : drops_of x.shape ≤ length drops = omega arith in
-    let rest : Fills heads (drop (size_of x.shape) bytes) (drop (numbers_of x.shape) numbers) (drop (drops_of x.shape) drops) places =
+unpacked-push (x ∷ heads) bytes drops places ps h b d fills parts =
+    let bytes_sum : size_of x + sum_by size_of heads ≡ length bytes = sym (sum_by-cons size_of x heads) ∙ fills.bytes_fit in
+    let bytes_in : size_of x ≤ length bytes = omega arith in
+    let drops_sum : drops_of x + sum_by drops_of heads ≡ length drops = sym (sum_by-cons drops_of x heads) ∙ fills.drops_fit in
+    let drops_in : drops_of x ≤ length drops = omega arith in
+    let rest : Fills heads (drop (size_of x) bytes) (drop (drops_of x) drops) places =
     record {
-      bytes_fit = omega (arith, length-drop (size_of x.shape) bytes);
-      numbers_fit = omega (arith, length-drop (numbers_of x.shape) numbers);
-      drops_fit = omega (arith, length-drop (drops_of x.shape) drops);
+      bytes_fit = omega (arith, length-drop (size_of x) bytes);
+      drops_fit = omega (arith, length-drop (drops_of x) drops);
       places_there = λ k d lt. fills.places_there (suc k) d (omega (arith, lt));
     } in
-    (λ i. turn_in ps x (take-append-le (size_of x.shape) bytes b bytes_in i) (take-append-le (numbers_of x.shape) numbers n numbers_in i) (take-append-le (drops_of x.shape) drops d drops_in i)
-    ∷ unpacked (heads ++ h ∷ []) (drop-append-le (size_of x.shape) bytes b bytes_in i) (drop-append-le (numbers_of x.shape) numbers n numbers_in i) (drop-append-le (drops_of x.shape) drops d drops_in i) ps)
-    ∙ ap (λ (ts : List Turn). turn_in ps x (take (size_of x.shape) bytes) (take (numbers_of x.shape) numbers) (take (drops_of x.shape) drops) ∷ ts)
-    (unpacked-push heads (drop (size_of x.shape) bytes) (drop (numbers_of x.shape) numbers) (drop (drops_of x.shape) drops) places ps h b n d rest parts)
+    (λ i. turn_in ps x (take-append-le (size_of x) bytes b bytes_in i) (take-append-le (drops_of x) drops d drops_in i)
+    ∷ unpacked (heads ++ h ∷ []) (drop-append-le (size_of x) bytes b bytes_in i) (drop-append-le (drops_of x) drops d drops_in i) ps)
+    ∙ ap (λ (ts : List Turn). turn_in ps x (take (size_of x) bytes) (take (drops_of x) drops) ∷ ts)
+    (unpacked-push heads (drop (size_of x) bytes) (drop (drops_of x) drops) places ps h b d rest parts)
 
 -- steps keep their places where more places are put behind
-step-kept : (shape : Shape) (bytes : List ℕ) (numbers : List (ℕ × ℤ)) (drops : List Dropped) (places more : List NamedRow) → places_of shape ≤ length places
-    → step_in shape bytes numbers drops (places ++ more) ≡ step_in shape bytes numbers drops places
-step-kept shape.Open bytes numbers drops places more le = refl
-step-kept (shape.Read table row) bytes numbers drops places more le = refl
-step-kept (shape.NextRow table from to) bytes numbers drops places more le = refl
-step-kept (shape.Bump kind) bytes numbers drops places more le = refl
-step-kept (shape.Claim table cell) bytes numbers drops places more le = refl
-step-kept (shape.PutPoint fine place qual value) bytes numbers drops places more le = ap (put_at fine qual value bytes numbers) (slice_get-append_left places more place (omega (arith, le)))
-step-kept (shape.PutMerged table cell) bytes numbers drops places more le = refl
-step-kept shape.DropCells bytes numbers [] places more le = refl
-step-kept shape.DropCells bytes numbers (d ∷ drops) places more le = refl
+step-kept : (h : Head) (bytes : List ℕ) (drops : List Dropped) (places more : List NamedRow) → places_of h ≤ length places
+    → step_in h bytes drops (places ++ more) ≡ step_in h bytes drops places
+step-kept (head.Open caller) bytes drops places more le = refl
+step-kept (head.Read caller table row) bytes drops places more le = refl
+step-kept (head.NextRow caller table from to) bytes drops places more le = refl
+step-kept (head.Bump caller kind) bytes drops places more le = refl
+step-kept (head.Claim caller table cell) bytes drops places more le = refl
+step-kept (head.PutPoint caller fine value place offset) bytes drops places more le = ap (put_at fine offset bytes) (slice_get-append_left places more place (omega (arith, le)))
+step-kept (head.PutMerged caller table cell) bytes drops places more le = refl
+step-kept (head.DropCells caller) bytes [] places more le = refl
+step-kept (head.DropCells caller) bytes (d ∷ drops) places more le = refl
 
-unpacked-kept : (heads : List Head) (bytes : List ℕ) (numbers : List (ℕ × ℤ)) (drops : List Dropped) (places more : List NamedRow) → All (λ (h : Head). places_of h.shape ≤ length places) heads
-    → unpacked heads bytes numbers drops (places ++ more) ≡ unpacked heads bytes numbers drops places
-unpacked-kept [] bytes numbers drops places more there = refl
-unpacked-kept (h ∷ heads) bytes numbers drops places more there =
-    let first : places_of h.shape ≤ length places = there zero h (omega arith) in
-    let rest : All (λ (h : Head). places_of h.shape ≤ length places) heads = λ k d lt. there (suc k) d (omega (arith, lt)) in
-    let step = step-kept h.shape (take (size_of h.shape) bytes) (take (numbers_of h.shape) numbers) (take (drops_of h.shape) drops) places more first in
-    let others = unpacked-kept heads (drop (size_of h.shape) bytes) (drop (numbers_of h.shape) numbers) (drop (drops_of h.shape) drops) places more rest in
-    λ i. record { caller = h.caller; step = step i } ∷ others i
+unpacked-kept : (heads : List Head) (bytes : List ℕ) (drops : List Dropped) (places more : List NamedRow) → All (λ (h : Head). places_of h ≤ length places) heads
+    → unpacked heads bytes drops (places ++ more) ≡ unpacked heads bytes drops places
+unpacked-kept [] bytes drops places more there = refl
+unpacked-kept (h ∷ heads) bytes drops places more there =
+    let first : places_of h ≤ length places = there zero h (omega arith) in
+    let rest : All (λ (h : Head). places_of h ≤ length places) heads = λ k d lt. there (suc k) d (omega (arith, lt)) in
+    let step = step-kept h (take (size_of h) bytes) (take (drops_of h) drops) places more first in
+    let others = unpacked-kept heads (drop (size_of h) bytes) (drop (drops_of h) drops) places more rest in
+    λ i. record { caller = caller_of h; step = step i } ∷ others i
 
 -- what a head, its parts and its place make of packed turns
-pub record Pushed (heads : List Head) (bytes : List ℕ) (numbers : List (ℕ × ℤ)) (drops : List Dropped) (places : List NamedRow) (was : List Turn) (turn : Turn) : Type 0 where
-  pub fills : Fills heads bytes numbers drops places
-  pub list : unpacked heads bytes numbers drops places ≡ was ++ turn ∷ []
+pub record Pushed (heads : List Head) (bytes : List ℕ) (drops : List Dropped) (places : List NamedRow) (was : List Turn) (turn : Turn) : Type 0 where
+  pub fills : Fills heads bytes drops places
+  pub list : unpacked heads bytes drops places ≡ was ++ turn ∷ []
 
-pub pushed : (heads : List Head) (bytes : List ℕ) (numbers : List (ℕ × ℤ)) (drops : List Dropped) (places : List NamedRow) (h : Head) (b : List ℕ) (n : List (ℕ × ℤ)) (d : List Dropped) (more : List NamedRow) (step : Step)
-    (heads' : List Head) (bytes' : List ℕ) (numbers' : List (ℕ × ℤ)) (drops' : List Dropped) (places' : List NamedRow)
-    → Fills heads bytes numbers drops places → HasParts h.shape b n d → places_of h.shape ≤ length places' → step_in h.shape b n d places' ≡ step
-    → heads' ≡ heads ++ h ∷ [] → bytes' ≡ bytes ++ b → numbers' ≡ numbers ++ n → drops' ≡ drops ++ d → places' ≡ places ++ more
-    → Pushed heads' bytes' numbers' drops' places' (unpacked heads bytes numbers drops places) (record { caller = h.caller; step = step })
-pushed heads bytes numbers drops places h b n d more step heads' bytes' numbers' drops' places' fills parts there is eh eb en ed ep =
+pub pushed : (heads : List Head) (bytes : List ℕ) (drops : List Dropped) (places : List NamedRow) (h : Head) (b : List ℕ) (d : List Dropped) (more : List NamedRow) (step : Step)
+    (heads' : List Head) (bytes' : List ℕ) (drops' : List Dropped) (places' : List NamedRow)
+    → Fills heads bytes drops places → HasParts h b d → places_of h ≤ length places' → step_in h b d places' ≡ step
+    → heads' ≡ heads ++ h ∷ [] → bytes' ≡ bytes ++ b → drops' ≡ drops ++ d → places' ≡ places ++ more
+    → Pushed heads' bytes' drops' places' (unpacked heads bytes drops places) (record { caller = caller_of h; step = step })
+pushed heads bytes drops places h b d more step heads' bytes' drops' places' fills parts there is eh eb ed ep =
     let longer : length places ≤ length places' = omega (arith, ap length ep, length-append places more) in
-    let all : All (λ (x : Head). places_of x.shape ≤ length places') heads = λ k x lt. (let le = fills.places_there k x lt in omega (arith, le, longer)) in
+    let all : All (λ (x : Head). places_of x ≤ length places') heads = λ k x lt. (let le = fills.places_there k x lt in omega (arith, le, longer)) in
     record {
       fills = record {
-        bytes_fit = ap (sum_by (λ (x : Head). size_of x.shape)) eh ∙ sum_by_push (λ (x : Head). size_of x.shape) heads h ∙ (let f = fills.bytes_fit in let p = parts.bytes_are in omega (arith, f, p, length-append bytes b)) ∙ ap length (sym eb);
-        numbers_fit = ap (sum_by (λ (x : Head). numbers_of x.shape)) eh ∙ sum_by_push (λ (x : Head). numbers_of x.shape) heads h ∙ (let f = fills.numbers_fit in let p = parts.numbers_are in omega (arith, f, p, length-append numbers n)) ∙ ap length (sym en);
-        drops_fit = ap (sum_by (λ (x : Head). drops_of x.shape)) eh ∙ sum_by_push (λ (x : Head). drops_of x.shape) heads h ∙ (let f = fills.drops_fit in let p = parts.drops_are in omega (arith, f, p, length-append drops d)) ∙ ap length (sym ed);
-        places_there = subst (All (λ (x : Head). places_of x.shape ≤ length places')) (sym eh) (All-push (λ (x : Head). places_of x.shape ≤ length places') heads h all there);
+        bytes_fit = ap (sum_by size_of) eh ∙ sum_by_push size_of heads h ∙ (let f = fills.bytes_fit in let p = parts.bytes_are in omega (arith, f, p, length-append bytes b)) ∙ ap length (sym eb);
+        drops_fit = ap (sum_by drops_of) eh ∙ sum_by_push drops_of heads h ∙ (let f = fills.drops_fit in let p = parts.drops_are in omega (arith, f, p, length-append drops d)) ∙ ap length (sym ed);
+        places_there = subst (All (λ (x : Head). places_of x ≤ length places')) (sym eh) (All-push (λ (x : Head). places_of x ≤ length places') heads h all there);
       };
-      list = (λ i. unpacked (eh i) (eb i) (en i) (ed i) places') ∙ unpacked-push heads bytes numbers drops places places' h b n d fills parts
-          ∙ ap (λ (ts : List Turn). ts ++ turn_in places' h b n d ∷ []) (ap (unpacked heads bytes numbers drops) ep ∙ unpacked-kept heads bytes numbers drops places more fills.places_there)
-          ∙ ap (λ (s : Step). unpacked heads bytes numbers drops places ++ record { caller = h.caller; step = s } ∷ []) is;
+      list = (λ i. unpacked (eh i) (eb i) (ed i) places') ∙ unpacked-push heads bytes drops places places' h b d fills parts
+          ∙ ap (λ (ts : List Turn). ts ++ turn_in places' h b d ∷ []) (ap (unpacked heads bytes drops) ep ∙ unpacked-kept heads bytes drops places more fills.places_there)
+          ∙ ap (λ (s : Step). unpacked heads bytes drops places ++ record { caller = caller_of h; step = s } ∷ []) is;
     }
 
 -- the same of a step that has no place
-pub pushed_alone : (heads : List Head) (bytes : List ℕ) (numbers : List (ℕ × ℤ)) (drops : List Dropped) (places : List NamedRow) (h : Head) (b : List ℕ) (n : List (ℕ × ℤ)) (d : List Dropped) (step : Step)
-    (heads' : List Head) (bytes' : List ℕ) (numbers' : List (ℕ × ℤ)) (drops' : List Dropped)
-    → Fills heads bytes numbers drops places → HasParts h.shape b n d → places_of h.shape ≡ 0 → step_in h.shape b n d places ≡ step
-    → heads' ≡ heads ++ h ∷ [] → bytes' ≡ bytes ++ b → numbers' ≡ numbers ++ n → drops' ≡ drops ++ d
-    → Pushed heads' bytes' numbers' drops' places (unpacked heads bytes numbers drops places) (record { caller = h.caller; step = step })
-pushed_alone heads bytes numbers drops places h b n d step heads' bytes' numbers' drops' fills parts placeless is eh eb en ed =
-    pushed heads bytes numbers drops places h b n d [] step heads' bytes' numbers' drops' places fills parts (omega (arith, placeless)) is eh eb en ed (sym (append-nil places))
+pub pushed_alone : (heads : List Head) (bytes : List ℕ) (drops : List Dropped) (places : List NamedRow) (h : Head) (b : List ℕ) (d : List Dropped) (step : Step)
+    (heads' : List Head) (bytes' : List ℕ) (drops' : List Dropped)
+    → Fills heads bytes drops places → HasParts h b d → places_of h ≡ 0 → step_in h b d places ≡ step
+    → heads' ≡ heads ++ h ∷ [] → bytes' ≡ bytes ++ b → drops' ≡ drops ++ d
+    → Pushed heads' bytes' drops' places (unpacked heads bytes drops places) (record { caller = caller_of h; step = step })
+pushed_alone heads bytes drops places h b d step heads' bytes' drops' fills parts placeless is eh eb ed =
+    pushed heads bytes drops places h b d [] step heads' bytes' drops' places fills parts (omega (arith, placeless)) is eh eb ed (sym (append-nil places))
 
 -- nothing is put behind
 pub same : {A : Type 0} (xs ys : List A) → ys ≡ xs → ys ≡ xs ++ []
 same xs ys e = e ∙ sym (append-nil xs)
 
-pub length-unpacked : (heads : List Head) (bytes : List ℕ) (numbers : List (ℕ × ℤ)) (drops : List Dropped) (places : List NamedRow) → length (unpacked heads bytes numbers drops places) ≡ length heads
-length-unpacked [] bytes numbers drops places = refl
-length-unpacked (h ∷ heads) bytes numbers drops places = ap suc (length-unpacked heads _ _ _ places)
+pub length-unpacked : (heads : List Head) (bytes : List ℕ) (drops : List Dropped) (places : List NamedRow) → length (unpacked heads bytes drops places) ≡ length heads
+length-unpacked [] bytes drops places = refl
+length-unpacked (h ∷ heads) bytes drops places = ap suc (length-unpacked heads _ _ places)
 
-pub count-unpacked : (caller : ℕ) (heads : List Head) (bytes : List ℕ) (numbers : List (ℕ × ℤ)) (drops : List Dropped) (ps : List NamedRow)
-    → count_by (λ (t : Turn). nat_eq t.caller caller) (unpacked heads bytes numbers drops ps) ≡ count_by (λ (h : Head). nat_eq h.caller caller) heads
-count-unpacked caller [] bytes numbers drops ps = refl
-count-unpacked caller (h ∷ heads) bytes numbers drops ps =
-    sum_by-cons (λ (t : Turn). cond (nat_eq t.caller caller) 1 0) (turn_in ps h (take (size_of h.shape) bytes) (take (numbers_of h.shape) numbers) (take (drops_of h.shape) drops)) (unpacked heads (drop (size_of h.shape) bytes) (drop (numbers_of h.shape) numbers) (drop (drops_of h.shape) drops) ps)
-    ∙ ap (λ (n : ℕ). cond (nat_eq h.caller caller) 1 0 + n) (count-unpacked caller heads (drop (size_of h.shape) bytes) (drop (numbers_of h.shape) numbers) (drop (drops_of h.shape) drops) ps)
-    ∙ sym (sum_by-cons (λ (x : Head). cond (nat_eq x.caller caller) 1 0) h heads)
+pub count-unpacked : (caller : ℕ) (heads : List Head) (bytes : List ℕ) (drops : List Dropped) (ps : List NamedRow)
+    → count_by (λ (t : Turn). nat_eq t.caller caller) (unpacked heads bytes drops ps) ≡ count_by (λ (h : Head). nat_eq (caller_of h) caller) heads
+count-unpacked caller [] bytes drops ps = refl
+count-unpacked caller (h ∷ heads) bytes drops ps =
+    sum_by-cons (λ (t : Turn). cond (nat_eq t.caller caller) 1 0) (turn_in ps h (take (size_of h) bytes) (take (drops_of h) drops)) (unpacked heads (drop (size_of h) bytes) (drop (drops_of h) drops) ps)
+    ∙ ap (λ (n : ℕ). cond (nat_eq (caller_of h) caller) 1 0 + n) (count-unpacked caller heads (drop (size_of h) bytes) (drop (drops_of h) drops) ps)
+    ∙ sym (sum_by-cons (λ (x : Head). cond (nat_eq (caller_of x) caller) 1 0) h heads)
 
 -- the parts of a cell are read back
 abbrev pub lengths_of : List ℕ → List ℕ → List ℕ → CellLengths
@@ -172,22 +176,57 @@ range_back table from to from' to' e f =
     (λ i. NextRow table (take (length (e i)) (from ++ to)) (take (length (f i)) (drop (length (e i)) (from ++ to))))
     ∙ (λ i. NextRow table (take-append_seam from to i) ((ap (take (length to)) (drop-append_seam from to) ∙ take-length to) i))
 
--- a put is read back of its place, of its qualifier and value, and of its time and number
-pub put_back : (point : DataPoint) (row : Row) (qual value qual' value' : List ℕ) (place : ℕ) (places : List NamedRow) → qual' ≡ qual → value' ≡ value → slice_get places place ≡ Some (named_row_of point row)
-    → step_in (shape.PutPoint point.fine place (length qual') (length value')) (qual ++ value) ((point.time, point.value) ∷ []) [] places ≡ PutPoint point row qual value
-put_back point row qual value qual' value' place places q v e =
-    (λ i. put_at point.fine (length (q i)) (length (v i)) (qual ++ value) ((point.time, point.value) ∷ []) (e i))
-    ∙ (λ i. PutPoint point row (take-append_seam qual value i) ((ap (take (length value)) (drop-append_seam qual value) ∙ take-length value) i))
+-- a number is read back of its bytes
+number_again : (len n : ℕ) → IsLength len → n < 2 ^ bits (width_of len) → from_be_bytes (width_of len) (to_be_bytes (width_of len) n) ≡ n
+number_again _ n one lt = omega (arith, lt)
+number_again _ n two lt = from_be_bytes-to_be_bytes_2 n lt
+number_again _ n four lt = from_be_bytes-to_be_bytes_4 n lt
+number_again _ n eight lt = from_be_bytes-to_be_bytes_8 n lt
+
+pub number_back : (value : ℤ) (bytes : List ℕ) → IsShortest value bytes → number_in bytes ≡ value
+number_back value bytes shortest =
+    let w = width_of (length bytes) in
+    let lt : cast_unsigned w value < 2 ^ bits w = (Fits-of_z shortest.fits).fits in
+    ap (λ (bs : List ℕ). cast_signed w (from_be_bytes w bs)) shortest.bytes_are ∙ ap (cast_signed w) (number_again (length bytes) (cast_unsigned w value) shortest.len lt) ∙ to_z-of_z w value shortest.fits
+
+pub short_value : (value : ℤ) (bytes : List ℕ) → IsShortest value bytes → length bytes ≤ 8
+short_value value bytes shortest = at (length bytes) shortest.len
+  where
+    at : (n : ℕ) → IsLength n → n ≤ 8
+    at _ one = omega arith
+    at _ two = omega arith
+    at _ four = omega arith
+    at _ eight = omega arith
+
+-- the put of a point with this value, whose qualifier is one item
+abbrev pub point_step : DataPoint → Row → List ℕ → Step
+point_step point row value = PutPoint point row (item_bytes (record { offset = point.time % 3600000; fine = point.fine; len = length value })) value
+
+-- a put of a point's layout is that of its one item
+pub put_of_layout : (ids : Kind → List ℕ → ℕ) (turns new : List Turn) (caller : ℕ) (point : DataPoint) (row : Row) (qual value : List ℕ) → IsLayout ids point row.bytes qual value
+    → new ≡ turns ++ record { caller = caller; step = point_step point row value } ∷ [] → new ≡ turns ++ record { caller = caller; step = PutPoint point row qual value } ∷ []
+put_of_layout ids turns new caller point row qual value layout is =
+    let item = (dot_of (point.time % 3600000) point.fine point.value (length value)).item in
+    let qual_is : qual ≡ item_bytes item = layout.dot.items.qual_is ∙ append-nil (item_bytes item) in
+    is ∙ ap (λ (q : List ℕ). turns ++ record { caller = caller; step = PutPoint point row q value } ∷ []) (sym qual_is)
+
+-- a put is read back of its place, of its time within the hour, and of its value
+pub put_back : (point : DataPoint) (row : Row) (value : List ℕ) (place : ℕ) (places : List NamedRow) → IsShortest point.value value → slice_get places place ≡ Some (named_row_of point row)
+    → put_at point.fine (point.time % 3600000) value (slice_get places place) ≡ point_step point row value
+put_back point row value place places shortest e =
+    let time : point.time / 3600000 * 3600000 + point.time % 3600000 ≡ point.time = omega arith in
+    ap (put_at point.fine (point.time % 3600000) value) e
+    ∙ (λ i. PutPoint (record { metric = point.metric; tags = point.tags; time = time i; fine = point.fine; value = number_back point.value value shortest i }) row (item_bytes (record { offset = point.time % 3600000; fine = point.fine; len = length value })) value)
 
 -- what a put of a point makes of packed turns
-pub put_pushed : (heads : List Head) (bytes : List ℕ) (numbers : List (ℕ × ℤ)) (drops : List Dropped) (places : List NamedRow) (caller : ℕ) (point : DataPoint) (row : Row) (qual value qual' value' : List ℕ) (place : ℕ)
-    (heads' : List Head) (bytes' : List ℕ) (numbers' : List (ℕ × ℤ)) (places' : List NamedRow)
-    → Fills heads bytes numbers drops places → qual' ≡ qual → value' ≡ value → slice_get places' place ≡ Some (named_row_of point row) → GoesOn places places'
-    → heads' ≡ heads ++ record { caller = caller; shape = shape.PutPoint point.fine place (length qual') (length value') } ∷ [] → bytes' ≡ bytes ++ (qual ++ value) → numbers' ≡ numbers ++ (point.time, point.value) ∷ []
-    → Pushed heads' bytes' numbers' drops places' (unpacked heads bytes numbers drops places) (record { caller = caller; step = PutPoint point row qual value })
-put_pushed heads bytes numbers drops places caller point row qual value qual' value' place heads' bytes' numbers' places' fills q v stands kept eh eb en =
+pub put_pushed : (heads : List Head) (bytes : List ℕ) (drops : List Dropped) (places : List NamedRow) (caller : ℕ) (point : DataPoint) (row : Row) (value value' : List ℕ) (place : ℕ)
+    (heads' : List Head) (bytes' : List ℕ) (places' : List NamedRow)
+    → Fills heads bytes drops places → IsShortest point.value value → value' ≡ value → slice_get places' place ≡ Some (named_row_of point row) → GoesOn places places'
+    → heads' ≡ heads ++ head.PutPoint caller point.fine (length value') place (point.time % 3600000) ∷ [] → bytes' ≡ bytes ++ value'
+    → Pushed heads' bytes' drops places' (unpacked heads bytes drops places) (record { caller = caller; step = point_step point row value })
+put_pushed heads bytes drops places caller point row value value' place heads' bytes' places' fills shortest v stands kept eh eb =
     let within : place < length places' = slice_get_within places' place (named_row_of point row) stands in
     let there : place + 1 ≤ length places' = omega (arith, within) in
-    pushed heads bytes numbers drops places (record { caller = caller; shape = shape.PutPoint point.fine place (length qual') (length value') }) (qual ++ value) ((point.time, point.value) ∷ []) [] kept.0 (PutPoint point row qual value)
-    heads' bytes' numbers' drops places' fills (record { bytes_are = range_length qual value qual' value' q v; numbers_are = refl; drops_are = refl }) there
-    (put_back point row qual value qual' value' place places' q v stands) eh eb en (same drops drops refl) kept.1
+    pushed heads bytes drops places (head.PutPoint caller point.fine (length value') place (point.time % 3600000)) value' [] kept.0 (point_step point row value)
+    heads' bytes' drops places' fills (record { bytes_are = refl; drops_are = refl }) there
+    (ap (λ (bs : List ℕ). put_at point.fine (point.time % 3600000) bs (slice_get places' place)) v ∙ put_back point row value place places' shortest stands) eh eb (same drops drops refl) kept.1

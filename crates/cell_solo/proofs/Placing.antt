@@ -1,5 +1,5 @@
 -- Names and rows are read back of places.
-use Rattle.std.proofs.Common.{◌≡◌, ℕ, zero, suc, ◌+◌, ◌≤◌, ◌<◌, List, [], ◌∷◌, ◌++◌, length, take, drop, refl, sym, ap, subst, ◌∙◌, arith, append_assoc}
+use Rattle.std.proofs.Common.{◌≡◌, ℕ, zero, suc, ◌+◌, ◌/◌, ◌≤◌, ◌<◌, List, [], ◌∷◌, ◌++◌, length, take, drop, refl, sym, ap, subst, ◌∙◌, arith, append_assoc}
 use Rattle.std.specs.Prelude.{◌≢◌, Option, Some, None, MatchOption, IfSome, slice_get, slice_index_or}
 use denote.Ref.{Bor}
 use Rattle.std.specs.Option.{option_map}
@@ -67,16 +67,16 @@ told_next pairs i p old before middle new lt e b m n =
     ∙ ap (λ (xs : List ℕ). old ++ xs) (sym (told_more pairs i p lt e)) ∙ ap (λ (k : ℕ). old ++ told_tags (take k pairs)) (sym next)
 
 -- names and row are read back
-pub named_row_back : (point : DataPoint) (row : Row) (table : Table) (n : ℕ) (bytes : List ℕ) → table ≡ row.table → n ≡ length point.tags → bytes ≡ told_names point.metric point.tags ++ row.bytes
-    → named_row_in table n bytes ≡ named_row_of point row
-named_row_back point row table n bytes t m b =
+pub named_row_back : (point : DataPoint) (row : Row) (hour : ℕ) (table : Table) (n : ℕ) (bytes : List ℕ) → hour ≡ point.time / 3600000 → table ≡ row.table → n ≡ length point.tags → bytes ≡ told_names point.metric point.tags ++ row.bytes
+    → named_row_in hour table n bytes ≡ named_row_of point row
+named_row_back point row hour table n bytes h t m b =
     let whole = told_names point.metric point.tags ++ row.bytes in
     let spread : whole ≡ told point.metric ++ (told_tags point.tags ++ row.bytes) = append_assoc (told point.metric) (told_tags point.tags) row.bytes in
     let metric : first_name whole ≡ point.metric = ap first_name spread ∙ read_first point.metric _ in
     let tags : tags_in (length point.tags) (behind_name whole) ≡ point.tags =
     ap (λ (xs : List ℕ). tags_in (length point.tags) (behind_name xs)) spread ∙ ap (tags_in (length point.tags)) (read_behind point.metric _) ∙ tags_back point.tags row.bytes in
-    (λ i. named_row_in (t i) (m i) (b i))
-    ∙ (λ i. record { metric = metric i; tags = tags i; row = record { table = row.table; bytes = names_behind point.metric point.tags row.bytes i } })
+    (λ i. named_row_in (h i) (t i) (m i) (b i))
+    ∙ (λ i. record { metric = metric i; tags = tags i; hour = point.time / 3600000; row = record { table = row.table; bytes = names_behind point.metric point.tags row.bytes i } })
 
 -- a place keeps its bytes
 part_kept : (p : Place) (block more : List ℕ) → IsWithin block p → part_of p (block ++ more) ≡ part_of p block
@@ -90,7 +90,7 @@ places-push [] block more p within = refl
 places-push (x ∷ places) block more p within =
     let first : IsWithin block x = within zero x (omega arith) in
     let rest : AreWithin places block = λ k d lt. within (suc k) d (omega (arith, lt)) in
-    λ i. named_row_in x.table x.tags (part_kept x block more first i) ∷ places-push places block more p rest i
+    λ i. named_row_in x.hour x.table x.tags (part_kept x block more first i) ∷ places-push places block more p rest i
 
 -- what a place that is added makes of places
 pub record Added (places : List Place) (block : List ℕ) (was : List NamedRow) (place : NamedRow) : Type 0 where
@@ -99,9 +99,9 @@ pub record Added (places : List Place) (block : List ℕ) (was : List NamedRow) 
 
 pub added : (places : List Place) (block : List ℕ) (point : DataPoint) (row : Row) (p : Place) (places' : List Place) (middle block' : List ℕ)
     → AreWithin places block → middle ≡ block ++ told_names point.metric point.tags → block' ≡ middle ++ row.bytes → places' ≡ places ++ p ∷ []
-    → p.start ≡ length block → p.len ≡ length (told_names point.metric point.tags) + length row.bytes → p.table ≡ row.table → p.tags ≡ length point.tags
+    → p.start ≡ length block → p.len ≡ length (told_names point.metric point.tags) + length row.bytes → p.hour ≡ point.time / 3600000 → p.table ≡ row.table → p.tags ≡ length point.tags
     → Added places' block' (places_in places block) (named_row_of point row)
-added places block point row p places' middle block' within em eb ep start len table tags =
+added places block point row p places' middle block' within em eb ep start len hour table tags =
     let part = told_names point.metric point.tags ++ row.bytes in
     let whole : block' ≡ block ++ part = written_twice block middle block' (told_names point.metric point.tags) row.bytes (told_names point.metric point.tags) row.bytes em eb refl refl in
     let size : p.len ≡ length part = len ∙ sym (length-append (told_names point.metric point.tags) row.bytes) in
@@ -113,7 +113,7 @@ added places block point row p places' middle block' within em eb ep start len t
     record {
       within = subst (λ (ps : List Place). AreWithin ps block') (sym ep) (subst (AreWithin (places ++ p ∷ [])) (sym whole) both);
       list = (λ i. places_in (ep i) (whole i)) ∙ places-push places block part p within
-          ∙ ap (λ (r : NamedRow). places_in places block ++ r ∷ []) (named_row_back point row p.table p.tags (part_of p (block ++ part)) table tags own);
+          ∙ ap (λ (r : NamedRow). places_in places block ++ r ∷ []) (named_row_back point row p.hour p.table p.tags (part_of p (block ++ part)) hour table tags own);
     }
 
 -- the last element that was put behind

@@ -1,5 +1,5 @@
--- Places: the names of points with rows behind them, in one block of bytes.
-use Rattle.std.specs.Prelude.{◌≡◌, ℕ, ◌+◌, ◌≤◌, List, ◌++◌, length, take, drop, map, All}
+-- Places: the names of points with rows behind them, in one block of bytes, and their hours.
+use Rattle.std.specs.Prelude.{◌≡◌, ℕ, ◌+◌, ◌/◌, ◌≤◌, List, ◌++◌, length, take, drop, map, All}
 use Rattle.row_key.specs.declared.tables.Table.{Table}
 use Rattle.tsd_base.specs.TagList.{Pair}
 use Rattle.tsd_base.specs.Points.{DataPoint}
@@ -7,18 +7,19 @@ use Rattle.cell_model.specs.declared.cells.Row.{Row}
 use Rattle.cell_solo.specs.declared.places.Place.{Place}
 use Rattle.cell_solo.specs.Names.{first_name, behind_name, tags_in, behind_tags}
 
--- what points at one place share: their names, and the row that they are put into
+-- what points at one place share: their names, their hour, counted from 1970, and the row that they are put into
 pub record NamedRow : Type 0 where
   pub metric : List ℕ
   pub tags : List Pair
+  pub hour : ℕ
   pub row : Row
 
 abbrev pub named_row_of : DataPoint → Row → NamedRow
-named_row_of point row = record { metric = point.metric; tags = point.tags; row = row }
+named_row_of point row = record { metric = point.metric; tags = point.tags; hour = point.time / 3600000; row = row }
 
 -- a metric, n pairs of names, and the rest as the row's bytes
-abbrev pub named_row_in : Table → ℕ → List ℕ → NamedRow
-named_row_in table n bytes = record { metric = first_name bytes; tags = tags_in n (behind_name bytes); row = record { table = table; bytes = behind_tags n (behind_name bytes) } }
+abbrev pub named_row_in : ℕ → Table → ℕ → List ℕ → NamedRow
+named_row_in hour table n bytes = record { metric = first_name bytes; tags = tags_in n (behind_name bytes); hour = hour; row = record { table = table; bytes = behind_tags n (behind_name bytes) } }
 
 -- the bytes of a place
 abbrev pub part_of : Place → List ℕ → List ℕ
@@ -26,7 +27,7 @@ part_of place bytes = take place.len (drop place.start bytes)
 
 -- what stands at a place
 abbrev pub named_row_at : List ℕ → Place → NamedRow
-named_row_at bytes place = named_row_in place.table place.tags (part_of place bytes)
+named_row_at bytes place = named_row_in place.hour place.table place.tags (part_of place bytes)
 
 -- what stands at each place
 abbrev pub places_in : List Place → List ℕ → List NamedRow

@@ -33,17 +33,6 @@ pub fn write(block: &mut Vec<u8>, part: &[u8])
     }
 }
 
-/// Writes one part and then another.
-#[inline]
-pub fn write_both(block: &mut Vec<u8>, first: &[u8], second: &[u8])
-    requires { vec_len block.old + (length first.now + length second.now) ≤ vec_capacity block.old }
-    ensures items { block.new.items ≡ block.old.items ++ (first.now ++ second.now) }
-    ensures capacity { vec_capacity block.old ≤ vec_capacity block.new }
-{
-    write(block, first);
-    write(block, second);
-}
-
 /// Writes row, qualifier and value, and answers how long they are.
 pub fn write_cell(block: &mut Vec<u8>, row: &Row, qual: &Bytes, value: &Bytes) -> CellLengths
     requires room { vec_len block.old + (length row.now.bytes + length qual.now + length value.now) ≤ vec_capacity block.old }

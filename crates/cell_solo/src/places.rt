@@ -1,4 +1,4 @@
-//! Places: the names of points with the rows behind them. Points that follow one another at one place share it.
+//! Places: the names of points with their hours and rows. Points that follow one another at one place share it.
 ghost use Rattle.std.specs.Prelude.{◌≡◌, ◌≤◌, ◌<◌, ◌+◌, ◌-◌, ◌^◌, [], ◌++◌, length, IsTrue, IfSome, OnOk, slice_get};
 ghost use Rattle.tsd_base.specs.Points.{data_point};
 ghost use Rattle.cell_solo.specs.Names.{told, told_tags, told_names};
@@ -12,13 +12,17 @@ use std::marker::Model;
 use tsd_base::names::Name;
 use tsd_base::points::Point;
 
+/// The milliseconds of an hour.
+pub const HOUR: u64 = 3600000;
+
 // How many places can be told apart by 32 bits.
 const MOST_PLACES: usize = 4294967296;
 
-/// Where in the block the names of a point stand, with a row behind them.
+/// The hour of a point, counted from 1970, and where in the block its names stand, with a row behind them.
 #[derive(Clone, Copy, Drop)]
 struct Place {
     start: usize,
+    hour: u64,
     len: u32,
     table: Table,
     tags: u8,
@@ -26,7 +30,7 @@ struct Place {
 
 /// Places, numbered from 0.
 ///
-/// The bytes of all are one block; beside them a place takes 16 bytes, and one for each of its names. Contracts see the list
+/// The bytes of all are one block; beside them a place takes 24 bytes, and one for each of its names. Contracts see the list
 /// of places, and for how much more there is room.
 #[derive(Drop)]
 pub struct Places {
@@ -70,8 +74,8 @@ impl Places {
         self.bytes.reserve(bytes)
     }
 
-    /// The number of the place of this point and row: the last one where names and row are the same, else a new one. The room
-    /// is that of the row, and [`crate::block::MOST_NAMES`] for the names.
+    /// The number of the place of this point and row: the last one where names, hour and row are the same, else a new one. The
+    /// room is that of the row, and [`crate::block::MOST_NAMES`] for the names.
     pub fn find_or_add(&mut self, point: &Point, row: &Row) -> u32
         requires spare { 1 ≤ self.old.spare }
         requires room { 4352 + length row.now.bytes ≤ self.old.room }
@@ -103,6 +107,7 @@ impl Places {
         write(&mut self.bytes, row_bytes);
         self.list.push_reserved(Place {
             start,
+            hour: point.time / HOUR,
             len: names + row_bytes.len() as u32,
             table: row.table,
             tags: point.tags.pairs().len() as u8,
@@ -130,7 +135,10 @@ fn is_at(place: &Place, block: &[u8], point: &Point, row: &Row) -> bool
     requires { IsWithin block.now place.now }
     ensures { IsTrue result → named_row_at block.now place.now ≡ named_row_of (data_point point.now) row.now }
 {
-    if place.table != row.table || place.tags as usize != point.tags.pairs().len() {
+    if place.hour != point.time / HOUR
+        || place.table != row.table
+        || place.tags as usize != point.tags.pairs().len()
+    {
         return false;
     }
     let part = &block[place.start..place.start + place.len as usize];

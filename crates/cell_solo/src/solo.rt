@@ -37,8 +37,8 @@ pub struct Solo<B: Body + Drop> {
     body: B,
     base: Listing,
     turns: Turns,
-    callers: u32,
-    caller: u32,
+    callers: u8,
+    caller: u8,
 }
 
 impl<B: Body + Drop> Model for Solo<B> {
@@ -54,7 +54,7 @@ impl<B: Body + Drop> Model for Solo<B> {
 impl<B: Body + Drop> Solo<B> {
     /// Callers 1 to `callers` over a body whose store is a base, and which is over every row. Each has opened, at the place of
     /// its number; it is the turn of caller 1. It fails only for want of memory.
-    pub fn make(alloc: Global, body: B, callers: u32) -> Result<Solo<B>, AllocError>
+    pub fn make(alloc: Global, body: B, callers: u8) -> Result<Solo<B>, AllocError>
         requires base { IsBase (B.content body) }
         requires covers { (row : AnyRow) → IsTrue (B.covers body row) }
         requires least { 1 ≤ callers }
@@ -78,7 +78,7 @@ impl<B: Body + Drop> Solo<B> {
     }
 
     /// Makes it the turn of another caller. The history stays.
-    pub fn turn(&mut self, caller: u32)
+    pub fn turn(&mut self, caller: u8)
         requires least { 1 ≤ caller }
         requires most { caller ≤ self.old.callers }
         ensures turn { self.new ≡ record self.old { caller = caller } }
@@ -89,14 +89,14 @@ impl<B: Body + Drop> Solo<B> {
     }
 
     /// The number of the caller whose turn it is.
-    pub fn caller(&self) -> u32
+    pub fn caller(&self) -> u8
         ensures { result ≡ self.now.caller }
     {
         self.caller
     }
 
     /// How many entries of the history are this caller's, its opening included. It takes time as the history is long.
-    pub fn entries(&self, caller: u32) -> u64
+    pub fn entries(&self, caller: u8) -> u64
         ensures { result ≡ entries_of (history_of self.now) caller }
     {
         self.turns.count(caller)
@@ -114,7 +114,7 @@ impl<B: Body + Drop> Solo<B> {
 }
 
 /// The openings of callers 1 to `callers`.
-fn open_each(alloc: Global, callers: u32) -> Result<Turns, AllocError>
+fn open_each(alloc: Global, callers: u8) -> Result<Turns, AllocError>
     ensures turns { IfOk result (λ turns. turns.list ≡ openings callers) }
     ensures room { 1 ≤ callers → IfOk result (λ turns. 8 ≤ turns.spare) }
 {
@@ -136,11 +136,14 @@ fn cell_len(row: &Row, qual: &Bytes, value: &Bytes) -> usize
         .saturating_add(value.list().len())
 }
 
-/// The same with the most that the names of a point have.
-fn point_len(row: &Row, qual: &Bytes, value: &Bytes) -> usize
-    ensures { result ≡ min (length row.now.bytes + length qual.now + length value.now + 4352) 18446744073709551615 }
+/// How many bytes a row and a value have together, with the most that the names of a point have.
+fn point_len(row: &Row, value: &Bytes) -> usize
+    ensures { result ≡ min (length row.now.bytes + length value.now + 4352) 18446744073709551615 }
 {
-    cell_len(row, qual, value).saturating_add(MOST_NAMES)
+    let row_len = row.bytes.list().len();
+    row_len
+        .saturating_add(value.list().len())
+        .saturating_add(MOST_NAMES)
 }
 
 /// Puts a cell at the place of the next step, once there is room for that step and for `len` bytes of it.
@@ -267,7 +270,7 @@ impl<B: Body + Drop> Rows for Solo<B> {
         ensures memory { IfErr result (λ fault. fault ≡ OutOfMemory) }
         ensures room { OnOk result (8 ≤ self.new.room) }
     {
-        let len = point_len(row, qual, value);
+        let len = point_len(row, value);
         let Ok(()) = put_next(
             &mut self.body,
             &mut self.turns,
@@ -279,7 +282,7 @@ impl<B: Body + Drop> Rows for Solo<B> {
         ) else {
             return Err(RowsFault::OutOfMemory);
         };
-        self.turns.add_point(self.caller, point, row, qual, value);
+        self.turns.add_point(self.caller, point, row, value);
         Ok(())
     }
 

@@ -1,12 +1,15 @@
 //! The steps that callers made, packed.
-ghost use Rattle.std.specs.Prelude.{◌≡◌, ◌≤◌, ◌<◌, ◌+◌, ◌^◌, [], ◌∷◌, ◌++◌, length, count_by, nat_eq, OnOk};
+ghost use Rattle.std.specs.Prelude.{◌≡◌, ◌≤◌, ◌<◌, ◌+◌, ◌%◌, ◌^◌, [], ◌∷◌, ◌++◌, length, count_by, nat_eq, OnOk};
 ghost use Rattle.tsd_base.specs.Points.{data_point};
 ghost use Rattle.cell_model.specs.declared.events.Step.TheVariants.{Open, Read, NextRow, Bump, Claim, PutPoint, PutMerged, DropCells};
+ghost use Rattle.qual_codec.specs.Items.{item_bytes};
+ghost use Rattle.qual_codec.specs.Spelling.{IsShortest};
 ghost use Rattle.cell_solo.specs.declared.turns.Head.{Head};
+ghost use Rattle.cell_solo.specs.Packed.{caller_of};
 ghost use Rattle.cell_solo.specs.Turns.{Turn};
 
-use crate::block::{CellLengths, write, write_both, write_cell};
-use crate::places::Places;
+use crate::block::{CellLengths, write, write_cell};
+use crate::places::{HOUR, Places};
 use cell_model::cells::{Drops, Row};
 use qual_codec::Bytes;
 use row_key::Table;
@@ -21,44 +24,67 @@ const MOST: usize = 4294967295;
 // For how many steps room is made at once: the next one, and 8 that take no memory.
 const ROOM: usize = 9;
 
-/// What a step is, and how many bytes its parts have.
+/// A step without its parts: whose it is, what it is, and how many bytes its parts have.
 #[derive(Clone, Copy, Drop)]
-enum Shape {
-    Open,
+enum Head {
+    Open {
+        caller: u8,
+    },
     Read {
+        caller: u8,
         table: Table,
         row: u32,
     },
     NextRow {
+        caller: u8,
         table: Table,
         from: u32,
         to: u32,
     },
     Bump {
+        caller: u8,
         kind: Kind,
     },
     Claim {
+        caller: u8,
         table: Table,
         cell: CellLengths,
     },
+    // At this place, at this millisecond of its hour.
     PutPoint {
+        caller: u8,
         fine: bool,
+        value: u8,
         place: u32,
-        qual: u32,
-        value: u32,
+        offset: u32,
     },
     PutMerged {
+        caller: u8,
         table: Table,
         cell: CellLengths,
     },
-    DropCells,
+    DropCells {
+        caller: u8,
+    },
 }
 
-/// A step without its parts, and whose it is.
-#[derive(Clone, Copy, Drop)]
-struct Head {
-    caller: u32,
-    shape: Shape,
+impl Head {
+    /// Whose step it is.
+    #[inline]
+    fn caller(self) -> u8
+        ensures { result ≡ caller_of self }
+    {
+        match self {
+            Head::Open { caller }
+            | Head::Read { caller, .. }
+            | Head::NextRow { caller, .. }
+            | Head::Bump { caller, .. }
+            | Head::Claim { caller, .. }
+            | Head::PutPoint { caller, .. }
+            | Head::PutMerged { caller, .. }
+            | Head::DropCells { caller } => caller,
+        }
+    }
 }
 
 /// What a drop named.
@@ -70,24 +96,23 @@ struct Dropped {
 
 /// Steps with their callers, the first one first.
 ///
-/// A step takes a head of 20 bytes, and the bytes of its parts, which are one block. A put of a point takes 16 bytes more for
-/// its time and its value, and has only its qualifier and its value in that block. Its names and its row stand at its place,
-/// which it shares with the put of a point before it where these are the same. A drop is kept as it was given. Contracts see
-/// the list of turns, and for how much more there is room.
+/// A step takes a head of 16 bytes, and the bytes of its parts, which are one block. A put of a point has only its value in
+/// that block: its qualifier follows from what the head tells, and its names, its hour and its row stand at its place, which
+/// it shares with the put of a point before it where these are the same. A drop is kept as it was given. Contracts see the
+/// list of turns, and for how much more there is room.
 #[derive(Drop)]
 pub struct Turns {
     heads: Vec<Head>,
     bytes: Vec<u8>,
-    numbers: Vec<(u64, i64)>,
     drops: Vec<Dropped>,
     places: Places,
 }
 
 /// How many heads are this caller's.
-fn count_heads(heads: &[Head], caller: u32) -> usize
-    ensures { result ≡ count_by (λ (h : Head). nat_eq h.caller caller) heads.now }
+fn count_heads(heads: &[Head], caller: u8) -> usize
+    ensures { result ≡ count_by (λ (h : Head). nat_eq (caller_of h) caller) heads.now }
 {
-    heads.iter().filter(|head| head.caller == caller).count()
+    heads.iter().filter(|head| head.caller() == caller).count()
 }
 
 impl Model for Turns {
@@ -96,9 +121,9 @@ impl Model for Turns {
 
     ghost Value = { TurnList };
 
-    ghost view = { λ t. record { list = unpacked t.heads.items t.bytes.items t.numbers.items t.drops.items t.places.list; spare = min (vec_capacity t.heads - vec_len t.heads) (min (vec_capacity t.numbers - vec_len t.numbers) (min (vec_capacity t.drops - vec_len t.drops) t.places.spare)); room = min (vec_capacity t.bytes - vec_len t.bytes) t.places.room } };
+    ghost view = { λ t. record { list = unpacked t.heads.items t.bytes.items t.drops.items t.places.list; spare = min (vec_capacity t.heads - vec_len t.heads) (min (vec_capacity t.drops - vec_len t.drops) t.places.spare); room = min (vec_capacity t.bytes - vec_len t.bytes) t.places.room } };
 
-    ghost invariant = { λ t. Fills t.heads.items t.bytes.items t.numbers.items t.drops.items t.places.list };
+    ghost invariant = { λ t. Fills t.heads.items t.bytes.items t.drops.items t.places.list };
 }
 
 impl Turns {
@@ -109,7 +134,6 @@ impl Turns {
         Turns {
             heads: Vec::new(alloc),
             bytes: Vec::new(alloc),
-            numbers: Vec::new(alloc),
             drops: Vec::new(alloc),
             places: Places::make(alloc),
         }
@@ -125,7 +149,7 @@ impl Turns {
     }
 
     /// How many steps are this caller's.
-    pub fn count(&self, caller: u32) -> u64
+    pub fn count(&self, caller: u8) -> u64
         ensures { result ≡ count_by (λ (t : Turn). nat_eq t.caller caller) self.now.list }
     {
         count_heads(&self.heads, caller) as u64
@@ -144,25 +168,21 @@ impl Turns {
         }
         self.places.reserve(ROOM, bytes)?;
         self.heads.reserve(ROOM)?;
-        self.numbers.reserve(ROOM)?;
         self.drops.reserve(ROOM)?;
         self.bytes.reserve(bytes)
     }
 
     /// Adds an opening.
-    pub fn add_open(&mut self, caller: u32)
+    pub fn add_open(&mut self, caller: u8)
         requires { 1 ≤ self.old.spare }
         ensures list { self.new.list ≡ self.old.list ++ record { caller = caller; step = Open } ∷ [] }
         ensures spare { self.old.spare ≤ self.new.spare + 1 }
     {
-        self.heads.push_reserved(Head {
-            caller,
-            shape: Shape::Open,
-        });
+        self.heads.push_reserved(Head::Open { caller });
     }
 
     /// Adds a read.
-    pub fn add_read(&mut self, caller: u32, row: &Row)
+    pub fn add_read(&mut self, caller: u8, row: &Row)
         requires spare { 1 ≤ self.old.spare }
         requires room { length row.now.bytes ≤ self.old.room }
         requires fits { length row.now.bytes < 2 ^ 32 }
@@ -171,17 +191,15 @@ impl Turns {
     {
         let bytes = row.bytes.list();
         write(&mut self.bytes, bytes);
-        self.heads.push_reserved(Head {
+        self.heads.push_reserved(Head::Read {
             caller,
-            shape: Shape::Read {
-                table: row.table,
-                row: bytes.len() as u32,
-            },
+            table: row.table,
+            row: bytes.len() as u32,
         });
     }
 
     /// Adds a search for the next row.
-    pub fn add_next_row(&mut self, caller: u32, table: Table, from: &Bytes, to: &Bytes)
+    pub fn add_next_row(&mut self, caller: u8, table: Table, from: &Bytes, to: &Bytes)
         requires spare { 1 ≤ self.old.spare }
         requires room { length from.now + length to.now ≤ self.old.room }
         requires fits { length from.now + length to.now < 2 ^ 32 }
@@ -190,30 +208,25 @@ impl Turns {
     {
         write(&mut self.bytes, from.list());
         write(&mut self.bytes, to.list());
-        self.heads.push_reserved(Head {
+        self.heads.push_reserved(Head::NextRow {
             caller,
-            shape: Shape::NextRow {
-                table,
-                from: from.list().len() as u32,
-                to: to.list().len() as u32,
-            },
+            table,
+            from: from.list().len() as u32,
+            to: to.list().len() as u32,
         });
     }
 
     /// Adds a bump.
-    pub fn add_bump(&mut self, caller: u32, kind: Kind)
+    pub fn add_bump(&mut self, caller: u8, kind: Kind)
         requires { 1 ≤ self.old.spare }
         ensures list { self.new.list ≡ self.old.list ++ record { caller = caller; step = Bump kind } ∷ [] }
         ensures spare { self.old.spare ≤ self.new.spare + 1 }
     {
-        self.heads.push_reserved(Head {
-            caller,
-            shape: Shape::Bump { kind },
-        });
+        self.heads.push_reserved(Head::Bump { caller, kind });
     }
 
     /// Adds a claim.
-    pub fn add_claim(&mut self, caller: u32, row: &Row, qual: &Bytes, value: &Bytes)
+    pub fn add_claim(&mut self, caller: u8, row: &Row, qual: &Bytes, value: &Bytes)
         requires spare { 1 ≤ self.old.spare }
         requires room { length row.now.bytes + length qual.now + length value.now ≤ self.old.room }
         requires fits { length row.now.bytes + length qual.now + length value.now < 2 ^ 32 }
@@ -221,39 +234,37 @@ impl Turns {
         ensures spare { self.old.spare ≤ self.new.spare + 1 }
     {
         let cell = write_cell(&mut self.bytes, row, qual, value);
-        self.heads.push_reserved(Head {
+        self.heads.push_reserved(Head::Claim {
             caller,
-            shape: Shape::Claim {
-                table: row.table,
-                cell,
-            },
+            table: row.table,
+            cell,
         });
     }
 
-    /// Adds a put of a point. The room is that of its cell, and [`crate::block::MOST_NAMES`] for its names.
-    pub fn add_point(&mut self, caller: u32, point: &Point, row: &Row, qual: &Bytes, value: &Bytes)
+    /// Adds a put of a point in its shortest value, whose qualifier is its one item. The room is that of its row and its value,
+    /// and [`crate::block::MOST_NAMES`] for its names.
+    pub fn add_point(&mut self, caller: u8, point: &Point, row: &Row, value: &Bytes)
         requires spare { 1 ≤ self.old.spare }
-        requires room { 4352 + (length row.now.bytes + length qual.now + length value.now) ≤ self.old.room }
-        requires fits { 4352 + (length row.now.bytes + length qual.now + length value.now) < 2 ^ 32 }
-        ensures list { self.new.list ≡ self.old.list ++ record { caller = caller; step = PutPoint (data_point point.now) row.now qual.now value.now } ∷ [] }
+        requires room { 4352 + (length row.now.bytes + length value.now) ≤ self.old.room }
+        requires fits { 4352 + (length row.now.bytes + length value.now) < 2 ^ 32 }
+        requires shortest { IsShortest point.now.value value.now }
+        ensures list { self.new.list ≡ self.old.list ++ record { caller = caller; step = PutPoint (data_point point.now) row.now (item_bytes (record { offset = point.now.time % 3600000; fine = point.now.fine; len = length value.now })) value.now } ∷ [] }
         ensures spare { self.old.spare ≤ self.new.spare + 1 }
     {
         let place = self.places.find_or_add(point, row);
-        write_both(&mut self.bytes, qual.list(), value.list());
-        self.numbers.push_reserved((point.time, point.value));
-        self.heads.push_reserved(Head {
+        let bytes = value.list();
+        write(&mut self.bytes, bytes);
+        self.heads.push_reserved(Head::PutPoint {
             caller,
-            shape: Shape::PutPoint {
-                fine: point.fine,
-                place,
-                qual: qual.list().len() as u32,
-                value: value.list().len() as u32,
-            },
+            fine: point.fine,
+            value: bytes.len() as u8,
+            place,
+            offset: (point.time % HOUR) as u32,
         });
     }
 
     /// Adds a put of a merged cell.
-    pub fn add_merged(&mut self, caller: u32, row: &Row, qual: &Bytes, value: &Bytes)
+    pub fn add_merged(&mut self, caller: u8, row: &Row, qual: &Bytes, value: &Bytes)
         requires spare { 1 ≤ self.old.spare }
         requires room { length row.now.bytes + length qual.now + length value.now ≤ self.old.room }
         requires fits { length row.now.bytes + length qual.now + length value.now < 2 ^ 32 }
@@ -261,26 +272,21 @@ impl Turns {
         ensures spare { self.old.spare ≤ self.new.spare + 1 }
     {
         let cell = write_cell(&mut self.bytes, row, qual, value);
-        self.heads.push_reserved(Head {
+        self.heads.push_reserved(Head::PutMerged {
             caller,
-            shape: Shape::PutMerged {
-                table: row.table,
-                cell,
-            },
+            table: row.table,
+            cell,
         });
     }
 
     /// Adds a drop.
-    pub fn add_drops(&mut self, caller: u32, row: Row, which: Drops)
+    pub fn add_drops(&mut self, caller: u8, row: Row, which: Drops)
         requires { 1 ≤ self.old.spare }
         ensures list { self.new.list ≡ self.old.list ++ record { caller = caller; step = DropCells row which } ∷ [] }
         ensures spare { self.old.spare ≤ self.new.spare + 1 }
     {
         self.drops.push_reserved(Dropped { row, which });
-        self.heads.push_reserved(Head {
-            caller,
-            shape: Shape::DropCells,
-        });
+        self.heads.push_reserved(Head::DropCells { caller });
     }
 }
 

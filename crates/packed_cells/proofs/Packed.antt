@@ -5,29 +5,29 @@ use Rattle.std.specs.List.{remove}
 use Rattle.std.proofs.lemmas.List.{length-take-le, drop-drop, take-append-le, drop-append-le, take_at, drop_at, take_all, length-append, take-append-drop, length-drop, append_assoc}
 use Rattle.std.proofs.lemmas.Slice.{drop-put_mid}
 use Rattle.qual_codec.specs.declared.cells.Cell.{Cell}
-use Rattle.packed_cells.specs.declared.block.Head.{Head}
+use Rattle.packed_cells.specs.declared.block.Span.{Span}
 use Rattle.packed_cells.specs.Packed.{cell_at, cells_at, AllApart, AllKept, end_of, stamped_at, overwritten}
 
 pub slice_kept : (bytes more : List ℕ) (at n : ℕ) → at + n ≤ length bytes → take n (drop at (bytes ++ more)) ≡ take n (drop at bytes)
 slice_kept bytes more at n le =
     ap (take n) (drop-append-le at bytes more (omega arith)) ∙ take-append-le n (drop at bytes) more (omega (arith, length-drop at bytes))
 
-pub cell_kept : (bytes more : List ℕ) (h : Head) → h.at + h.qual_len + h.value_len ≤ length bytes → cell_at (bytes ++ more) h ≡ cell_at bytes h
+pub cell_kept : (bytes more : List ℕ) (h : Span) → h.at + h.qual_len + h.value_len ≤ length bytes → cell_at (bytes ++ more) h ≡ cell_at bytes h
 cell_kept bytes more h le =
     let q : take h.qual_len (drop h.at (bytes ++ more)) ≡ take h.qual_len (drop h.at bytes) = slice_kept bytes more h.at h.qual_len (omega arith) in
     let v : take h.value_len (drop (h.at + h.qual_len) (bytes ++ more)) ≡ take h.value_len (drop (h.at + h.qual_len) bytes) = slice_kept bytes more (h.at + h.qual_len) h.value_len (omega arith) in
     λ i. record { qual = q i; value = v i; version = h.version }
 
 -- bytes behind the block change no cell
-pub cells_kept : (bytes more : List ℕ) (hs : List Head) → AllKept (length bytes) hs → cells_at (bytes ++ more) hs ≡ cells_at bytes hs
+pub cells_kept : (bytes more : List ℕ) (hs : List Span) → AllKept (length bytes) hs → cells_at (bytes ++ more) hs ≡ cells_at bytes hs
 cells_kept bytes more [] k = refl
 cells_kept bytes more (h ∷ hs) k = λ i. cell_kept bytes more h k.0 i ∷ cells_kept bytes more hs k.1.1 i
 
-pub kept_longer : (n m : ℕ) (hs : List Head) → n ≤ m → AllKept n hs → AllKept m hs
+pub kept_longer : (n m : ℕ) (hs : List Span) → n ≤ m → AllKept n hs → AllKept m hs
 kept_longer n m [] le k = tt
 kept_longer n m (h ∷ hs) le k = (omega (arith, k.0), (k.1.0, kept_longer n m hs le k.1.1))
 
-pub kept_at : (n : ℕ) (hs : List Head) (i : ℕ) (d : Head) → AllKept n hs → i < length hs → (slice_index_or hs i d).at + (slice_index_or hs i d).qual_len + (slice_index_or hs i d).value_len ≤ n
+pub kept_at : (n : ℕ) (hs : List Span) (i : ℕ) (d : Span) → AllKept n hs → i < length hs → (slice_index_or hs i d).at + (slice_index_or hs i d).qual_len + (slice_index_or hs i d).value_len ≤ n
 kept_at n [] i d k lt = absurd (omega arith)
 kept_at n (h ∷ hs) zero d k lt = k.0
 kept_at n (h ∷ hs) (suc i) d k lt = kept_at n hs i d k.1.1 (omega arith)
@@ -36,55 +36,55 @@ swap : (a b c d : ℕ) → (b ≤ c) ⊎ (d ≤ a) → (d ≤ a) ⊎ (b ≤ c)
 swap a b c d (inl le) = inr le
 swap a b c d (inr le) = inl le
 
-apart_insert : (a b : ℕ) (hs : List Head) (i : ℕ) (h : Head) → AllApart a b hs → (b ≤ h.at) ⊎ (end_of h ≤ a) → AllApart a b (insert hs i h)
+apart_insert : (a b : ℕ) (hs : List Span) (i : ℕ) (h : Span) → AllApart a b hs → (b ≤ h.at) ⊎ (end_of h ≤ a) → AllApart a b (insert hs i h)
 apart_insert a b [] zero h k p = (p, tt)
 apart_insert a b [] (suc i) h k p = (p, tt)
 apart_insert a b (x ∷ hs) zero h k p = (p, k)
 apart_insert a b (x ∷ hs) (suc i) h k p = (k.0, apart_insert a b hs i h k.1 p)
 
-apart_set : (a b : ℕ) (hs : List Head) (i : ℕ) (h : Head) → AllApart a b hs → (b ≤ h.at) ⊎ (end_of h ≤ a) → AllApart a b (slice_set hs i h)
+apart_set : (a b : ℕ) (hs : List Span) (i : ℕ) (h : Span) → AllApart a b hs → (b ≤ h.at) ⊎ (end_of h ≤ a) → AllApart a b (slice_set hs i h)
 apart_set a b [] i h k p = tt
 apart_set a b (x ∷ hs) zero h k p = (p, k.1)
 apart_set a b (x ∷ hs) (suc i) h k p = (k.0, apart_set a b hs i h k.1 p)
 
-apart_remove : (a b : ℕ) (hs : List Head) (i : ℕ) → AllApart a b hs → AllApart a b (remove hs i)
+apart_remove : (a b : ℕ) (hs : List Span) (i : ℕ) → AllApart a b hs → AllApart a b (remove hs i)
 apart_remove a b [] zero k = tt
 apart_remove a b [] (suc i) k = tt
 apart_remove a b (x ∷ hs) zero k = k.1
 apart_remove a b (x ∷ hs) (suc i) k = (k.0, apart_remove a b hs i k.1)
 
 -- a head with the place of the one at i, and another version
-abbrev pub moved : Head → ℕ → Head
+abbrev pub moved : Span → ℕ → Span
 moved h n = record { at = h.at; qual_len = h.qual_len; value_len = h.value_len; version = n }
 
-apart_stamp : (a b : ℕ) (hs : List Head) (i n : ℕ) (d : Head) → AllApart a b hs → AllApart a b (slice_set hs i (moved (slice_index_or hs i d) n))
+apart_stamp : (a b : ℕ) (hs : List Span) (i n : ℕ) (d : Span) → AllApart a b hs → AllApart a b (slice_set hs i (moved (slice_index_or hs i d) n))
 apart_stamp a b [] i n d k = tt
 apart_stamp a b (x ∷ hs) zero n d k = (k.0, k.1)
 apart_stamp a b (x ∷ hs) (suc i) n d k = (k.0, apart_stamp a b hs i n d k.1)
 
 -- heads of a block of n bytes are apart from all that begins at n
-apart_behind : (n b : ℕ) (hs : List Head) → AllKept n hs → AllApart n b hs
+apart_behind : (n b : ℕ) (hs : List Span) → AllKept n hs → AllApart n b hs
 apart_behind n b [] k = tt
 apart_behind n b (h ∷ hs) k = (inr k.0, apart_behind n b hs k.1.1)
 
 -- a head behind the first n bytes, within m
-pub kept_insert : (n m : ℕ) (hs : List Head) (i : ℕ) (h : Head) → AllKept n hs → n ≤ h.at → end_of h ≤ m → AllKept m (insert hs i h)
+pub kept_insert : (n m : ℕ) (hs : List Span) (i : ℕ) (h : Span) → AllKept n hs → n ≤ h.at → end_of h ≤ m → AllKept m (insert hs i h)
 kept_insert n m [] zero h k from to = (to, (tt, tt))
 kept_insert n m [] (suc i) h k from to = (to, (tt, tt))
 kept_insert n m (x ∷ hs) zero h k from to = (to, (apart_behind h.at (end_of h) (x ∷ hs) (kept_longer n h.at (x ∷ hs) from k), kept_longer n m (x ∷ hs) (omega (arith, from, to)) k))
 kept_insert n m (x ∷ hs) (suc i) h k from to = (omega (arith, k.0, from, to), (apart_insert x.at (end_of x) hs i h k.1.0 (inl (omega (arith, k.0, from))), kept_insert n m hs i h k.1.1 from to))
 
-pub kept_set : (n m : ℕ) (hs : List Head) (i : ℕ) (h : Head) → AllKept n hs → n ≤ h.at → end_of h ≤ m → AllKept m (slice_set hs i h)
+pub kept_set : (n m : ℕ) (hs : List Span) (i : ℕ) (h : Span) → AllKept n hs → n ≤ h.at → end_of h ≤ m → AllKept m (slice_set hs i h)
 kept_set n m [] i h k from to = tt
 kept_set n m (x ∷ hs) zero h k from to = (to, (apart_behind h.at (end_of h) hs (kept_longer n h.at hs from k.1.1), kept_longer n m hs (omega (arith, from, to)) k.1.1))
 kept_set n m (x ∷ hs) (suc i) h k from to = (omega (arith, k.0, from, to), (apart_set x.at (end_of x) hs i h k.1.0 (inl (omega (arith, k.0, from))), kept_set n m hs i h k.1.1 from to))
 
-kept_moved : (n : ℕ) (hs : List Head) (i v : ℕ) (d : Head) → AllKept n hs → AllKept n (slice_set hs i (moved (slice_index_or hs i d) v))
+kept_moved : (n : ℕ) (hs : List Span) (i v : ℕ) (d : Span) → AllKept n hs → AllKept n (slice_set hs i (moved (slice_index_or hs i d) v))
 kept_moved n [] i v d k = tt
 kept_moved n (x ∷ hs) zero v d k = (k.0, (k.1.0, k.1.1))
 kept_moved n (x ∷ hs) (suc i) v d k = (k.0, (apart_stamp x.at (end_of x) hs i v d k.1.0, kept_moved n hs i v d k.1.1))
 
-pub kept_remove : (n : ℕ) (hs : List Head) (i : ℕ) → AllKept n hs → AllKept n (remove hs i)
+pub kept_remove : (n : ℕ) (hs : List Span) (i : ℕ) → AllKept n hs → AllKept n (remove hs i)
 kept_remove n [] zero k = tt
 kept_remove n [] (suc i) k = tt
 kept_remove n (x ∷ hs) zero k = k.1.1
@@ -121,38 +121,38 @@ module _ {A B : Type 0} (f : A → B) where
   map_at (y ∷ xs) (suc i) d e lt = map_at xs i d e (omega arith)
 
 -- the block and the heads after a cell was put behind the block
-abbrev head : List ℕ → List ℕ → List ℕ → ℕ → Head
+abbrev head : List ℕ → List ℕ → List ℕ → ℕ → Span
 head bytes q v n = record { at = length bytes; qual_len = length q; value_len = length v; version = n }
 
 head_fits : (bytes q v : List ℕ) → length bytes + length q + length v ≤ length (bytes ++ q ++ v)
 head_fits bytes q v = omega (arith, length-append (bytes ++ q) v, length-append bytes q)
 
-pub inserted_kept : (bytes q v : List ℕ) (n : ℕ) (hs : List Head) (i : ℕ) → AllKept (length bytes) hs → AllKept (length (bytes ++ q ++ v)) (insert hs i (record { at = length bytes; qual_len = length q; value_len = length v; version = n }))
+pub inserted_kept : (bytes q v : List ℕ) (n : ℕ) (hs : List Span) (i : ℕ) → AllKept (length bytes) hs → AllKept (length (bytes ++ q ++ v)) (insert hs i (record { at = length bytes; qual_len = length q; value_len = length v; version = n }))
 inserted_kept bytes q v n hs i k =
     kept_insert (length bytes) _ hs i (head bytes q v n) k (omega arith) (head_fits bytes q v)
 
-pub inserted : (bytes q v : List ℕ) (n : ℕ) (hs : List Head) (i : ℕ) → AllKept (length bytes) hs → cells_at (bytes ++ q ++ v) (insert hs i (record { at = length bytes; qual_len = length q; value_len = length v; version = n })) ≡ insert (cells_at bytes hs) i (record { qual = q; value = v; version = n })
+pub inserted : (bytes q v : List ℕ) (n : ℕ) (hs : List Span) (i : ℕ) → AllKept (length bytes) hs → cells_at (bytes ++ q ++ v) (insert hs i (record { at = length bytes; qual_len = length q; value_len = length v; version = n })) ≡ insert (cells_at bytes hs) i (record { qual = q; value = v; version = n })
 inserted bytes q v n hs i k =
     let same : cells_at (bytes ++ q ++ v) hs ≡ cells_at bytes hs = subst (λ (b : List ℕ). cells_at b hs ≡ cells_at bytes hs) (sym (append_assoc bytes q v)) (cells_kept bytes (q ++ v) hs k) in
     map_insert (cell_at (bytes ++ q ++ v)) hs i (head bytes q v n) ∙ (λ j. insert (same j) i (cell_new bytes q v n j))
 
-pub set_kept : (bytes q v : List ℕ) (n : ℕ) (hs : List Head) (i : ℕ) → AllKept (length bytes) hs → AllKept (length (bytes ++ q ++ v)) (slice_set hs i (record { at = length bytes; qual_len = length q; value_len = length v; version = n }))
+pub set_kept : (bytes q v : List ℕ) (n : ℕ) (hs : List Span) (i : ℕ) → AllKept (length bytes) hs → AllKept (length (bytes ++ q ++ v)) (slice_set hs i (record { at = length bytes; qual_len = length q; value_len = length v; version = n }))
 set_kept bytes q v n hs i k =
     kept_set (length bytes) _ hs i (head bytes q v n) k (omega arith) (head_fits bytes q v)
 
-pub was_set : (bytes q v : List ℕ) (n : ℕ) (hs : List Head) (i : ℕ) → AllKept (length bytes) hs → cells_at (bytes ++ q ++ v) (slice_set hs i (record { at = length bytes; qual_len = length q; value_len = length v; version = n })) ≡ slice_set (cells_at bytes hs) i (record { qual = q; value = v; version = n })
+pub was_set : (bytes q v : List ℕ) (n : ℕ) (hs : List Span) (i : ℕ) → AllKept (length bytes) hs → cells_at (bytes ++ q ++ v) (slice_set hs i (record { at = length bytes; qual_len = length q; value_len = length v; version = n })) ≡ slice_set (cells_at bytes hs) i (record { qual = q; value = v; version = n })
 was_set bytes q v n hs i k =
     let same : cells_at (bytes ++ q ++ v) hs ≡ cells_at bytes hs = subst (λ (b : List ℕ). cells_at b hs ≡ cells_at bytes hs) (sym (append_assoc bytes q v)) (cells_kept bytes (q ++ v) hs k) in
     map_set (cell_at (bytes ++ q ++ v)) hs i (head bytes q v n) ∙ (λ j. slice_set (same j) i (cell_new bytes q v n j))
 
-pub more_kept : (bytes more : List ℕ) (hs : List Head) → AllKept (length bytes) hs → AllKept (length (bytes ++ more)) hs
+pub more_kept : (bytes more : List ℕ) (hs : List Span) → AllKept (length bytes) hs → AllKept (length (bytes ++ more)) hs
 more_kept bytes more hs k = kept_longer (length bytes) _ hs (omega (arith, length-append bytes more)) k
 
 -- a stamp
-pub stamp_kept : (m : ℕ) (hs : List Head) (i n : ℕ) (h : Head) → AllKept m hs → i < length hs → ((d : Head) → h ≡ slice_index_or hs i d) → AllKept m (slice_set hs i (record { at = h.at; qual_len = h.qual_len; value_len = h.value_len; version = n }))
-stamp_kept m hs i n h k lt is = subst (λ (x : Head). AllKept m (slice_set hs i (moved x n))) (sym (is h)) (kept_moved m hs i n h k)
+pub stamp_kept : (m : ℕ) (hs : List Span) (i n : ℕ) (h : Span) → AllKept m hs → i < length hs → ((d : Span) → h ≡ slice_index_or hs i d) → AllKept m (slice_set hs i (record { at = h.at; qual_len = h.qual_len; value_len = h.value_len; version = n }))
+stamp_kept m hs i n h k lt is = subst (λ (x : Span). AllKept m (slice_set hs i (moved x n))) (sym (is h)) (kept_moved m hs i n h k)
 
-pub was_stamped : (bytes : List ℕ) (hs : List Head) (i n : ℕ) (h : Head) (d : Cell) → i < length hs → ((e : Head) → h ≡ slice_index_or hs i e) → cells_at bytes (slice_set hs i (record { at = h.at; qual_len = h.qual_len; value_len = h.value_len; version = n })) ≡ slice_set (cells_at bytes hs) i (stamped_at (slice_index_or (cells_at bytes hs) i d) n)
+pub was_stamped : (bytes : List ℕ) (hs : List Span) (i n : ℕ) (h : Span) (d : Cell) → i < length hs → ((e : Span) → h ≡ slice_index_or hs i e) → cells_at bytes (slice_set hs i (record { at = h.at; qual_len = h.qual_len; value_len = h.value_len; version = n })) ≡ slice_set (cells_at bytes hs) i (stamped_at (slice_index_or (cells_at bytes hs) i d) n)
 was_stamped bytes hs i n h d lt is =
     map_set (cell_at bytes) hs i _ ∙ ap (λ (c : Cell). slice_set (cells_at bytes hs) i (stamped_at c n)) (ap (cell_at bytes) (is h) ∙ sym (map_at (cell_at bytes) hs i h d lt))
 
@@ -193,14 +193,14 @@ narrow a b at ql vl (inl le) = (inl le, inl (omega arith))
 narrow a b at ql vl (inr le) = (inr (omega arith), inr le)
 
 -- the cell of a head that is apart from the place
-cell_apart : (bytes q v : List ℕ) (p : ℕ) (h : Head) → p + length q + length v ≤ length bytes → (p + length q + length v ≤ h.at) ⊎ (end_of h ≤ p) → cell_at (both bytes p q v) h ≡ cell_at bytes h
+cell_apart : (bytes q v : List ℕ) (p : ℕ) (h : Span) → p + length q + length v ≤ length bytes → (p + length q + length v ≤ h.at) ⊎ (end_of h ≤ p) → cell_at (both bytes p q v) h ≡ cell_at bytes h
 cell_apart bytes q v p h fits far =
     let two = narrow p (p + length q + length v) h.at h.qual_len h.value_len far in
     let a : take h.qual_len (drop h.at (both bytes p q v)) ≡ take h.qual_len (drop h.at bytes) = both_apart bytes q v p h.at h.qual_len fits two.0 in
     let b : take h.value_len (drop (h.at + h.qual_len) (both bytes p q v)) ≡ take h.value_len (drop (h.at + h.qual_len) bytes) = both_apart bytes q v p (h.at + h.qual_len) h.value_len fits two.1 in
     λ i. record { qual = a i; value = b i; version = h.version }
 
-cells_apart : (bytes q v : List ℕ) (p : ℕ) (hs : List Head) → p + length q + length v ≤ length bytes → AllApart p (p + length q + length v) hs → cells_at (both bytes p q v) hs ≡ cells_at bytes hs
+cells_apart : (bytes q v : List ℕ) (p : ℕ) (hs : List Span) → p + length q + length v ≤ length bytes → AllApart p (p + length q + length v) hs → cells_at (both bytes p q v) hs ≡ cells_at bytes hs
 cells_apart bytes q v p [] fits far = refl
 cells_apart bytes q v p (h ∷ hs) fits far = λ i. cell_apart bytes q v p h fits far.0 i ∷ cells_apart bytes q v p hs fits far.1 i
 
@@ -213,13 +213,13 @@ cell_both bytes q v p n fits =
 
 -- a cell that is overwritten in its place
 module _ (bytes q v : List ℕ) (n p : ℕ) where
-  abbrev new : Head
+  abbrev new : Span
   new = record { at = p; qual_len = length q; value_len = length v; version = n }
 
-  abbrev IsPlace : Head → Type 0
+  abbrev IsPlace : Span → Type 0
   IsPlace h = (h.at ≡ p) × ((h.qual_len ≡ length q) × (h.value_len ≡ length v))
 
-  place_turned : (a b : ℕ) (hs : List Head) (i : ℕ) (d : Head) → AllApart a b hs → i < length hs → (b ≤ (slice_index_or hs i d).at) ⊎ (end_of (slice_index_or hs i d) ≤ a)
+  place_turned : (a b : ℕ) (hs : List Span) (i : ℕ) (d : Span) → AllApart a b hs → i < length hs → (b ≤ (slice_index_or hs i d).at) ⊎ (end_of (slice_index_or hs i d) ≤ a)
   place_turned a b [] i d k lt = absurd (omega arith)
   place_turned a b (h ∷ hs) zero d k lt = k.0
   place_turned a b (h ∷ hs) (suc i) d k lt = place_turned a b hs i d k.1 (omega arith)
@@ -228,7 +228,7 @@ module _ (bytes q v : List ℕ) (n p : ℕ) where
   far a b at end e f (inl le) = inr (omega arith)
   far a b at end e f (inr le) = inl (omega arith)
 
-  was_over : (hs : List Head) (i : ℕ) (d : Head) → AllKept (length bytes) hs → i < length hs → IsPlace (slice_index_or hs i d) → p + length q + length v ≤ length bytes → cells_at (both bytes p q v) (slice_set hs i new) ≡ slice_set (cells_at bytes hs) i (record { qual = q; value = v; version = n })
+  was_over : (hs : List Span) (i : ℕ) (d : Span) → AllKept (length bytes) hs → i < length hs → IsPlace (slice_index_or hs i d) → p + length q + length v ≤ length bytes → cells_at (both bytes p q v) (slice_set hs i new) ≡ slice_set (cells_at bytes hs) i (record { qual = q; value = v; version = n })
   was_over [] i d k lt is fits = absurd (omega arith)
   was_over (h ∷ hs) zero d k lt is fits =
       let to : end_of h ≡ p + length q + length v = omega (arith, is.0, is.1.0, is.1.1) in
@@ -239,17 +239,17 @@ module _ (bytes q v : List ℕ) (n p : ℕ) where
       λ j. cell_apart bytes q v p h fits (far h.at (end_of h) (slice_index_or hs i d).at (end_of (slice_index_or hs i d)) is.0 to (place_turned h.at (end_of h) hs i d k.1.0 (omega arith))) j ∷ was_over hs i d k.1.1 (omega arith) is fits j
 
 -- the same in the words of a caller, whose h is the head at i
-pub was_overwritten : (bytes q v : List ℕ) (n : ℕ) (hs : List Head) (i : ℕ) (h : Head) → AllKept (length bytes) hs → i < length hs → ((d : Head) → h ≡ slice_index_or hs i d) → h.qual_len ≡ length q → h.value_len ≡ length v → cells_at (both bytes h.at q v) (slice_set hs i (moved h n)) ≡ slice_set (cells_at bytes hs) i (record { qual = q; value = v; version = n })
+pub was_overwritten : (bytes q v : List ℕ) (n : ℕ) (hs : List Span) (i : ℕ) (h : Span) → AllKept (length bytes) hs → i < length hs → ((d : Span) → h ≡ slice_index_or hs i d) → h.qual_len ≡ length q → h.value_len ≡ length v → cells_at (both bytes h.at q v) (slice_set hs i (moved h n)) ≡ slice_set (cells_at bytes hs) i (record { qual = q; value = v; version = n })
 was_overwritten bytes q v n hs i h k lt is eq ev =
-    let fits : end_of h ≤ length bytes = subst (λ (x : Head). end_of x ≤ length bytes) (sym (is h)) (kept_at (length bytes) hs i h k lt) in
-    let place : (slice_index_or hs i h).at ≡ h.at = ap (λ (x : Head). x.at) (sym (is h)) in
-    let quals : (slice_index_or hs i h).qual_len ≡ length q = ap (λ (x : Head). x.qual_len) (sym (is h)) ∙ eq in
-    let values : (slice_index_or hs i h).value_len ≡ length v = ap (λ (x : Head). x.value_len) (sym (is h)) ∙ ev in
+    let fits : end_of h ≤ length bytes = subst (λ (x : Span). end_of x ≤ length bytes) (sym (is h)) (kept_at (length bytes) hs i h k lt) in
+    let place : (slice_index_or hs i h).at ≡ h.at = ap (λ (x : Span). x.at) (sym (is h)) in
+    let quals : (slice_index_or hs i h).qual_len ≡ length q = ap (λ (x : Span). x.qual_len) (sym (is h)) ∙ eq in
+    let values : (slice_index_or hs i h).value_len ≡ length v = ap (λ (x : Span). x.value_len) (sym (is h)) ∙ ev in
     (λ j. cells_at (both bytes h.at q v) (slice_set hs i (record { at = h.at; qual_len = eq j; value_len = ev j; version = n }))) ∙ was_over bytes q v n h.at hs i h k lt (place, (quals, values)) (omega (arith, fits, eq, ev))
 
-pub overwritten_kept : (bytes q v : List ℕ) (n : ℕ) (hs : List Head) (i : ℕ) (h : Head) → AllKept (length bytes) hs → i < length hs → ((d : Head) → h ≡ slice_index_or hs i d) → h.qual_len ≡ length q → h.value_len ≡ length v → AllKept (length (both bytes h.at q v)) (slice_set hs i (moved h n))
+pub overwritten_kept : (bytes q v : List ℕ) (n : ℕ) (hs : List Span) (i : ℕ) (h : Span) → AllKept (length bytes) hs → i < length hs → ((d : Span) → h ≡ slice_index_or hs i d) → h.qual_len ≡ length q → h.value_len ≡ length v → AllKept (length (both bytes h.at q v)) (slice_set hs i (moved h n))
 overwritten_kept bytes q v n hs i h k lt is eq ev =
-    let fits : end_of h ≤ length bytes = subst (λ (x : Head). end_of x ≤ length bytes) (sym (is h)) (kept_at (length bytes) hs i h k lt) in
+    let fits : end_of h ≤ length bytes = subst (λ (x : Span). end_of x ≤ length bytes) (sym (is h)) (kept_at (length bytes) hs i h k lt) in
     subst (λ (m : ℕ). AllKept m (slice_set hs i (moved h n))) (sym (both_length bytes q v h.at (omega (arith, fits, eq, ev)))) (stamp_kept (length bytes) hs i n h k lt is)
 
 -- one more cell of a list behind those that were taken
@@ -264,9 +264,9 @@ pub taken_length : (cells : List Cell) (i : ℕ) → i ≤ length cells → leng
 taken_length cells i le = length-take-le i cells le
 
 -- the lengths that a head tells are those of its cell
-pub cell_lengths : (bytes : List ℕ) (hs : List Head) (i : ℕ) (h : Head) (d : Cell) → AllKept (length bytes) hs → i < length hs → h ≡ slice_index_or hs i h → (length (slice_index_or (cells_at bytes hs) i d).qual ≡ h.qual_len) × (length (slice_index_or (cells_at bytes hs) i d).value ≡ h.value_len)
+pub cell_lengths : (bytes : List ℕ) (hs : List Span) (i : ℕ) (h : Span) (d : Cell) → AllKept (length bytes) hs → i < length hs → h ≡ slice_index_or hs i h → (length (slice_index_or (cells_at bytes hs) i d).qual ≡ h.qual_len) × (length (slice_index_or (cells_at bytes hs) i d).value ≡ h.value_len)
 cell_lengths bytes hs i h d k lt is =
-    let fits : end_of h ≤ length bytes = subst (λ (x : Head). end_of x ≤ length bytes) (sym is) (kept_at (length bytes) hs i h k lt) in
+    let fits : end_of h ≤ length bytes = subst (λ (x : Span). end_of x ≤ length bytes) (sym is) (kept_at (length bytes) hs i h k lt) in
     let cell : slice_index_or (cells_at bytes hs) i d ≡ cell_at bytes h = map_at (cell_at bytes) hs i h d lt ∙ ap (cell_at bytes) (sym is) in
     let q : length (take h.qual_len (drop h.at bytes)) ≡ h.qual_len = length-take-le h.qual_len (drop h.at bytes) (omega (arith, fits, length-drop h.at bytes)) in
     let v : length (take h.value_len (drop (h.at + h.qual_len) bytes)) ≡ h.value_len = length-take-le h.value_len (drop (h.at + h.qual_len) bytes) (omega (arith, fits, length-drop (h.at + h.qual_len) bytes)) in

@@ -1,4 +1,4 @@
-//! The cells of a row, packed: one block of bytes for the whole row, and 24 bytes beside it for each cell.
+//! The cells of a row, packed: one block of bytes for the whole row, and 16 bytes beside it for each cell.
 #![tactic(auto)]
 
 pub mod block;

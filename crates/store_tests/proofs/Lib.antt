@@ -1,5 +1,3 @@
-mod Lower
+pub mod Lower
 pub mod Passing
 pub mod Known
-pub mod Allowing
-pub mod Puts

@@ -43,7 +43,7 @@ fn metrics() -> Bytes
 }
 
 /// The three bytes of an id.
-pub(crate) fn bytes_of_id(id: u32) -> Bytes
+pub fn bytes_of_id(id: u32) -> Bytes
     ensures { result ≡ id_bytes id }
 {
     let [_, high, middle, low] = id.to_be_bytes();
@@ -61,7 +61,7 @@ pub fn row_of_id(id: u32) -> Row
 }
 
 /// The row of a name.
-pub(crate) fn row_of_name(alloc: Global, name: &Name) -> Result<Row, AllocError>
+pub fn row_of_name(alloc: Global, name: &Name) -> Result<Row, AllocError>
     ensures row { IfOk result (λ row. row ≡ name_row name.now) }
     ensures named { IsName name.now }
 {
@@ -72,7 +72,7 @@ pub(crate) fn row_of_name(alloc: Global, name: &Name) -> Result<Row, AllocError>
 }
 
 /// The id in a value, where that has three bytes.
-pub(crate) fn id_in(value: &[u8]) -> Option<u32> {
+pub fn id_in(value: &[u8]) -> Option<u32> {
     match value {
         [a, b, c] => Some(u32::from_be_bytes([0, *a, *b, *c])),
         _ => None,

@@ -10,7 +10,7 @@ use std::alloc::{AllocError, Global};
 use uid_table::Uids;
 
 /// Callers 1 to `callers` of an empty store. It is the turn of caller 1.
-pub fn empty(alloc: Global, callers: u32) -> Result<Solo<MapBody>, AllocError>
+pub fn empty(alloc: Global, callers: u8) -> Result<Solo<MapBody>, AllocError>
     requires least { 1 ≤ callers }
     requires most { callers ≤ 16 }
     ensures callers { IfOk result (λ s. s.callers ≡ callers) }

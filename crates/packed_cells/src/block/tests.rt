@@ -1,4 +1,5 @@
-use crate::block::Block;
+use crate::block::{Block, Head};
+use std::mem::size_of;
 use std::test::Fail;
 
 #[derive(Clone, Copy)]
@@ -84,6 +85,22 @@ const CASES: [Case; 8] = [
     ),
 ];
 
+fn has(block: &Block, cells: &[(&[u8], &[u8], u64)]) -> bool {
+    if block.len() != cells.len() {
+        return false;
+    }
+    for (i, (qual, value, version)) in cells.iter().enumerate() {
+        if i >= block.len()
+            || block.qual(i) != *qual
+            || block.value(i) != *value
+            || block.version(i) != *version
+        {
+            return false;
+        }
+    }
+    true
+}
+
 #[test]
 fn cells_are_kept_by_index(rt: HostRuntime) -> Result<(), Fail> {
     for (edits, cells, length) in CASES {
@@ -110,16 +127,34 @@ fn cells_are_kept_by_index(rt: HostRuntime) -> Result<(), Fail> {
         }
         assert_eq!(rt; block.bytes.len(), length);
         let again = block.again(rt.alloc())?;
-        assert!(rt; block.len() == cells.len() && again.len() == cells.len());
-        for (i, (qual, value, version)) in cells.iter().enumerate() {
-            assert!(rt; i < block.len() && i < again.len());
-            assert_eq!(rt; block.qual(i), *qual);
-            assert_eq!(rt; block.value(i), *value);
-            assert_eq!(rt; block.version(i), *version);
-            assert_eq!(rt; again.qual(i), *qual);
-            assert_eq!(rt; again.value(i), *value);
-            assert_eq!(rt; again.version(i), *version);
-        }
+        assert!(rt; has(&block, cells) && has(&again, cells));
     }
+    Ok(())
+}
+
+#[test]
+fn a_head_takes_16_bytes(rt: HostRuntime) {
+    assert_eq!(rt; size_of::<Head>(), 16);
+}
+
+// The lengths of the first cell stand in its head, and those of the others don't.
+#[test]
+fn long_cells_are_kept(rt: HostRuntime) -> Result<(), Fail> {
+    let short = vec![in rt.alloc(); 7u8; 65534]?;
+    let long = vec![in rt.alloc(); 8u8; 65535]?;
+    let mut block = Block::make(rt.alloc());
+    block.insert(0, b"a", &short, 1)?;
+    block.insert(1, b"b", &long, 2)?;
+    block.insert(2, &long, b"c", 3)?;
+    assert!(rt; block.longs.len() == 2 && block.bytes.len() == 65534 + 65535 + 65535 + 3);
+    block.set(2, &long, b"d", 4)?;
+    block.stamp(1, 5);
+    assert!(rt; block.longs.len() == 2 && block.bytes.len() == 65534 + 65535 + 65535 + 3);
+    assert!(rt;
+        has(
+            &block,
+            &[(b"a", &short, 1), (b"b", &long, 5), (&long, b"d", 4)]
+        )
+    );
     Ok(())
 }

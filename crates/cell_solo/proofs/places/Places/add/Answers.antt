@@ -1,4 +1,4 @@
-use Rattle.std.proofs.Common.{ℕ, ◌+◌, ◌∙◌, refl, ap, List, [], ◌∷◌, ◌++◌, length}
+use Rattle.std.proofs.Common.{ℕ, ◌+◌, ◌/◌, ◌∙◌, refl, ap, List, [], ◌∷◌, ◌++◌, length}
 use Rattle.tsd_base.specs.Points.{data_point}
 use Rattle.cell_solo.specs.Places.{PlaceList, named_row_of}
 use Rattle.cell_solo.proofs.Placing.{added, number_added}
@@ -7,27 +7,27 @@ use Rattle.cell_solo.proofs.places.Places.add.Goals as goal
 pub invariant_of-self : goal.invariant_of-self
 invariant_of-self c =
     let p = added c.self.inside.list.items c.self.inside.bytes.items (data_point c.args.point.now) c.args.row.now
-    (record { start = c.len-start.result; len = c.write_names-names.result + length c.list-row_bytes.result.now; table = c.args.row.now.table; tags = length c.pairs.result.now })
+    (record { start = c.len-start.result; hour = c.args.point.now.time / 3600000; len = c.write_names-names.result + length c.list-row_bytes.result.now; table = c.args.row.now.table; tags = length c.pairs.result.now })
     c.push_reserved.new.self.items c.write_names-names.new.block.items c.write.new.block.items c.self.invariant c.write_names-names.ensures.items
     (c.write.ensures.items ∙ ap (λ (xs : List ℕ). c.write_names-names.new.block.items ++ xs) c.list-row_bytes.ensures) c.push_reserved.ensures.items
-    (c.len-start.ensures ∙ c.self.inside.bytes.ok.0) ((λ i. c.write_names-names.ensures.told i + length (c.list-row_bytes.ensures i))) refl (ap length c.pairs.ensures.pairs) in
+    (c.len-start.ensures ∙ c.self.inside.bytes.ok.0) ((λ i. c.write_names-names.ensures.told i + length (c.list-row_bytes.ensures i))) refl refl (ap length c.pairs.ensures.pairs) in
     p.within
 
 pub returns-clause-stands : goal.returns-clause-stands
 returns-clause-stands c =
     let p = added c.self.inside.list.items c.self.inside.bytes.items (data_point c.args.point.now) c.args.row.now
-    (record { start = c.len-start.result; len = c.write_names-names.result + length c.list-row_bytes.result.now; table = c.args.row.now.table; tags = length c.pairs.result.now })
+    (record { start = c.len-start.result; hour = c.args.point.now.time / 3600000; len = c.write_names-names.result + length c.list-row_bytes.result.now; table = c.args.row.now.table; tags = length c.pairs.result.now })
     c.push_reserved.new.self.items c.write_names-names.new.block.items c.write.new.block.items c.self.invariant c.write_names-names.ensures.items
     (c.write.ensures.items ∙ ap (λ (xs : List ℕ). c.write_names-names.new.block.items ++ xs) c.list-row_bytes.ensures) c.push_reserved.ensures.items
-    (c.len-start.ensures ∙ c.self.inside.bytes.ok.0) ((λ i. c.write_names-names.ensures.told i + length (c.list-row_bytes.ensures i))) refl (ap length c.pairs.ensures.pairs) in
+    (c.len-start.ensures ∙ c.self.inside.bytes.ok.0) ((λ i. c.write_names-names.ensures.told i + length (c.list-row_bytes.ensures i))) refl refl (ap length c.pairs.ensures.pairs) in
     number_added c.self.inside.list.items c.self.inside.bytes.items (named_row_of (data_point c.args.point.now) c.args.row.now) _ c.len-number.result
     (c.len-number.ensures ∙ c.self.inside.list.ok.0) p.list
 
 pub returns-clause-kept : goal.returns-clause-kept
 returns-clause-kept c =
     let p = added c.self.inside.list.items c.self.inside.bytes.items (data_point c.args.point.now) c.args.row.now
-    (record { start = c.len-start.result; len = c.write_names-names.result + length c.list-row_bytes.result.now; table = c.args.row.now.table; tags = length c.pairs.result.now })
+    (record { start = c.len-start.result; hour = c.args.point.now.time / 3600000; len = c.write_names-names.result + length c.list-row_bytes.result.now; table = c.args.row.now.table; tags = length c.pairs.result.now })
     c.push_reserved.new.self.items c.write_names-names.new.block.items c.write.new.block.items c.self.invariant c.write_names-names.ensures.items
     (c.write.ensures.items ∙ ap (λ (xs : List ℕ). c.write_names-names.new.block.items ++ xs) c.list-row_bytes.ensures) c.push_reserved.ensures.items
-    (c.len-start.ensures ∙ c.self.inside.bytes.ok.0) ((λ i. c.write_names-names.ensures.told i + length (c.list-row_bytes.ensures i))) refl (ap length c.pairs.ensures.pairs) in
+    (c.len-start.ensures ∙ c.self.inside.bytes.ok.0) ((λ i. c.write_names-names.ensures.told i + length (c.list-row_bytes.ensures i))) refl refl (ap length c.pairs.ensures.pairs) in
     (named_row_of (data_point c.args.point.now) c.args.row.now ∷ [], p.list ∙ ap (λ (t : PlaceList). t.list ++ named_row_of (data_point c.args.point.now) c.args.row.now ∷ []) c.self.view_is)

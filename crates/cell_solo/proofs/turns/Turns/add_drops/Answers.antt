@@ -1,22 +1,22 @@
 use Rattle.std.proofs.Common.{◌∙◌, refl, ap, [], ◌∷◌, ◌++◌}
 use Rattle.cell_model.specs.declared.events.Step.TheVariants.{DropCells}
 use Rattle.cell_solo.specs.Packed.{TurnList}
-use Rattle.cell_solo.specs.declared.turns.Shape.TheVariants as shape
+use Rattle.cell_solo.specs.declared.turns.Head.TheVariants as head
 use Rattle.cell_solo.proofs.Packing.{pushed_alone, same}
 use Rattle.cell_solo.proofs.turns.Turns.add_drops.Goals as goal
 
 pub invariant_of-self : goal.invariant_of-self
 invariant_of-self c =
-    let p = pushed_alone c.self.inside.heads.items c.self.inside.bytes.items c.self.inside.numbers.items c.self.inside.drops.items c.self.inside.places.list (record { caller = c.args.caller; shape = shape.DropCells })
-    [] [] (record { row = c.args.row; which = c.args.which } ∷ []) (DropCells c.args.row c.args.which)
-    c.push_reserved-2.new.self.items c.self.inside.bytes.items c.self.inside.numbers.items c.push_reserved.new.self.items c.self.invariant (record { bytes_are = refl; numbers_are = refl; drops_are = refl }) refl refl
-    c.push_reserved-2.ensures.items (same _ _ refl) (same _ _ refl) c.push_reserved.ensures.items in
+    let p = pushed_alone c.self.inside.heads.items c.self.inside.bytes.items c.self.inside.drops.items c.self.inside.places.list (head.DropCells c.args.caller)
+    [] (record { row = c.args.row; which = c.args.which } ∷ []) (DropCells c.args.row c.args.which)
+    c.push_reserved-2.new.self.items c.self.inside.bytes.items c.push_reserved.new.self.items c.self.invariant (record { bytes_are = refl; drops_are = refl }) refl refl
+    c.push_reserved-2.ensures.items (same _ _ refl) c.push_reserved.ensures.items in
     p.fills
 
 pub returns-clause-list : goal.returns-clause-list
 returns-clause-list c =
-    let p = pushed_alone c.self.inside.heads.items c.self.inside.bytes.items c.self.inside.numbers.items c.self.inside.drops.items c.self.inside.places.list (record { caller = c.args.caller; shape = shape.DropCells })
-    [] [] (record { row = c.args.row; which = c.args.which } ∷ []) (DropCells c.args.row c.args.which)
-    c.push_reserved-2.new.self.items c.self.inside.bytes.items c.self.inside.numbers.items c.push_reserved.new.self.items c.self.invariant (record { bytes_are = refl; numbers_are = refl; drops_are = refl }) refl refl
-    c.push_reserved-2.ensures.items (same _ _ refl) (same _ _ refl) c.push_reserved.ensures.items in
+    let p = pushed_alone c.self.inside.heads.items c.self.inside.bytes.items c.self.inside.drops.items c.self.inside.places.list (head.DropCells c.args.caller)
+    [] (record { row = c.args.row; which = c.args.which } ∷ []) (DropCells c.args.row c.args.which)
+    c.push_reserved-2.new.self.items c.self.inside.bytes.items c.push_reserved.new.self.items c.self.invariant (record { bytes_are = refl; drops_are = refl }) refl refl
+    c.push_reserved-2.ensures.items (same _ _ refl) c.push_reserved.ensures.items in
     p.list ∙ ap (λ (t : TurnList). t.list ++ record { caller = c.args.caller; step = DropCells c.args.row c.args.which } ∷ []) c.self.view_is

@@ -1,15 +1,16 @@
-use Rattle.std.proofs.Common.{arith, ◌<◌, ◌∙◌, length, ap}
-use Rattle.std.proofs.lemmas.List.{length-map, get_or_default}
-use Rattle.packed_cells.specs.Packed.{cell_at}
-use Rattle.packed_cells.proofs.Packed.{stamp_kept, was_stamped}
+use Rattle.std.proofs.Common.{arith, ◌<◌, length, ap, refl}
+use Rattle.packed_cells.specs.Packed.{span_at}
+use Rattle.packed_cells.proofs.Spans.{IsAt, count, restamp_kept, restamp_cells}
 use Rattle.packed_cells.proofs.block.Block.stamp.Goals as goal
 
 pub invariant_of-self : goal.invariant_of-self
 invariant_of-self c =
-    let at : c.args.i < length c.self.inside.heads.items = omega (arith, c.requires, ap length c.self.view_is, length-map c.self.inside.heads.items (cell_at c.self.inside.bytes.items)) in
-    stamp_kept (length c.self.inside.bytes.items) c.self.inside.heads.items c.args.i c.args.version c.index-head.result.now c.self.invariant at (λ d. c.index-head.ensures ∙ get_or_default c.self.inside.heads.items c.args.i c.index-head.result.now d at)
+    let in_range : c.args.i < length c.self.inside.heads.items = omega (arith, c.requires, ap length c.self.view_is, count c.self.inside.bytes.items c.self.inside.longs.items c.self.inside.heads.items) in
+    let at : IsAt c.self.inside.bytes.items c.self.inside.longs.items c.self.inside.heads.items c.args.i c.index-head.result.now (span_at c.self.inside.longs.items c.index-head.result.now) = record { kept = c.self.invariant; in_range = in_range; head = c.index-head.ensures; span = refl } in
+    restamp_kept c.self.inside.bytes.items c.self.inside.longs.items c.self.inside.heads.items c.args.i c.index-head.result.now (span_at c.self.inside.longs.items c.index-head.result.now) at c.args.version
 
 pub returns : goal.returns
 returns c d =
-    let at : c.args.i < length c.self.inside.heads.items = omega (arith, c.requires, ap length c.self.view_is, length-map c.self.inside.heads.items (cell_at c.self.inside.bytes.items)) in
-    rw (← c.self.view_is) (was_stamped c.self.inside.bytes.items c.self.inside.heads.items c.args.i c.args.version c.index-head.result.now d at (λ e. c.index-head.ensures ∙ get_or_default c.self.inside.heads.items c.args.i c.index-head.result.now e at))
+    let in_range : c.args.i < length c.self.inside.heads.items = omega (arith, c.requires, ap length c.self.view_is, count c.self.inside.bytes.items c.self.inside.longs.items c.self.inside.heads.items) in
+    let at : IsAt c.self.inside.bytes.items c.self.inside.longs.items c.self.inside.heads.items c.args.i c.index-head.result.now (span_at c.self.inside.longs.items c.index-head.result.now) = record { kept = c.self.invariant; in_range = in_range; head = c.index-head.ensures; span = refl } in
+    rw (← c.self.view_is) (restamp_cells c.self.inside.bytes.items c.self.inside.longs.items c.self.inside.heads.items c.args.i c.index-head.result.now (span_at c.self.inside.longs.items c.index-head.result.now) at c.args.version d)

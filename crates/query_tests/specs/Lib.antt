@@ -1,0 +1,4 @@
+pub mod Merges
+pub mod Visits
+pub mod Queried
+pub mod Puts
