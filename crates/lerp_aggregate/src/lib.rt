@@ -5,4 +5,4 @@ pub mod aggregation;
 mod cursors;
 pub mod interpolation;
 pub mod laws;
-mod tally;
+pub mod tally;

@@ -1,6 +1,7 @@
 //! Putting points by the ids of their names, over any rows.
 #![tactic(auto)]
 
+pub mod cells;
 pub mod config;
 pub mod fault;
 mod keys;

@@ -15,7 +15,6 @@ mod Short
 mod OneSub
 mod AllSubs
 mod Grouped
-mod RisingTags
 mod Keys
 mod GroupLemmas
 mod SeriesLemmas

@@ -1,32 +1,14 @@
 -- The answer of a sub query over readings.
-use Rattle.std.specs.Prelude.{ℕ, ℤ, Bool, true, not, ◌&&◌, List, [], ◌∷◌, map, filter, Result, Ok, Err}
-use Rattle.std.specs.List.{list_any, list_all}
+use Rattle.std.specs.Prelude.{ℕ, ℤ, Bool, true, List, [], ◌∷◌, map, Result, Ok, Err}
 use Rattle.tsd_base.specs.declared.kinds.Aggregator.{Aggregator}
 use Rattle.tsd_base.specs.declared.kinds.Aggregator.TheVariants.{NoneOf}
-use Rattle.tsd_base.specs.Tags.{Pair, is_same}
-use Rattle.tsd_base.specs.TagList.{is_same_pair}
+use Rattle.tsd_base.specs.Tags.{Pair}
 use Rattle.tsd_base.specs.Points.{DataPoint}
 use Rattle.tsd_base.specs.Readings.{series_of, dots_of}
 use Rattle.cell_model.specs.Readings.{Reading}
 use Rattle.lerp_aggregate.specs.Aggregation.{aggregated}
+use Rattle.group_by.specs.Shared.{shared_pairs, aggregate_keys}
 use Rattle.json_reply.specs.Replies.{Group}
-
-abbrev pub has_pair : Pair → List Pair → Bool
-has_pair pair tags = list_any (is_same_pair pair) tags
-
-abbrev pub has_key : List ℕ → List Pair → Bool
-has_key key tags = list_any (λ pair. is_same key pair.0) tags
-
--- the pairs that all of the series have
-abbrev pub shared_pairs : List (List Pair) → List Pair
-shared_pairs [] = []
-shared_pairs (tags ∷ others) = filter (λ pair. list_all (has_pair pair) others) tags
-
--- the keys that all of the series have, without one common value
-abbrev pub aggregate_keys : List (List Pair) → List (List ℕ)
-aggregate_keys [] = []
-aggregate_keys (tags ∷ others) =
-    map (λ pair. pair.0) (filter (λ pair. list_all (has_key pair.0) others && not (list_all (has_pair pair) others)) tags)
 
 -- under none each series is a group by itself, else all are one; no series make no group
 abbrev pub groups_in : Aggregator → List (List Pair) → List (List (List Pair))

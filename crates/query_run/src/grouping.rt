@@ -7,7 +7,7 @@ ghost use Rattle.query_run.specs.Grouping.{GivesGroup, GivesGroups, alone, toget
 ghost use Rattle.query_run.specs.Series.{HavePoints, HaveTimes, RiseByTags, points_in};
 
 use crate::series::Series;
-use crate::shared::{aggregate_keys, shared_pairs};
+use group_by::shared::shared;
 use json_reply::reply::Group;
 use lerp_aggregate::aggregation::{AggFault, aggregate};
 use std::alloc::{AllocError, Global};
@@ -127,10 +127,12 @@ fn tagged(alloc: Global, metric: &Name, series: &[Tags], dps: Dots) -> Result<Gr
     ensures group { IfOk result (λ group. plain group ≡ group_of true metric.now series.now dps) }
     ensures ready { IfOk result IsReady }
 {
+    let metric = metric.again(alloc)?;
+    let (tags, aggregate_tags) = shared(alloc, series)?;
     Ok(Group {
-        metric: metric.again(alloc)?,
-        tags: shared_pairs(alloc, series)?,
-        aggregate_tags: aggregate_keys(alloc, series)?,
+        metric,
+        tags,
+        aggregate_tags,
         dps,
         ms: true,
     })

@@ -9,7 +9,6 @@ pub mod laws;
 mod naming;
 mod row_dots;
 pub mod series;
-mod shared;
 mod titling;
 mod working;
 

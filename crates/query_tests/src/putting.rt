@@ -1,24 +1,21 @@
 //! Puts of points by the ids that their names are found to have.
-ghost use Rattle.std.specs.Prelude.{◌≡◌, ◌≤◌, ◌%◌, [], ◌∷◌, length, IsTrue, IfOk, IfSome};
+ghost use Rattle.std.specs.Prelude.{◌≡◌, ◌≤◌, IsTrue, IfOk, IfSome};
 ghost use Rattle.tsd_base.specs.Alphabet.{IsName};
 ghost use Rattle.tsd_base.specs.Points.{data_point};
-ghost use Rattle.row_key.specs.Key.{IsKey, key_bytes};
-ghost use Rattle.qual_codec.specs.Dots.{IsDots};
-ghost use Rattle.qual_codec.specs.Spelling.{IsShortest, dot_of};
 ghost use Rattle.cell_model.specs.Ids.{id_bytes};
 ghost use Rattle.cell_model.specs.Machine.{kind_qual};
-ghost use Rattle.cell_model.specs.Readings.{point_row};
 ghost use Rattle.cell_solo.specs.Turns.{sight};
 ghost use Rattle.store_tests.specs.Others.{Passes};
 ghost use Rattle.query_tests.specs.Puts.{IsBytesOf, KnowsId, KnowsKey, KnowsPair, KnowsTags};
 
 use crate::merging::value_at;
 use arrayvec::ArrayVec;
-use cell_model::{Row, Rows};
+use cell_model::Rows;
 use cell_solo::Solo;
 use map_body::MapBody;
-use qual_codec::{Bytes, Item, laws, pack_item, pack_value};
-use row_key::{RowKey, Table, write_key};
+use point_put::cells::{qualifier_of, row_of, value_of};
+use qual_codec::Bytes;
+use row_key::RowKey;
 use std::alloc::{AllocError, Global};
 use store_tests::other::{bytes_of_id, id_in, row_of_name};
 use tsd_base::kinds::Kind;
@@ -143,40 +140,6 @@ fn key_of(
         base: base_of(point.time),
         pairs,
     }))
-}
-
-/// The row of a key.
-fn row_of(alloc: Global, key: &RowKey) -> Result<Row, AllocError>
-    requires { IsKey key.now }
-    ensures { IfOk result (λ row. row ≡ point_row (key_bytes key.now)) }
-{
-    let bytes = write_key(key);
-    Ok(Row {
-        table: Table::Points,
-        bytes: Bytes::of(alloc, bytes.as_slice())?,
-    })
-}
-
-/// The shortest bytes of a point's value.
-fn value_of(point: &Point) -> Bytes
-    ensures { IsShortest point.now.value result }
-{
-    let bytes = pack_value(point.value);
-    Bytes::short(bytes.as_slice())
-}
-
-/// The qualifier of a point whose value has these bytes.
-fn qualifier_of(point: &Point, value: &[u8]) -> Bytes
-    requires { IsShortest point.now.value value.now }
-    ensures { IsDots result value.now (dot_of (point.now.time % 3600000) point.now.fine point.now.value (length value.now) ∷ []) }
-{
-    laws::points_read_back();
-    let bytes = pack_item(Item {
-        offset: (point.time % 3600000) as u32,
-        fine: point.fine,
-        len: value.len() as u8,
-    });
-    Bytes::short(bytes.as_slice())
 }
 
 /// The step of caller 2 that puts a point in the row of its key.
