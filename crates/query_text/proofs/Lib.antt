@@ -1,1 +1,4 @@
-pub mod Metrics
+mod Lower
+pub mod Parts
+pub mod FilterParts
+pub mod Plain

@@ -1,2 +1,6 @@
 pub mod Aggregators
+pub mod Cuts
+pub mod Downs
+pub mod FilterTexts
 pub mod Subs
+pub mod PlainSubs

@@ -1,69 +1,73 @@
 -- Sub queries in text.
-use Rattle.std.specs.Prelude.{◌≡◌, ℕ, ◌+◌, Bool, false, ◌&&◌, ◌||◌, nat_eq, List, [], length, take, drop, position, Option, None, Some, is_some, Result, Ok, Err, if◌then◌else◌}
-use Rattle.std.specs.List.{list_any}
+use Rattle.std.specs.Prelude.{◌≡◌, ℕ, ◌+◌, ◌-◌, Bool, ◌||◌, List, codes, length, take, drop, Option, None, Some, Result, Ok, Err, if◌then◌else◌}
+use Rattle.std.specs.Option.{option_map}
 use Rattle.tsd_base.specs.Alphabet.{is_name}
+use Rattle.tsd_base.specs.Tags.{is_same}
 use Rattle.tsd_base.specs.declared.kinds.Aggregator.{Aggregator}
-use Rattle.tsd_base.specs.declared.names.NameFault.{NameFault}
-use Rattle.tsd_base.specs.declared.names.NameFault.TheVariants.{OutOfMemory as NoMemory}
+use Rattle.tsd_base.specs.declared.kinds.Down.{Down}
 use Rattle.query_text.specs.Aggregators.{aggregator_named}
+use Rattle.query_text.specs.Cuts.{place_of, before}
+use Rattle.query_text.specs.Downs.{down_of}
+use Rattle.query_text.specs.FilterTexts.{filters_of}
+use Rattle.query_text.specs.declared.queries.Filter.{Filter}
 use Rattle.query_text.specs.declared.queries.Sub.{Sub}
 use Rattle.query_text.specs.declared.queries.QueryFault.{QueryFault}
-use Rattle.query_text.specs.declared.queries.QueryFault.TheVariants.{BadM, UnknownAggregator, OutOfMemory}
-
--- the place of the first such byte
-abbrev pub place_of : ℕ → List ℕ → Option ℕ
-place_of byte text = position (λ b. nat_eq b byte) text
-
-abbrev pub has_byte : ℕ → List ℕ → Bool
-has_byte byte text = list_any (λ b. nat_eq b byte) text
-
-abbrev pub up_to : List ℕ → Option ℕ → List ℕ
-up_to text None = text
-up_to text (Some at) = take at text
+use Rattle.query_text.specs.declared.queries.QueryFault.TheVariants.{BadM, UnknownAggregator, RateRefused, BadDownsample, OutOfMemory}
 
 -- what stands before the first `{`
 abbrev pub head_of : List ℕ → List ℕ
-head_of text = up_to text (place_of 123 text)
+head_of text = before 123 text
 
 -- the place of the first `:` of the head
 abbrev pub colon_of : List ℕ → Option ℕ
 colon_of text = place_of 58 (head_of text)
 
--- what an aggregator asks of the metric whose name begins at this place
-abbrev pub metric_by : Option Aggregator → ℕ → List ℕ → Result (Aggregator × List ℕ) QueryFault
-metric_by None at metric = Err UnknownAggregator
-metric_by (Some how) at metric = if is_name metric then Ok (how, metric) else Err (BadM at)
+-- the same from this place on
+abbrev pub colon_from : List ℕ → ℕ → Option ℕ
+colon_from text from = option_map (λ n. from + n) (place_of 58 (drop from (head_of text)))
 
-abbrev pub m_at : List ℕ → Option ℕ → Result (Aggregator × List ℕ) QueryFault
-m_at text None = Err (BadM (length (head_of text)))
-m_at text (Some colon) = metric_by (aggregator_named (take colon text)) (colon + 1) (drop (colon + 1) text)
+-- the text goes on with a rate
+abbrev pub asks_rate : List ℕ → Bool
+asks_rate text = is_same (take 5 text) (codes "rate:") || is_same (take 5 text) (codes "rate{")
 
--- The aggregator before the first `:`, and the metric whose name stands behind it, or the first fault: there is no `:` in the head, which is
--- told at the head's end; there is no such aggregator; what stands behind is no name.
-abbrev pub m_of : List ℕ → Result (Aggregator × List ℕ) QueryFault
-m_of text = m_at text (colon_of text)
+abbrev pub sub_with : Aggregator → Option Down → List ℕ → Result (List Filter) QueryFault → Result Sub QueryFault
+sub_with how down metric (Ok filters) = Ok (record { how = how; down = down; metric = metric; filters = filters })
+sub_with how down metric (Err fault) = Err fault
 
-abbrev pub more_at : List ℕ → Option ℕ → Bool
-more_at text None = false
-more_at text (Some colon) = is_some (aggregator_named (take colon text)) && (has_byte 58 (drop (colon + 1) text) || has_byte 123 (drop (colon + 1) text))
+-- the rest of the head is the metric's name, and the filters stand behind it
+abbrev pub sub_by_metric : List ℕ → Aggregator → Option Down → ℕ → Result Sub QueryFault
+sub_by_metric text how down at =
+    if is_name (drop at (head_of text)) then sub_with how down (drop at (head_of text)) (filters_of text) else Err (BadM at)
 
--- behind an aggregator and its `:` there is one more `:` or a `{`
-abbrev pub asks_more : List ℕ → Bool
-asks_more text = more_at text (colon_of text)
+abbrev pub unless_colon : Option ℕ → Result Sub QueryFault → Result Sub QueryFault
+unless_colon None sub = sub
+unless_colon (Some at) sub = Err (BadM at)
 
--- all series of the metric, as they are, by the aggregator
-pub record AsksAll (sub : Sub) (asked : Result (Aggregator × List ℕ) QueryFault) : Type 0 where
-  pub asked_is : asked ≡ Ok (sub.how, sub.metric)
-  pub down : sub.down ≡ None
-  pub filters : sub.filters ≡ []
+-- behind a downsample stands the metric
+abbrev pub sub_by_down : List ℕ → Aggregator → ℕ → Option Down → Result Sub QueryFault
+sub_by_down text how at None = Err BadDownsample
+sub_by_down text how at (Some down) =
+    if asks_rate (drop at text) then Err RateRefused else unless_colon (colon_from text at) (sub_by_metric text how (Some down) at)
+
+-- where one more `:` stands in the head, the piece before it is a downsample
+abbrev pub sub_by_colon : Bool → List ℕ → Aggregator → ℕ → Option ℕ → Result Sub QueryFault
+sub_by_colon ms text how at None = sub_by_metric text how None at
+sub_by_colon ms text how at (Some colon) = sub_by_down text how (colon + 1) (down_of ms (take (colon - at) (drop at text)))
+
+abbrev pub sub_by_aggregator : Bool → List ℕ → ℕ → Option Aggregator → Result Sub QueryFault
+sub_by_aggregator ms text at None = Err UnknownAggregator
+sub_by_aggregator ms text at (Some how) = if asks_rate (drop at text) then Err RateRefused else sub_by_colon ms text how at (colon_from text at)
+
+abbrev pub sub_from : Bool → List ℕ → Option ℕ → Result Sub QueryFault
+sub_from ms text None = Err (BadM (length (head_of text)))
+sub_from ms text (Some colon) = sub_by_aggregator ms text (colon + 1) (aggregator_named (take colon text))
+
+-- An aggregator, perhaps a downsample, and a metric, with a `:` between them, and then the filters; or the first fault from the left.
+abbrev pub sub_of : Bool → List ℕ → Result Sub QueryFault
+sub_of ms text = sub_from ms text (colon_of text)
 
 -- the sub query that is asked, or the fault; want of memory may always be told
-abbrev pub GivesM : Result Sub QueryFault → Result (Aggregator × List ℕ) QueryFault → Type 0
-GivesM (Ok sub) asked = AsksAll sub asked
-GivesM (Err OutOfMemory) asked = Unit {0}
-GivesM (Err fault) asked = asked ≡ Err fault
-
--- what is told of a metric that can't be read as a name
-abbrev pub metric_fault : NameFault → ℕ → QueryFault
-metric_fault NoMemory at = OutOfMemory
-metric_fault fault at = BadM at
+abbrev pub GivesSub : Result Sub QueryFault → Result Sub QueryFault → Type 0
+GivesSub (Ok sub) asked = asked ≡ Ok sub
+GivesSub (Err OutOfMemory) asked = Unit {0}
+GivesSub (Err fault) asked = asked ≡ Err fault

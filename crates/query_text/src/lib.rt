@@ -2,6 +2,9 @@
 #![tactic(auto)]
 
 mod aggregators;
+mod cuts;
+mod downs;
+mod filters;
 pub mod queries;
 pub mod subs;
 #[cfg(test)]

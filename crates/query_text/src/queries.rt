@@ -1,6 +1,7 @@
 //! What queries ask.
 ghost use Rattle.std.specs.Prelude.{◌≡◌};
 
+use std::alloc::AllocError;
 use std::marker::Model;
 use tsd_base::kinds::{Aggregator, Down};
 use tsd_base::names::Name;
@@ -171,6 +172,23 @@ pub enum QueryFault {
     BadM { at: usize },
     /// What stands before the first `:` is no aggregator.
     UnknownAggregator,
+    /// A rate is asked.
+    RateRefused,
+    /// What stands before a further `:` is no downsample, or one that is no whole seconds where times are told in seconds.
+    BadDownsample,
+    /// The filter with this number, from 0 in both parts, can't be read.
+    BadFilter { index: usize },
     /// There was no memory for the query.
     OutOfMemory,
+}
+
+impl From<AllocError> for QueryFault {
+    ghost use Rattle.std.specs.Prelude.{◌≡◌};
+    ghost use Rattle.query_text.specs.declared.queries.QueryFault.TheVariants.{OutOfMemory};
+
+    ghost from_gives = { λ _ fault. fault ≡ OutOfMemory };
+
+    fn from(_error: AllocError) -> QueryFault {
+        QueryFault::OutOfMemory
+    }
 }

@@ -1,65 +1,115 @@
 //! Sub queries in text.
 ghost use Rattle.std.specs.Prelude.{◌≡◌, ◌+◌, ◌<◌, ◌≤◌, false, ◌||◌, length, Some, IfSome};
-ghost use Rattle.query_text.specs.Subs.{GivesM, asks_more, has_byte, head_of, m_of, metric_by, metric_fault, place_of};
+ghost use Rattle.query_text.specs.Cuts.{has_byte, place_of};
+ghost use Rattle.query_text.specs.PlainSubs.{asks_more, m_of, GivesM};
+ghost use Rattle.query_text.specs.Subs.{asks_rate, colon_from, head_of, sub_by_aggregator, sub_by_down, sub_by_metric, sub_of, GivesSub};
 
 use crate::aggregators::aggregator_named;
+use crate::cuts::{name_of, place_of};
+use crate::downs::read_down;
+use crate::filters::read_filters;
 use crate::queries::{FilterList, QueryFault, Sub};
 use std::alloc::Global;
-use tsd_base::kinds::Aggregator;
-use tsd_base::names::{Name, NameFault};
+use tsd_base::kinds::{Aggregator, Down};
 
 /// Whether the text asks for more than all series of a metric: behind the `:` of an aggregator there is one more `:` or a `{`.
 pub fn asks_more(text: &[u8]) -> bool
     ensures { result ≡ asks_more text.now }
 {
-    match colon_at(head(text)) {
+    match place_of(head(text), b':') {
         Some(colon) => { aggregator_named(&text[..colon]).is_some() && goes_on(&text[colon + 1..]) }
         None => false,
     }
 }
 
-/// Reads a sub query `aggregator:metric`.
-///
-/// Without a `:` before the first `{`, the text is told to be bad where its head ends, and the aggregator isn't judged. What stands
-/// behind the `:` is the name of the metric, or else the fault tells its place. `ms` says whether times are answered in milliseconds;
-/// it is without effect yet, as it decides only on downsampling.
+/// Reads a sub query: an aggregator, perhaps a downsample, and a metric, with a `:` between them, and then at most two parts of
+/// filters in braces, of which the first ones group. Where `ms` is false a downsample's interval has to be whole seconds. It
+/// answers the first fault from the left.
 pub fn read_m(alloc: Global, text: &[u8], ms: bool) -> Result<Sub, QueryFault>
-    requires { asks_more text.now ≡ false }
-    ensures { GivesM result (m_of text.now) }
+    ensures sub { GivesSub result (sub_of ms text.now) }
+    ensures plain { asks_more text.now ≡ false → GivesM result (m_of text.now) }
 {
     let head = head(text);
-    let Some(colon) = colon_at(head) else {
+    let Some(colon) = place_of(head, b':') else {
         return Err(QueryFault::BadM { at: head.len() });
     };
     match aggregator_named(&text[..colon]) {
-        Some(how) => read_metric(alloc, how, colon + 1, &text[colon + 1..]),
+        Some(how) => behind_aggregator(alloc, text, how, colon + 1, ms),
         None => Err(QueryFault::UnknownAggregator),
     }
 }
 
-/// Reads the metric, whose name begins at this place.
-fn read_metric(alloc: Global, how: Aggregator, at: usize, metric: &[u8]) -> Result<Sub, QueryFault>
-    ensures { GivesM result (metric_by (Some how) at metric.now) }
+/// Reads what stands behind the aggregator and its `:`, from this place on.
+fn behind_aggregator(
+    alloc: Global,
+    text: &[u8],
+    how: Aggregator,
+    at: usize,
+    ms: bool,
+) -> Result<Sub, QueryFault>
+    requires { at ≤ length (head_of text.now) }
+    ensures { GivesSub result (sub_by_aggregator ms text.now at (Some how)) }
 {
-    match Name::read(alloc, metric) {
-        Ok(metric) => Ok(Sub {
-            how,
-            down: None,
-            metric,
-            filters: FilterList::of(Vec::new(alloc)),
-        }),
-        Err(fault) => Err(metric_fault(fault, at)),
+    if asks_rate(&text[at..]) {
+        return Err(QueryFault::RateRefused);
+    }
+    match colon_from(text, at) {
+        Some(colon) => behind_down(alloc, text, how, read_down(&text[at..colon], ms), colon + 1),
+        None => read_metric(alloc, text, how, None, at),
     }
 }
 
-/// What is told of a metric that can't be read as a name.
-fn metric_fault(fault: NameFault, at: usize) -> QueryFault
-    ensures { result ≡ metric_fault fault at }
+/// Reads what stands behind a downsample and its `:`, from this place on.
+fn behind_down(
+    alloc: Global,
+    text: &[u8],
+    how: Aggregator,
+    down: Option<Down>,
+    at: usize,
+) -> Result<Sub, QueryFault>
+    requires { at ≤ length (head_of text.now) }
+    ensures { GivesSub result (sub_by_down text.now how at down) }
 {
-    match fault {
-        NameFault::OutOfMemory => QueryFault::OutOfMemory,
-        _ => QueryFault::BadM { at },
+    let Some(down) = down else {
+        return Err(QueryFault::BadDownsample);
+    };
+    if asks_rate(&text[at..]) {
+        return Err(QueryFault::RateRefused);
     }
+    match colon_from(text, at) {
+        Some(further) => Err(QueryFault::BadM { at: further }),
+        None => read_metric(alloc, text, how, Some(down), at),
+    }
+}
+
+/// Reads the metric, whose name begins at this place, and the filters behind it.
+fn read_metric(
+    alloc: Global,
+    text: &[u8],
+    how: Aggregator,
+    down: Option<Down>,
+    at: usize,
+) -> Result<Sub, QueryFault>
+    requires { at ≤ length (head_of text.now) }
+    ensures { GivesSub result (sub_by_metric text.now how down at) }
+{
+    let Some(metric) = name_of(alloc, &head(text)[at..])? else {
+        return Err(QueryFault::BadM { at });
+    };
+    let filters = read_filters(alloc, text)?;
+    Ok(Sub {
+        how,
+        down,
+        metric,
+        filters: FilterList::of(filters),
+    })
+}
+
+/// Whether the text goes on with a rate.
+fn asks_rate(text: &[u8]) -> bool
+    ensures { result ≡ asks_rate text.now }
+{
+    text.starts_with(b"rate:") || text.starts_with(b"rate{")
 }
 
 /// What stands before the first `{`.
@@ -67,26 +117,24 @@ fn head(text: &[u8]) -> &[u8]
     ensures head { result.now ≡ head_of text.now }
     ensures within { length result.now ≤ length text.now }
 {
-    match brace_at(text) {
+    match place_of(text, b'{') {
         Some(at) => &text[..at],
         None => text,
     }
 }
 
-/// The place of the first `{`.
-fn brace_at(text: &[u8]) -> Option<usize>
-    ensures place { result ≡ place_of 123 text.now }
-    ensures within { IfSome result (λ at. at < length text.now) }
+/// The place of the first `:` of the head from this place on.
+fn colon_from(text: &[u8], from: usize) -> Option<usize>
+    requires { from ≤ length (head_of text.now) }
+    ensures place { result ≡ colon_from text.now from }
+    ensures from { IfSome result (λ at. from ≤ at) }
+    ensures within { IfSome result (λ at. at < length (head_of text.now)) }
 {
-    text.iter().position(|b| *b == b'{')
-}
-
-/// The place of the first `:`.
-fn colon_at(text: &[u8]) -> Option<usize>
-    ensures place { result ≡ place_of 58 text.now }
-    ensures within { IfSome result (λ at. at < length text.now) }
-{
-    text.iter().position(|b| *b == b':')
+    let head = head(text);
+    match place_of(&head[from..], b':') {
+        Some(n) => Some(from + n),
+        None => None,
+    }
 }
 
 /// Whether the text has a `:` or a `{`.

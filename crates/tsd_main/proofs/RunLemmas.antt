@@ -1,6 +1,6 @@
 -- What is printed, and its status.
 use Rattle.std.proofs.Common.{◌≡◌, ⊎_elim, ℕ, ℤ, ◌*◌, ◌<◌, Bool, true, false, cond, List, [], ◌++◌, refl, sym, ap, subst, ◌∙◌, arith}
-use Rattle.std.specs.Prelude.{Option, Some, None, Result, Ok, Err, codes, decimal}
+use Rattle.std.specs.Prelude.{Option, Some, None, Result, Ok, Err, codes}
 use Rattle.std.proofs.KnownBytes.{Appends-nil, Consumes-nil}
 use Rattle.std.proofs.lemmas.Bool.{false≢true}
 use Rattle.std.specs.Io.KnownBytes.{Appends}
@@ -18,6 +18,8 @@ use Rattle.tsd_main.specs.Queries.{Asked, asked_of}
 use Rattle.tsd_main.specs.QueriesRead.{GivesQuery, IsQueryOf}
 use Rattle.tsd_main.specs.declared.gathered.Gathered.{Gathered}
 use Rattle.tsd_main.specs.declared.input.BadLine.{BadLine}
+use Rattle.query_text.specs.declared.queries.QueryFault.TheVariants.{BadM, UnknownAggregator, RateRefused, BadDownsample, BadFilter, OutOfMemory as NoMemory}
+use Rattle.tsd_main.specs.Queries.{fault_text}
 use Rattle.tsd_main.specs.declared.query.NoQuery.{NoQuery}
 use Rattle.tsd_main.specs.declared.query.NoQuery.TheVariants as query
 use Rattle.tsd_main.specs.Inputs.{IsPointsOf, IsUnrefused, ReadsInputTo}
@@ -170,9 +172,12 @@ module _ (taken left : Option (List ℕ)) where
 
   pub refuses_query : (batch : Batch) (fault : NoQuery) (printed : Printed) → GivesQuery (Err fault) batch → RefusesQuery fault printed → Works (Some batch) taken taken left left (Ok printed)
   refuses_query batch query.NotBuilt printed asked is = refuses_text batch (codes "not built") printed asked is
-  refuses_query batch (query.BadM at) printed asked is = refuses_text batch (codes "bad query at byte " ++ decimal at) printed asked is
-  refuses_query batch query.UnknownAggregator printed asked is = refuses_text batch (codes "unknown aggregator") printed asked is
-  refuses_query batch query.OutOfMemory printed asked is = absurd is
+  refuses_query batch (query.Refused (BadM at)) printed asked is = refuses_text batch (fault_text (BadM at)) printed asked is
+  refuses_query batch (query.Refused UnknownAggregator) printed asked is = refuses_text batch (fault_text UnknownAggregator) printed asked is
+  refuses_query batch (query.Refused RateRefused) printed asked is = refuses_text batch (fault_text RateRefused) printed asked is
+  refuses_query batch (query.Refused BadDownsample) printed asked is = refuses_text batch (fault_text BadDownsample) printed asked is
+  refuses_query batch (query.Refused (BadFilter index)) printed asked is = refuses_text batch (fault_text (BadFilter index)) printed asked is
+  refuses_query batch (query.Refused NoMemory) printed asked is = absurd is
 
 -- the input wasn't read to an answer
 pub not_read : (query : Query) (taken taken' left left' : Option (List ℕ)) (g : Gathered) (f : InputFault) → ReadsInputTo query.ms taken taken' left left' g (Err f) → WorksQuery query taken taken' left left' (Err f)

@@ -1,9 +1,9 @@
 -- The text of a query, as far as it is built.
 use Rattle.std.specs.Prelude.{ℕ, List, [], ◌++◌, codes, decimal, Result, Ok, Err, if◌then◌else◌}
 use Rattle.tsd_base.specs.declared.kinds.Aggregator.{Aggregator}
-use Rattle.query_text.specs.Subs.{asks_more, m_of}
+use Rattle.query_text.specs.PlainSubs.{asks_more, m_of}
 use Rattle.query_text.specs.declared.queries.QueryFault.{QueryFault}
-use Rattle.query_text.specs.declared.queries.QueryFault.TheVariants.{BadM, UnknownAggregator, OutOfMemory}
+use Rattle.query_text.specs.declared.queries.QueryFault.TheVariants.{BadM, UnknownAggregator, RateRefused, BadDownsample, BadFilter, OutOfMemory}
 
 -- an aggregator, and the metric whose series it makes one
 abbrev pub Asked : Type 0
@@ -13,6 +13,9 @@ Asked = Aggregator × List ℕ
 abbrev pub fault_text : QueryFault → List ℕ
 fault_text (BadM at) = codes "bad query at byte " ++ decimal at
 fault_text UnknownAggregator = codes "unknown aggregator"
+fault_text RateRefused = codes "rate is not supported"
+fault_text BadDownsample = codes "bad downsample"
+fault_text (BadFilter index) = codes "bad filter " ++ decimal index
 fault_text OutOfMemory = []
 
 abbrev pub or_text : Result Asked QueryFault → Result Asked (List ℕ)

@@ -1,18 +1,12 @@
 -- What reading a query gives.
-use Rattle.std.specs.Prelude.{◌≡◌, ◌*◌, ◌++◌, codes, decimal, Result, Ok, Err}
-use Rattle.query_text.specs.declared.queries.QueryFault.{QueryFault}
-use Rattle.query_text.specs.declared.queries.QueryFault.TheVariants as fault
+use Rattle.std.specs.Prelude.{◌≡◌, ◌*◌, codes, Result, Ok, Err}
+use Rattle.query_text.specs.declared.queries.QueryFault.TheVariants.{OutOfMemory}
 use Rattle.tsd_main.specs.declared.query.Query.{Query}
 use Rattle.tsd_main.specs.declared.query.NoQuery.{NoQuery}
-use Rattle.tsd_main.specs.declared.query.NoQuery.TheVariants.{NotBuilt, BadM, UnknownAggregator, OutOfMemory}
+use Rattle.tsd_main.specs.declared.query.NoQuery.TheVariants.{NotBuilt, Refused}
 use Rattle.query_run.specs.Queries.{IsPlain}
 use Rattle.tsd_main.specs.Commands.{Batch}
-use Rattle.tsd_main.specs.Queries.{asked_of}
-
-abbrev pub no_query_of : QueryFault → NoQuery
-no_query_of (fault.BadM at) = BadM at
-no_query_of fault.UnknownAggregator = UnknownAggregator
-no_query_of fault.OutOfMemory = OutOfMemory
+use Rattle.tsd_main.specs.Queries.{asked_of, fault_text}
 
 -- all series of the metric by the aggregator, and the range in milliseconds
 pub record IsQueryOf (query : Query) (batch : Batch) : Type 0 where
@@ -26,6 +20,5 @@ pub record IsQueryOf (query : Query) (batch : Batch) : Type 0 where
 abbrev pub GivesQuery : Result Query NoQuery → Batch → Type 0
 GivesQuery (Ok query) batch = IsQueryOf query batch
 GivesQuery (Err NotBuilt) batch = asked_of batch.query ≡ Err (codes "not built")
-GivesQuery (Err UnknownAggregator) batch = asked_of batch.query ≡ Err (codes "unknown aggregator")
-GivesQuery (Err (BadM at)) batch = asked_of batch.query ≡ Err (codes "bad query at byte " ++ decimal at)
-GivesQuery (Err OutOfMemory) batch = Unit {0}
+GivesQuery (Err (Refused OutOfMemory)) batch = Unit {0}
+GivesQuery (Err (Refused fault)) batch = asked_of batch.query ≡ Err (fault_text fault)

@@ -1,10 +1,12 @@
 -- How a query is worked.
-use Rattle.std.specs.Prelude.{◌≡◌, ℕ, ◌^◌, ◌<◌, ◌≤◌, Bool, true, false, List, ◌++◌, length, codes, decimal, Option, Result, Ok, Err}
+use Rattle.std.specs.Prelude.{◌≡◌, ℕ, ◌^◌, ◌<◌, ◌≤◌, Bool, true, false, List, ◌++◌, length, codes, Option, Result, Ok, Err}
 use Rattle.std.specs.Io.KnownBytes.{Appends, Consumes, IsAtEnd}
 use Rattle.tsd_base.specs.Points.{DataPoint}
 use Rattle.tsd_main.specs.declared.query.Query.{Query}
 use Rattle.tsd_main.specs.declared.query.NoQuery.{NoQuery}
 use Rattle.tsd_main.specs.declared.query.NoQuery.TheVariants as query
+use Rattle.query_text.specs.declared.queries.QueryFault.TheVariants.{OutOfMemory as NoMemory}
+use Rattle.tsd_main.specs.Queries.{fault_text}
 use Rattle.tsd_main.specs.declared.input.InputFault.{InputFault}
 use Rattle.tsd_main.specs.declared.input.InputFault.TheVariants.{Failed, Full, OutOfMemory}
 use Rattle.tsd_main.specs.declared.printed.Printed.{Printed}
@@ -17,9 +19,8 @@ use Rattle.tsd_main.specs.Printing.{outcome_of, query_outcome}
 -- the refusal of a query; want of memory is none
 abbrev pub RefusesQuery : NoQuery → Printed → Type 0
 RefusesQuery query.NotBuilt printed = outcome_of printed ≡ refused (codes "query: " ++ codes "not built")
-RefusesQuery (query.BadM at) printed = outcome_of printed ≡ refused (codes "query: " ++ (codes "bad query at byte " ++ decimal at))
-RefusesQuery query.UnknownAggregator printed = outcome_of printed ≡ refused (codes "query: " ++ codes "unknown aggregator")
-RefusesQuery query.OutOfMemory printed = ⊥
+RefusesQuery (query.Refused NoMemory) printed = ⊥
+RefusesQuery (query.Refused fault) printed = outcome_of printed ≡ refused (codes "query: " ++ fault_text fault)
 
 -- the outcome of a query over the points of lines, or over the first line that is refused
 abbrev pub over_lines : Query → Result (List DataPoint) (ℕ × List ℕ) → Outcome

@@ -1,7 +1,7 @@
 //! The query of a batch.
 ghost use Rattle.std.specs.Prelude.{◌≡◌, ◌≤◌, ◌*◌};
 ghost use Rattle.tsd_main.specs.Batches.{plain_batch};
-ghost use Rattle.tsd_main.specs.QueriesRead.{GivesQuery, no_query_of};
+ghost use Rattle.tsd_main.specs.QueriesRead.{GivesQuery};
 
 use crate::command::Batch;
 use query_text::queries::{QueryFault, Sub};
@@ -23,11 +23,8 @@ pub struct Query {
 pub enum NoQuery {
     /// The text asks for what isn't built yet.
     NotBuilt,
-    /// The text is no query from this byte on.
-    BadM { at: usize },
-    /// There is no such aggregator.
-    UnknownAggregator,
-    OutOfMemory,
+    /// The text is no query, or there was no memory for it.
+    Refused { fault: QueryFault },
 }
 
 /// Reads the query of a batch.
@@ -41,7 +38,7 @@ pub fn read_query(alloc: Global, batch: &Batch<'_>) -> Result<Query, NoQuery>
     }
     match read_m(alloc, batch.query, false) {
         Ok(sub) => Ok(query_of(sub, batch)),
-        Err(fault) => Err(no_query(fault)),
+        Err(fault) => Err(NoQuery::Refused { fault }),
     }
 }
 
@@ -59,15 +56,5 @@ fn query_of(sub: Sub, batch: &Batch<'_>) -> Query
         start: batch.start * 1000,
         end: batch.end * 1000,
         ms: batch.ms,
-    }
-}
-
-fn no_query(fault: QueryFault) -> NoQuery
-    ensures { result ≡ no_query_of fault }
-{
-    match fault {
-        QueryFault::BadM { at } => NoQuery::BadM { at },
-        QueryFault::UnknownAggregator => NoQuery::UnknownAggregator,
-        QueryFault::OutOfMemory => NoQuery::OutOfMemory,
     }
 }

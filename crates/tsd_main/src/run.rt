@@ -1,11 +1,12 @@
 //! The top call: everything that the program does.
-ghost use Rattle.std.specs.Prelude.{◌≡◌, ◌≤◌, map, string_bytes, Some, Err, IfOk};
+ghost use Rattle.std.specs.Prelude.{◌≡◌, ◌≢◌, ◌≤◌, ◌++◌, map, string_bytes, Some, Err, IfOk, IsOk, OnOk};
 ghost use Rattle.query_run.specs.Queries.{IsPlain};
 ghost use Rattle.tsd_io.specs.Causes.{Rose};
 ghost use Rattle.tsd_main.specs.Batches.{plain_batch};
 ghost use Rattle.tsd_main.specs.Commands.{command_of, usage_line};
 ghost use Rattle.tsd_main.specs.Outcomes.{refused_line};
 ghost use Rattle.tsd_main.specs.Printing.{outcome_of};
+ghost use Rattle.tsd_main.specs.Queries.{fault_text};
 ghost use Rattle.tsd_main.specs.Runs.{Runs, Works};
 ghost use Rattle.tsd_main.specs.Working.{RefusesQuery, WorksQuery};
 
@@ -16,6 +17,7 @@ use crate::input::{BadLine, InputFault, read_points};
 use crate::printed::{Printed, push_number};
 use crate::query::{NoQuery, Query, read_query};
 use crate::status::Status;
+use query_text::queries::QueryFault;
 use std::alloc::{AllocError, Global};
 use tsd_io::give_all::give_all;
 use tsd_io::ports::{Failed, Sink, Source};
@@ -115,14 +117,30 @@ fn bad_query(alloc: Global, fault: NoQuery) -> Result<Printed, AllocError>
     let mut text = Vec::from_slice(alloc, b"query: ")?;
     match fault {
         NoQuery::NotBuilt => text.extend_from_slice(b"not built")?,
-        NoQuery::BadM { at } => {
-            text.extend_from_slice(b"bad query at byte ")?;
-            push_number(&mut text, at as u64)?;
-        }
-        NoQuery::UnknownAggregator => text.extend_from_slice(b"unknown aggregator")?,
-        NoQuery::OutOfMemory => return Err(AllocError),
+        NoQuery::Refused { fault } => push_fault(&mut text, fault)?,
     }
     Printed::refused(text)
+}
+
+/// Adds the text of a fault. Want of memory has none, and fails.
+fn push_fault(text: &mut Vec<u8>, fault: QueryFault) -> Result<(), AllocError>
+    ensures text { OnOk result (text.new.items ≡ text.old.items ++ fault_text fault) }
+    ensures told { IsOk result → fault ≢ QueryFault.OutOfMemory }
+{
+    match fault {
+        QueryFault::BadM { at } => {
+            text.extend_from_slice(b"bad query at byte ")?;
+            push_number(text, at as u64)
+        }
+        QueryFault::UnknownAggregator => text.extend_from_slice(b"unknown aggregator"),
+        QueryFault::RateRefused => text.extend_from_slice(b"rate is not supported"),
+        QueryFault::BadDownsample => text.extend_from_slice(b"bad downsample"),
+        QueryFault::BadFilter { index } => {
+            text.extend_from_slice(b"bad filter ")?;
+            push_number(text, index as u64)
+        }
+        QueryFault::OutOfMemory => Err(AllocError),
+    }
 }
 
 /// The refusal of a line.

@@ -8,7 +8,7 @@ use Rattle.tsd_main.proofs.query.read_query.Goals as goal
 
 pub returns-in-Ok : goal.returns-in-Ok
 returns-in-Ok c =
-    let ok = c.in-Ok.ensures in
+    let ok = c.in-Ok.ensures.plain (sym c.if-asks_more.ensures) in
     let q = c.query_of.ensures in
     record {
       asked = asked_is c.args.batch.now.query.now _ (sym c.if-asks_more.ensures) ok.asked_is ∙ ap (λ (s : Sub). Ok (s.how, s.metric)) (sym q.sub);
@@ -19,4 +19,6 @@ returns-in-Ok c =
     }
 
 pub returns-in-Err : goal.returns-in-Err
-returns-in-Err c = rw c.no_query.ensures (told_fault c.in-Err.fault (plain_batch c.args.batch.now) (sym c.if-asks_more.ensures) c.in-Err.ensures)
+returns-in-Err c =
+    let less = sym c.if-asks_more.ensures in
+    told_fault c.in-Err.fault (plain_batch c.args.batch.now) less (c.in-Err.ensures.plain less)
