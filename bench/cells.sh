@@ -4,19 +4,11 @@
 #
 #     bench/cells.sh
 set -euo pipefail
+. "$(dirname "$0")/driver.sh"
 
-top=$(cd "$(dirname "$0")/.." && pwd)
-folder=$(mktemp -d)
-trap 'rm -rf "$folder"' EXIT
-
-mkdir -p "$folder/crates/cell_bench/src"
-cp "$top/HANDLES" "$folder"
-cp -r "$top/crates/short_bytes" "$top/crates/qual_codec" "$folder/crates"
-cp "$top/bench/cells.rt.txt" "$folder/crates/cell_bench/src/main.rt"
-printf '%s\n' 'short_bytes:' 'qual_codec: short_bytes arrayvec' 'cell_bench: qual_codec' >"$folder/crates.txt"
-rustc --edition 2024 -O -o "$folder/plain" "$top/bench/cells.rs"
+prepare cells 'qual_codec' short_bytes qual_codec
 
 echo 'read_cell:'
-(cd "$folder/crates/cell_bench" && rt run)
+run cells 2
 echo 'plain Rust:'
 "$folder/plain"

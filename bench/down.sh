@@ -4,20 +4,11 @@
 #
 #     bench/down.sh
 set -euo pipefail
+. "$(dirname "$0")/driver.sh"
 
-top=$(cd "$(dirname "$0")/.." && pwd)
-folder=$(mktemp -d)
-trap 'rm -rf "$folder"' EXIT
-
-mkdir -p "$folder/crates/down_bench/src"
-cp "$top/HANDLES" "$folder"
-cp -r "$top/crates/short_bytes" "$top/crates/tsd_base" "$top/crates/lerp_aggregate" "$top/crates/downsample" "$folder/crates"
-cp "$top/bench/down.rt.txt" "$folder/crates/down_bench/src/main.rt"
-printf '%s\n' 'short_bytes:' 'tsd_base: short_bytes itoa' 'lerp_aggregate: short_bytes tsd_base' \
-    'downsample: short_bytes tsd_base lerp_aggregate' 'down_bench: tsd_base downsample' >"$folder/crates.txt"
-rustc --edition 2024 -O -o "$folder/plain" "$top/bench/down.rs"
+prepare down 'tsd_base downsample' short_bytes tsd_base lerp_aggregate downsample
 
 echo 'down:'
-(cd "$folder/crates/down_bench" && rt run | tail -n 4)
+run down 4
 echo 'plain Rust:'
 "$folder/plain"

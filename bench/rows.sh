@@ -4,19 +4,7 @@
 #
 #     bench/rows.sh
 set -euo pipefail
+. "$(dirname "$0")/driver.sh"
 
-top=$(cd "$(dirname "$0")/.." && pwd)
-folder=$(mktemp -d)
-trap 'rm -rf "$folder"' EXIT
-
-mkdir -p "$folder/crates"
-cp "$top/HANDLES" "$folder"
-for crate in short_bytes row_key qual_codec tsd_base tsd_io cell_model row_scan; do
-    cp -r "$top/crates/$crate" "$folder/crates"
-    grep "^$crate:" "$top/crates.txt" >>"$folder/crates.txt"
-done
-cp -r "$top/bench/rows" "$folder/crates/rows_bench"
-find "$folder/crates/rows_bench" -name '*.txt' | while read -r file; do mv "$file" "${file%.txt}"; done
-echo 'rows_bench: short_bytes qual_codec cell_model row_scan' >>"$folder/crates.txt"
-
-(cd "$folder/crates/rows_bench" && rt run | tail -n 3)
+prepare rows 'short_bytes qual_codec cell_model row_scan' short_bytes row_key qual_codec tsd_base tsd_io cell_model row_scan
+run rows 3

@@ -4,21 +4,11 @@
 #
 #     bench/spans.sh
 set -euo pipefail
+. "$(dirname "$0")/driver.sh"
 
-top=$(cd "$(dirname "$0")/.." && pwd)
-folder=$(mktemp -d)
-trap 'rm -rf "$folder"' EXIT
-
-mkdir -p "$folder/crates"
-cp "$top/HANDLES" "$folder"
-cp -r "$top/crates/short_bytes" "$top/crates/row_key" "$top/crates/tsd_base" "$top/crates/span_merge" "$folder/crates"
-cp -r "$top/bench/spans" "$folder/crates/spans_bench"
-find "$folder/crates/spans_bench" -name '*.txt' | while read -r file; do mv "$file" "${file%.txt}"; done
-printf '%s\n' 'short_bytes:' 'row_key: arrayvec' 'tsd_base: short_bytes itoa' 'span_merge: row_key tsd_base' \
-    'spans_bench: tsd_base span_merge row_key' >"$folder/crates.txt"
-rustc --edition 2024 -O -o "$folder/plain" "$top/bench/spans.rs"
+prepare spans 'tsd_base span_merge row_key' short_bytes row_key tsd_base span_merge
 
 echo 'span_merge:'
-(cd "$folder/crates/spans_bench" && rt run | tail -n 1)
+run spans 1
 echo 'plain Rust:'
 "$folder/plain"
