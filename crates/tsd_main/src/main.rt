@@ -1,32 +1,13 @@
 //! `tsd`, a time-series database. The program reads its words, does what they ask and ends with a status.
 #![tactic(auto)]
 
-mod answer;
-mod buffer;
-mod command;
-mod gathered;
-mod input;
-mod judging;
-mod naming;
-mod printed;
-mod putting;
-mod query;
-mod reply;
-mod run;
-mod settling;
-mod status;
-mod store;
-#[cfg(test)]
-mod tests;
-mod values;
-
-use run::run;
-use status::Status;
 use std::alloc::AllocError;
 use std::env;
 use std::io::ErrorKind;
 use std::process::ExitCode;
 use tsd_io::standard::{ReadSource, WriteSink};
+use tsd_run::run::run;
+use tsd_run::status::Status;
 
 fn main(rt: HostRuntime) -> ExitCode {
     let status = match words(&rt) {

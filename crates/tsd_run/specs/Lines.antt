@@ -1,0 +1,81 @@
+-- Lines of input, and the points that they are.
+use Rattle.std.specs.Prelude.{ℕ, ◌+◌, ◌-◌, Bool, true, false, ◌&&◌, not, nat_eq, nat_lt, List, [], ◌∷◌, ◌++◌, length, take, slice_index_or, codes, Result, Ok, Err, if◌then◌else◌}
+use Rattle.std.specs.List.{list_all}
+use Rattle.tsd_base.specs.declared.points.PointFault.{PointFault}
+use Rattle.tsd_base.specs.Faults.{point_fault_text}
+use Rattle.tsd_base.specs.Points.{DataPoint, point_of}
+use Rattle.tsd_base.specs.Words.{parts_of}
+use Rattle.tsd_base.specs.declared.kinds.Kind.{Kind}
+use Rattle.cell_model.specs.Layout.{names_of}
+use Rattle.tsd_run.specs.Ids.{Names}
+use Rattle.tsd_run.specs.Naming.{no_names, noted_all, exhausted_text}
+
+-- the bytes of a line without its LF, and whether it has one
+pub record Line : Type 0 where
+  pub bytes : List ℕ
+  pub ended : Bool
+
+-- each part that an LF ends, and the last one, that none ends
+abbrev pub lines_in : List (List ℕ) → List Line
+lines_in [] = []
+lines_in (part ∷ []) = record { bytes = part; ended = false } ∷ []
+lines_in (part ∷ next ∷ parts) = record { bytes = part; ended = true } ∷ lines_in (next ∷ parts)
+
+abbrev pub lines_of : List ℕ → List Line
+lines_of input = lines_in (parts_of 10 input)
+
+-- without one CR at the end
+abbrev pub without_cr : List ℕ → List ℕ
+without_cr bytes = if nat_eq (slice_index_or bytes (length bytes - 1) 0) 13 then take (length bytes - 1) bytes else bytes
+
+-- a CR is dropped before an LF alone
+abbrev pub text_of : Line → List ℕ
+text_of line = if line.ended then without_cr line.bytes else line.bytes
+
+-- nothing but spaces
+abbrev pub is_blank : List ℕ → Bool
+is_blank text = list_all (λ b. nat_eq b 32) text
+
+-- what a line is: nothing, a point, or refused with a text
+pub data Judged : Type 0 where
+  Blank : Judged
+  Taken : DataPoint → Judged
+  Refused : List ℕ → Judged
+
+-- whether points in milliseconds are taken: ms
+abbrev pub judged_point : Bool → Result DataPoint PointFault → Judged
+judged_point ms (Ok point) = if point.fine && not ms then Refused (codes "not built") else Taken point
+judged_point ms (Err fault) = Refused (point_fault_text fault)
+
+abbrev pub judged_text : Bool → List ℕ → Judged
+judged_text ms text = if is_blank text then Blank else judged_point ms (point_of text)
+
+-- a line has at most 8,192 bytes, its CR among them
+unfoldable pub judged : Bool → Line → Judged
+judged ms line = if nat_lt 8192 (length line.bytes) then Refused (codes "line too long") else judged_text ms (text_of line)
+
+-- points that come before what was read
+abbrev pub with_points : List DataPoint → Result (List DataPoint) (ℕ × List ℕ) → Result (List DataPoint) (ℕ × List ℕ)
+with_points points (Ok more) = Ok (points ++ more)
+with_points points (Err refusal) = Err refusal
+
+-- a point whose names have their ids, and what comes behind it; or the kind of a name for which there is none
+abbrev pub with_point : DataPoint → ℕ → Result Names Kind → (Names → Result (List DataPoint) (ℕ × List ℕ)) → Result (List DataPoint) (ℕ × List ℕ)
+with_point point number (Ok names) rest = with_points (point ∷ []) (rest names)
+with_point point number (Err kind) rest = Err (number, exhausted_text kind)
+
+-- a line behind which come others, where these names have ids before it
+abbrev pub with_line : Judged → ℕ → Names → (Names → Result (List DataPoint) (ℕ × List ℕ)) → Result (List DataPoint) (ℕ × List ℕ)
+with_line Blank number names rest = rest names
+with_line (Taken point) number names rest = with_point point number (noted_all names (names_of point)) rest
+with_line (Refused text) number names rest = Err (number, text)
+
+-- the points of lines that are numbered from here, where these names have ids before them; or the number and text of the first line
+-- that is refused
+abbrev pub points_from : Bool → ℕ → Names → List Line → Result (List DataPoint) (ℕ × List ℕ)
+points_from ms number names [] = Ok []
+points_from ms number names (line ∷ lines) = with_line (judged ms line) number names (λ more. points_from ms (number + 1) more lines)
+
+-- the points of an input, whose lines count from 1
+abbrev pub points_of : Bool → List ℕ → Result (List DataPoint) (ℕ × List ℕ)
+points_of ms input = points_from ms 1 no_names (lines_of input)

@@ -1,0 +1,21 @@
+//! Everything that the program does, over any input and output.
+#![tactic(auto)]
+
+mod answer;
+mod buffer;
+mod command;
+mod gathered;
+mod input;
+mod judging;
+mod naming;
+mod printed;
+mod putting;
+mod query;
+mod reply;
+pub mod run;
+mod settling;
+pub mod status;
+mod store;
+#[cfg(test)]
+mod tests;
+mod values;
