@@ -1,5 +1,6 @@
-//! The job of `tsd batch START END M` where M is `zimsum:METRIC` or `sum:METRIC`, in plain Rust with `std` alone: what the
-//! speed of `tsd` is measured against. It accepts and refuses the same lines, and prints the same bytes.
+//! The job of `tsd batch START END M` in plain Rust with `std` alone: what the speed of `tsd` is measured against. M is
+//! `sum:` or `zimsum:`, perhaps `Nm-avg:` or `Ns-avg:`, a metric, and perhaps one filter that groups, `{KEY=*}` or `{KEY=VALUE}`.
+//! It accepts and refuses the same lines, but those in milliseconds, and prints the same bytes.
 
 use std::collections::{BTreeMap, HashMap};
 use std::io::{self, BufRead, BufReader, Write};
@@ -45,7 +46,11 @@ struct Words {
     start: u64,
     end: u64,
     aggregator: Aggregator,
+    /// The seconds of a bucket, whose points make their average.
+    interval: Option<u64>,
     metric: Vec<u8>,
+    /// A key, and the value that is asked for, or any.
+    filter: Option<(Vec<u8>, Option<Vec<u8>>)>,
 }
 
 /// The parts of a line that are a point in seconds. The tags rise by key.
@@ -93,14 +98,34 @@ fn read_words(args: &[String]) -> Result<Words, Stop> {
     if command != "batch" || end < start {
         return Err(usage());
     }
-    let (aggregator, metric) = match m.split_once(':') {
-        Some(("sum", metric)) => (Aggregator::Sum, metric),
-        Some(("zimsum", metric)) => (Aggregator::Zimsum, metric),
-        _ => return Err(refused("query: not built")),
+    let not_here = || refused("not in the plain program");
+    let (aggregator, rest) = match m.split_once(':') {
+        Some(("sum", rest)) => (Aggregator::Sum, rest),
+        Some(("zimsum", rest)) => (Aggregator::Zimsum, rest),
+        _ => return Err(not_here()),
     };
-    if metric.contains([':', '{']) {
-        return Err(refused("query: not built"));
-    }
+    let (rest, filter) = match rest.split_once('{') {
+        None => (rest, None),
+        Some((rest, filter)) => {
+            let filter = filter.strip_suffix('}').ok_or_else(not_here)?;
+            let (key, value) = filter.split_once('=').ok_or_else(not_here)?;
+            (rest, Some((key.into(), (value != "*").then(|| value.into()))))
+        }
+    };
+    let (interval, metric) = match rest.split_once(':') {
+        None => (None, rest),
+        Some((down, metric)) => {
+            let number = down.strip_suffix("-avg").ok_or_else(not_here)?;
+            let (number, unit) = number.split_at(number.len() - 1);
+            let unit = match unit {
+                "s" => 1,
+                "m" => 60,
+                _ => return Err(not_here()),
+            };
+            let number: u64 = number.parse().map_err(|_| not_here())?;
+            (Some(number * unit), metric)
+        }
+    };
     if name_fault(metric.as_bytes()).is_some() {
         return Err(refused(format!("query: bad query at byte {}", m.len() - metric.len())));
     }
@@ -108,7 +133,9 @@ fn read_words(args: &[String]) -> Result<Words, Stop> {
         start,
         end,
         aggregator,
+        interval,
         metric: metric.into(),
+        filter,
     })
 }
 
@@ -307,47 +334,83 @@ fn put(points: &mut Points, time: u64, value: i64) {
     }
 }
 
+/// What the series of one group make.
+#[derive(Default)]
+struct Group<'a> {
+    shared: Shared<'a>,
+    sums: BTreeMap<u64, i128>,
+    series: Vec<Points>,
+}
+
 fn answer(store: &Store, words: &Words) -> Result<String, Stop> {
     let metric = text_of(&words.metric);
     let mut is_known = false;
-    let mut shared = Shared::default();
-    let mut sums: BTreeMap<u64, i128> = BTreeMap::new();
-    let mut all_chosen = Vec::new();
+    let mut groups: BTreeMap<&[u8], Group> = BTreeMap::new();
     for (key, points) in store {
         let mut parts = key.split(|b| *b == b' ');
         if parts.next() != Some(&words.metric) {
             continue;
         }
         is_known = true;
+        let Some(value) = group_of(parts.clone(), words) else {
+            continue;
+        };
         let from = points.partition_point(|point| point.0 < words.start);
         let to = points.partition_point(|point| point.0 <= words.end);
-        let chosen = &points[from..to];
-        for (time, value) in chosen {
-            *sums.entry(*time).or_default() += i128::from(*value);
+        if from == to {
+            continue;
         }
-        if !chosen.is_empty() {
-            all_chosen.push(chosen);
-            shared.add(parts);
+        let chosen = match words.interval {
+            Some(interval) => averages(&points[from..to], interval),
+            None => points[from..to].to_vec(),
+        };
+        let group = groups.entry(value).or_default();
+        for (time, value) in &chosen {
+            *group.sums.entry(*time).or_default() += i128::from(*value);
         }
-    }
-    if words.aggregator == Aggregator::Sum {
-        for chosen in all_chosen {
-            add_between(chosen, &mut sums);
-        }
+        group.series.push(chosen);
+        group.shared.add(parts);
     }
     if !is_known {
         return Err(refused(format!("query: unknown metric {metric}")));
     }
-    for (time, sum) in &sums {
-        if i64::try_from(*sum).is_err() {
-            // In milliseconds, as all times of refusals are.
-            return Err(refused(format!("query: overflow at {}", time * 1000)));
+    let mut texts = Vec::new();
+    for group in groups.values_mut() {
+        if words.aggregator == Aggregator::Sum {
+            for chosen in &group.series {
+                add_between(chosen, &mut group.sums);
+            }
         }
+        for (time, sum) in &group.sums {
+            if i64::try_from(*sum).is_err() {
+                // In milliseconds, as all times of refusals are.
+                return Err(refused(format!("query: overflow at {}", time * 1000)));
+            }
+        }
+        texts.push(json(metric, &group.shared, &group.sums));
     }
-    if sums.is_empty() {
-        return Ok("[]".into());
+    Ok(format!("[{}]", texts.join(",")))
+}
+
+/// The value by which a series belongs to a group, if it passes the filter.
+fn group_of<'a>(mut tags: impl Iterator<Item = &'a [u8]>, words: &Words) -> Option<&'a [u8]> {
+    let Some((key, wanted)) = &words.filter else {
+        return Some(b"");
+    };
+    let value = tags.find_map(|tag| tag.strip_prefix(key.as_slice())?.strip_prefix(b"="))?;
+    wanted.as_ref().is_none_or(|wanted| wanted == value).then_some(value)
+}
+
+/// The average of each bucket's points, at the second at which it begins.
+fn averages(points: &[(u64, i64)], interval: u64) -> Points {
+    let mut averages = Vec::new();
+    for bucket in points.chunk_by(|one, next| one.0 / interval == next.0 / interval) {
+        let sum: i128 = bucket.iter().map(|point| i128::from(point.1)).sum();
+        // Its points are 64-bit numbers, so their average is one.
+        let average = (sum / bucket.len() as i128) as i64;
+        averages.push((bucket[0].0 / interval * interval, average));
     }
-    Ok(json(metric, &shared, &sums))
+    averages
 }
 
 /// Adds what stands on the lines between points that follow each other. The sums have each time of the points.
@@ -409,7 +472,7 @@ fn json(metric: &str, shared: &Shared, sums: &BTreeMap<u64, i128>) -> String {
     // A quote stands below each digit, so this is the order of the times' texts.
     dps.sort_unstable();
     format!(
-        "[{{\"aggregateTags\":[{}],\"dps\":{{{}}},\"metric\":\"{metric}\",\"tags\":{{{}}}}}]",
+        "{{\"aggregateTags\":[{}],\"dps\":{{{}}},\"metric\":\"{metric}\",\"tags\":{{{}}}}}",
         aggregated.join(","),
         dps.join(","),
         tags.join(","),

@@ -1,6 +1,6 @@
 -- The sub queries of a query, one after the other.
-use Rattle.std.proofs.Common.{◌≡◌, ℕ, suc, ◌+◌, ◌<◌, ◌≤◌, List, [], ◌∷◌, ◌++◌, length, take, drop, get_or, refl, sym, ap, subst, ◌∙◌, append_assoc}
-use Rattle.std.specs.Prelude.{Ok, map}
+use Rattle.std.proofs.Common.{◌≡◌, ℕ, suc, ◌+◌, ◌<◌, ◌≤◌, List, [], ◌∷◌, ◌++◌, length, take, drop, get_or, sym, ap, subst, ◌∙◌, append_assoc}
+use Rattle.std.specs.Prelude.{None, Ok, map}
 use Rattle.std.specs.List.{flat_map}
 use Rattle.std.proofs.lemmas.Grind.{flat_map-append}
 use Rattle.std.proofs.lemmas.List.{append-nil, map-append, take_all}
@@ -17,8 +17,8 @@ use Rattle.query_run.specs.declared.fault.AskFault.TheVariants.{OutOfMemory}
 use Rattle.query_run.specs.Parts.{Part, AreQuerySteps, PartStands}
 use Rattle.query_run.specs.Asked.{Answers, Answered, Refused}
 use Rattle.query_run.specs.Asked.Answers.{none, more}
-use Rattle.query_run.specs.Queries.{wanted, names_in, barred, answer_over, InShortParts, QueryIsShort}
-use Rattle.query_run.specs.Working.{Later, PartIsShort, SubAnswered, SubRefused}
+use Rattle.query_run.specs.Queries.{wanted, names_in, barred, answer_over, IsFew}
+use Rattle.query_run.specs.Working.{Later, SubAnswered, SubRefused}
 use Rattle.query_run.proofs.Lower as lower
 use Rattle.query_run.proofs.NameReads.{about, taken}
 use Rattle.query_run.proofs.ScanLoop.{steps_joined}
@@ -27,12 +27,7 @@ abbrev pub all_own : List Part → List Placed
 all_own parts = flat_map (λ (p : Part). p.own) parts
 
 abbrev pub AnswersOf : Query → ℕ → History → List Sub → List Part → List Group → Type 0
-AnswersOf q = Answers (wanted q) names_in barred (answer_over q)
-
--- each sub query has its part, which is short
-pub data ShortParts (q : Query) (end : ℕ) (h : History) : List Sub → List Part → Type 0 where
-  no_part : ShortParts q end h [] []
-  one_part : {s : Sub} {subs : List Sub} {part : Part} {parts : List Part} → PartIsShort q s part.own end h → ShortParts q end h subs parts → ShortParts q end h (s ∷ subs) (part ∷ parts)
+AnswersOf q = Answers (wanted q) names_in (barred q) (answer_over q) (IsFew q)
 
 -- these sub queries were answered
 pub record Progress (q : Query) (old : Seen) (done : List Sub) (groups : List Group) (now : Seen) : Type 0 where
@@ -40,19 +35,14 @@ pub record Progress (q : Query) (old : Seen) (done : List Sub) (groups : List Gr
   pub made : Made old (all_own parts) now
   pub steps : AreQuerySteps (all_own parts)
   pub answers : Later now (λ end h. AnswersOf q end h done parts groups)
-  pub short : Later now (λ end h. ShortParts q end h done parts)
 
 -- ---- one more at the end
 
 answers_more : (q : Query) (end : ℕ) (h : History) (s : Sub) (part : Part) (last : List Group) {subs : List Sub} {parts : List Part} {groups : List Group} → AnswersOf q end h subs parts groups → PartStands (wanted q s) (names_in s) part end h
-    → answer_over q s part.shown ≡ Ok last → AnswersOf q end h (subs ++ s ∷ []) (parts ++ part ∷ []) (groups ++ last)
-answers_more q end h s part last none stands is = subst (AnswersOf q end h (s ∷ []) (part ∷ [])) (append-nil last) (more refl stands is none)
-answers_more q end h s part last (more {s = t} {part = p} {groups = gs} {subs = subs} {parts = parts} {rest = rest} b st a tail) stands is =
-    subst (AnswersOf q end h (t ∷ (subs ++ s ∷ [])) (p ∷ (parts ++ part ∷ []))) (sym (append_assoc gs rest last)) (more b st a (answers_more q end h s part last tail stands is))
-
-short_more : (q : Query) (end : ℕ) (h : History) (s : Sub) (part : Part) {subs : List Sub} {parts : List Part} → ShortParts q end h subs parts → PartIsShort q s part.own end h → ShortParts q end h (subs ++ s ∷ []) (parts ++ part ∷ [])
-short_more q end h s part no_part short = one_part short no_part
-short_more q end h s part (one_part first rest) short = one_part first (short_more q end h s part rest short)
+    → answer_over q s part.shown ≡ Ok last → barred q s ≡ None → IsFew q s part.own (first end h) → AnswersOf q end h (subs ++ s ∷ []) (parts ++ part ∷ []) (groups ++ last)
+answers_more q end h s part last none stands is free few = subst (AnswersOf q end h (s ∷ []) (part ∷ [])) (append-nil last) (more free stands is few none)
+answers_more q end h s part last (more {s = t} {part = p} {groups = gs} {subs = subs} {parts = parts} {rest = rest} b st a f tail) stands is free few =
+    subst (AnswersOf q end h (t ∷ (subs ++ s ∷ [])) (p ∷ (parts ++ part ∷ []))) (sym (append_assoc gs rest last)) (more b st a f (answers_more q end h s part last tail stands is free few))
 
 all_own_more : (parts : List Part) (part : Part) → all_own (parts ++ part ∷ []) ≡ all_own parts ++ part.own
 all_own_more parts part = flat_map-append (λ (p : Part). p.own) parts (part ∷ []) ∙ ap (λ (l : List Placed). all_own parts ++ l) (append-nil part.own)
@@ -63,7 +53,6 @@ progress_none q s groups is = subst (λ (l : List code.Group). Progress q s [] (
   made = lower.nothing_made s;
   steps = λ p c. absurd (lower.not_in p c);
   answers = λ later ext h lawful fits. none;
-  short = λ later ext h lawful fits. no_part;
 })
 
 pub progress_more : (q : Query) (s : Sub) (old now new : Seen) (done : List Sub) (groups last : List Group) → Progress q old done groups now → SubAnswered q s now last new → Progress q old (done ++ s ∷ []) (groups ++ last) new
@@ -71,32 +60,18 @@ progress_more q s old now new done groups last p a = record {
   parts = p.parts ++ a.part ∷ [];
   made = subst (λ (l : List Placed). Made old l new) (sym (all_own_more p.parts a.part)) (lower.made_joined old now new (all_own p.parts) a.part.own p.made a.made);
   steps = subst AreQuerySteps (sym (all_own_more p.parts a.part)) (steps_joined (all_own p.parts) a.part.own p.steps a.steps);
-  answers = λ later ext h lawful fits. answers_more q later.length h s a.part last (p.answers later (lower.extends_joined now new later a.made.since.extends ext) h lawful fits) (a.stands later ext h lawful fits) a.answers;
-  short = λ later ext h lawful fits. short_more q later.length h s a.part (p.short later (lower.extends_joined now new later a.made.since.extends ext) h lawful fits) (a.short later ext h lawful fits);
+  answers = λ later ext h lawful fits. answers_more q later.length h s a.part last (p.answers later (lower.extends_joined now new later a.made.since.extends ext) h lawful fits) (a.stands later ext h lawful fits) a.answers a.free (a.few later ext h lawful fits);
 }
 
 -- ---- all of them
 
-in_short : (q : Query) (end : ℕ) (h : History) {subs : List Sub} {parts : List Part} → ShortParts q end h subs parts → InShortParts q (first end h) subs (all_own parts)
-in_short q end h no_part = InShortParts.none
-in_short q end h (one_part {part = part} {parts = parts} short rest) = InShortParts.more part.own (all_own parts) short (in_short q end h rest)
-
-pub all_answered : (q : Query) (old new : Seen) (groups : List Group) → Progress q old q.subs groups new → Answered (wanted q) names_in barred (answer_over q) old q.subs groups new
+pub all_answered : (q : Query) (old new : Seen) (groups : List Group) → Progress q old q.subs groups new → Answered (wanted q) names_in (barred q) (answer_over q) (IsFew q) old q.subs groups new
 all_answered q old new groups p = record { parts = p.parts; made = p.made; steps = p.steps; answers = λ h lawful fits. p.answers new (lower.itself new) h lawful fits }
-
-pub all_short : (q : Query) (old new : Seen) (groups : List Group) → Progress q old q.subs groups new → QueryIsShort q old new
-all_short q old new groups p = (all_own p.parts, p.made, λ h lawful fits. in_short q new.length h (p.short new (lower.itself new) h lawful fits))
 
 -- ---- one of them refused
 
-in_short_cut : (q : Query) (end : ℕ) (h : History) (s : Sub) (rest : List Sub) (part : Part) {subs : List Sub} {parts : List Part} → ShortParts q end h subs parts → PartIsShort q s part.own end h
-    → InShortParts q (first end h) (subs ++ s ∷ rest) (all_own parts ++ part.own)
-in_short_cut q end h s rest part no_part short = subst (InShortParts q (first end h) (s ∷ rest)) (append-nil part.own) (InShortParts.more part.own [] short InShortParts.none)
-in_short_cut q end h s rest part (one_part {s = t} {subs = subs} {part = p} {parts = parts} first_short tail) short =
-    subst (InShortParts q (first end h) (t ∷ (subs ++ s ∷ rest))) (sym (append_assoc p.own (all_own parts) part.own)) (InShortParts.more p.own (all_own parts ++ part.own) first_short (in_short_cut q end h s rest part tail short))
-
 pub one_refused : (q : Query) (s : Sub) (old now new : Seen) (done rest : List Sub) (groups : List Group) (fault : AskFault) → q.subs ≡ done ++ s ∷ rest → Progress q old done groups now → SubRefused q s now fault new
-    → Refused (wanted q) names_in barred (answer_over q) old q.subs fault new
+    → Refused (wanted q) names_in (barred q) (answer_over q) (IsFew q) old q.subs fault new
 one_refused q s old now new done rest groups fault cut p r = record {
   done = done;
   sub = s;
@@ -109,20 +84,12 @@ one_refused q s old now new done rest groups fault cut p r = record {
   steps = steps_joined (all_own p.parts) r.part.own p.steps r.steps;
   before = λ h lawful fits. p.answers new r.made.since.extends h lawful fits;
   cause = r.cause;
+  few = r.few;
 }
-
-pub refused_short : (q : Query) (s : Sub) (old now new : Seen) (done rest : List Sub) (groups : List Group) (fault : AskFault) → q.subs ≡ done ++ s ∷ rest → Progress q old done groups now → SubRefused q s now fault new → QueryIsShort q old new
-refused_short q s old now new done rest groups fault cut p r = (
-  all_own p.parts ++ r.part.own,
-  lower.made_joined old now new (all_own p.parts) r.part.own p.made r.made,
-  λ h lawful fits.
-      subst (λ (l : List Sub). InShortParts q (first new.length h) l (all_own p.parts ++ r.part.own)) (sym cut)
-      (in_short_cut q new.length h s rest r.part (p.short new r.made.since.extends h lawful fits) (r.short new (lower.itself new) h lawful fits)),
-)
 
 -- no memory for its groups
 pub no_room : (q : Query) (s : Sub) (now new : Seen) (groups : List Group) → SubAnswered q s now groups new → SubRefused q s now OutOfMemory new
-no_room q s now new groups a = record { part = a.part; made = a.made; steps = a.steps; cause = λ h lawful fits. tt; short = a.short }
+no_room q s now new groups a = record { part = a.part; made = a.made; steps = a.steps; cause = λ h lawful fits. tt; few = λ h lawful fits. a.few new (lower.itself new) h lawful fits }
 
 -- ---- along the list
 

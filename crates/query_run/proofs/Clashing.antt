@@ -1,7 +1,7 @@
 -- The first row with a clash, as the entries of a sub query tell it.
 use Rattle.std.proofs.Common.{◌≡◌, ◌⊎◌, inl, inr, ℕ, ◌+◌, ◌-◌, ◌*◌, ◌<◌, ◌≤◌, List, [], ◌∷◌, ◌++◌, refl, sym, ap, subst, ◌∙◌, arith, append_assoc}
 use Rattle.std.specs.Prelude.{ℤ, Contains, Option, None, Some, IsTrue}
-use Rattle.std.proofs.lemmas.List.Elements.{Contains-append_right}
+use Rattle.std.proofs.lemmas.List.Elements.{Contains-append_left, Contains-append_right}
 use Rattle.tsd_base.specs.declared.kinds.Kind.{Kind}
 use Rattle.tsd_base.specs.declared.kinds.Kind.TheVariants.{Metric, TagKey}
 use Rattle.tsd_base.specs.TagList.{Pair}
@@ -25,10 +25,12 @@ use Rattle.query_run.specs.Parts.{HasClash, ShowsRowsBelow, FirstClash}
 use Rattle.query_run.specs.Queries.{is_wanted}
 use Rattle.query_run.specs.Naming.{IdOf, AreReads}
 use Rattle.query_run.specs.RowDots.{IsIn}
-use Rattle.query_run.specs.Collecting.{KeyOf, Counted, RowClashes, FoundClash}
+use Rattle.query_text.specs.declared.queries.Filter.{Filter}
+use Rattle.row_scan.specs.Shown.{ShowsRow}
+use Rattle.query_run.specs.Collecting.{Picks, KeyOf, Counted, RowClashes, FoundClash}
 use Rattle.query_run.proofs.Lower as lower
 use Rattle.query_run.proofs.Titles.{tags_exist}
-use Rattle.query_run.proofs.RowReadings.{asks, is_asked, hours_within, ReadsDot, dot_reads, clean_row, same_dots}
+use Rattle.query_run.proofs.RowReadings.{PicksBy, asks, is_asked, hours_within, ReadsDot, dot_reads, clean_row, same_dots}
 use Rattle.query_run.proofs.Standing.{shown_behind, shown_after}
 
 -- ---- a row that was found stood
@@ -80,9 +82,9 @@ stood_tags g key s is =
     let t = s.tags p (subst (λ (k : RowKey). Contains k.pairs.items p) same c) in
     ((t.0.name, t.1.name), (t.0.name_is, t.1.name_is)))
 
-pub has_clash : (g : History) (start end : ℕ) (metric : List ℕ) (id : ℕ) (f : Found) (time : ℕ) (a b : ℤ) → name_of g Metric id ≡ Some metric → (r : RowClashes id start end f time a b) → lower.StoodRow g (key_bytes r.key)
-    → HasClash (name_of g) (is_wanted start end metric) f time a b
-has_clash g start end metric id f time a b named r s =
+pub has_clash : (picks : Picks) (g : History) (start end : ℕ) (metric : List ℕ) (filters : List Filter) (id : ℕ) (f : Found) (time : ℕ) (a b : ℤ) → name_of g Metric id ≡ Some metric → (r : RowClashes picks id start end f time a b) → lower.StoodRow g (key_bytes r.key) → PicksBy picks filters (name_of g) r.key
+    → HasClash (name_of g) (is_wanted start end metric filters) f time a b
+has_clash picks g start end metric filters id f time a b named r s by =
     let c = r.clash in
     let v = first_value (values_at c.offset c.all) (a, b) c.values in
     let d = lower.value_dot c.all c.offset v.0 v.1 in
@@ -108,12 +110,12 @@ has_clash g start end metric id f time a b named r s =
       reading = reading;
       reads = dot_reads (name_of g) id start end f r.key c.all reading r.of c.are reads;
       at_time = refl;
-      asked = is_asked start end metric reading refl c.within;
+      asked = is_asked start end metric filters reading refl c.within (sym (by tags.0 tags.1) ∙ r.picked);
     }
 
 -- and none of its clashes is earlier
-pub least_clash : (names : Kind → ℕ → Option (List ℕ)) (start end : ℕ) (metric : List ℕ) (id : ℕ) (f : Found) (time : ℕ) (a b : ℤ) → RowClashes id start end f time a b → (t : ℕ) (c d : ℤ) → HasClash names (is_wanted start end metric) f t c d → time ≤ t
-least_clash names start end metric id f time a b r t c d x = at (below_or t time)
+pub least_clash : (picks : Picks) (names : Kind → ℕ → Option (List ℕ)) (start end : ℕ) (metric : List ℕ) (filters : List Filter) (id : ℕ) (f : Found) (time : ℕ) (a b : ℤ) → RowClashes picks id start end f time a b → (t : ℕ) (c d : ℤ) → HasClash names (is_wanted start end metric filters) f t c d → time ≤ t
+least_clash picks names start end metric filters id f time a b r t c d x = at (below_or t time)
   where
     below_or : (m n : ℕ) → (m < n) ⊎ (n ≤ m)
     below_or m n = grind arith
@@ -125,7 +127,7 @@ least_clash names start end metric id f time a b r t c d x = at (below_or t time
     t_is = x.time_is ∙ ap (λ (k : RowKey). k.base * 1000 + x.offset) keys
 
     within : IsIn start end t
-    within = subst (IsIn start end) x.at_time (asks start end metric x.reading x.asked).within
+    within = subst (IsIn start end) x.at_time (asks start end metric filters x.reading x.asked).within
 
     at : (t < time) ⊎ (time ≤ t) → time ≤ t
     at (inl lt) =
@@ -141,11 +143,11 @@ least_clash names start end metric id f time a b r t c d x = at (below_or t time
 -- ---- the first of all
 
 -- the row of a reading that is wanted, of a cell that was there, is one of the metric in these hours
-asked_row : (h : History) (from now start end : ℕ) (metric : List ℕ) (id : ℕ) (row qual value : List ℕ) (r : Reading) → IsLawful h → from ≤ now → id_of (first now h) Metric metric ≡ Some id → value_at (store_after (first from h)) (point_row row) qual ≡ Some value
-    → CellReads (name_of (first now h)) row qual value r → IsTrue (is_wanted start end metric r) → IsRowOf id (base_time start) (base_time end) (point_row row)
-asked_row h from now start end metric id row qual value r lawful le known is c wants =
+asked_row : (h : History) (from now start end : ℕ) (metric : List ℕ) (filters : List Filter) (id : ℕ) (row qual value : List ℕ) (r : Reading) → IsLawful h → from ≤ now → id_of (first now h) Metric metric ≡ Some id → value_at (store_after (first from h)) (point_row row) qual ≡ Some value
+    → CellReads (name_of (first now h)) row qual value r → IsTrue (is_wanted start end metric filters r) → IsRowOf id (base_time start) (base_time end) (point_row row)
+asked_row h from now start end metric filters id row qual value r lawful le known is c wants =
     let d = c.dot_reads in
-    let a = asks start end metric r wants in
+    let a = asks start end metric filters r wants in
     let w = hours_within start end r.time a.within in
     let hour = lower.hour_is r.time d.key.base c.dot.item.offset d.is_key.hour (lower.dot_offset qual value c.dots c.dot c.reads c.among) d.time_is in
     let its = lower.metric_id (first now h) row c.dot r (lower.row_stood h from now row qual value lawful le is) d in
@@ -159,12 +161,15 @@ asked_row h from now start end metric id row qual value r lawful le known is c w
     }
 
 -- in a history that has these entries: reads, and then those of a scan that was broken off by the clash
-module _ (h : History) (now start end : ℕ) (metric : List ℕ) (id : ℕ) (looks own : List Placed) (time : ℕ) (a b : ℤ) (lawful : IsLawful h) (order : InOrder h now (looks ++ own)) (reads : AreReads looks) (f : FoundClash id start end own time a b) where
+module _ (picks : Picks) (h : History) (now start end : ℕ) (metric : List ℕ) (filters : List Filter) (id : ℕ) (looks own : List Placed) (time : ℕ) (a b : ℤ) (lawful : IsLawful h) (order : InOrder h now (looks ++ own)) (reads : AreReads looks) (f : FoundClash picks id start end own time a b) where
   abbrev from : ℕ
   from = before_first (looks ++ own) now
 
   last_in : Contains own f.last
   last_in = subst (λ (l : List Placed). Contains l f.last) (sym f.cut) (Contains-append_right f.earlier (f.last ∷ []) f.last (lower.here f.last []))
+
+  earlier_in : (p : Placed) → Contains f.earlier p → Contains own p
+  earlier_in p c = subst (λ (l : List Placed). Contains l p) (sym f.cut) (Contains-append_left f.earlier (f.last ∷ []) p c)
 
   stand : lower.StandAbove h from now (looks ++ own)
   stand = lower.own_stands h now (looks ++ own) lawful order (let w = Contains-append_right looks own f.last last_in in let lt = w.1 in omega (arith, lt))
@@ -172,23 +177,27 @@ module _ (h : History) (now start end : ℕ) (metric : List ℕ) (id : ℕ) (loo
   early : from ≤ now
   early = let s = stand.each f.last (Contains-append_right looks own f.last last_in) in let low = s.1 in let high = s.2 in omega (arith, low, high)
 
-  all_below : id_of (first now h) Metric metric ≡ Some id → ShowsRowsBelow (store_after (first from h)) (name_of (first now h)) (is_wanted start end metric) (looks ++ f.earlier) f.found.row
+  all_below : id_of (first now h) Metric metric ≡ Some id → ShowsRowsBelow (store_after (first from h)) (name_of (first now h)) (is_wanted start end metric filters) (looks ++ f.earlier) f.found.row
   all_below known row qual value r is c wants less =
-      let of = asked_row h from now start end metric id row qual value r lawful early known is c wants in
+      let of = asked_row h from now start end metric filters id row qual value r lawful early known is c wants in
       let w = f.passed h from lawful (λ q i. let s = stand.each q (Contains-append_right looks own q i) in (s.0, s.1)) (point_row row) of (qual, value, is) less in
       (w.0, shown_after looks f.earlier w.0 w.1, w.2)
 
   pub first_clash_of : name_of (first now h) Metric id ≡ Some metric → id_of (first now h) Metric metric ≡ Some id → lower.StoodRow (first now h) (key_bytes f.clash.key)
-      → FirstClash (store_after (first from h)) (name_of (first now h)) (is_wanted start end metric) (looks ++ own) time a b
-  first_clash_of named known s = record {
+      → ((found : Found) (key : RowKey) → ShowsRow own found → KeyOf id start end found key → PicksBy picks filters (name_of (first now h)) key)
+      → FirstClash (store_after (first from h)) (name_of (first now h)) (is_wanted start end metric filters) (looks ++ own) time a b
+  first_clash_of named known s by = record {
     earlier = looks ++ f.earlier;
     at = f.last;
     later = [];
     cut = ap (λ (l : List Placed). looks ++ l) f.cut ∙ sym (append_assoc looks f.earlier (f.last ∷ []));
-    clean = λ found shows. let w = shown_behind looks f.earlier found reads shows in clean_row (name_of (first now h)) id start end metric found (f.clean w.placed found w.among w.reply);
+    clean = λ found shows.
+        let w = shown_behind looks f.earlier found reads shows in
+        let c = f.clean w.placed found w.among w.reply in
+        clean_row picks (name_of (first now h)) id start end metric filters found c (by found c.key (record { placed = w.placed; among = earlier_in w.placed w.among; reply = w.reply }) c.of);
     found = f.found;
     reply = f.reply;
     passed = all_below known;
-    clash = has_clash (first now h) start end metric id f.found time a b named f.clash s;
-    least = least_clash (name_of (first now h)) start end metric id f.found time a b f.clash;
+    clash = has_clash picks (first now h) start end metric filters id f.found time a b named f.clash s (by f.found f.clash.key (record { placed = f.last; among = last_in; reply = f.reply }) f.clash.of);
+    least = least_clash picks (name_of (first now h)) start end metric filters id f.found time a b f.clash;
   }

@@ -21,7 +21,7 @@ use Rattle.cell_model.specs.Seen.{Seen}
 use Rattle.span_merge.specs.Spans.{Span, pairs_cmp, dots_of, added}
 use Rattle.query_run.specs.Naming.{IdOf, Names, HasName}
 use Rattle.query_run.specs.RowDots.{dot_at}
-use Rattle.query_run.specs.Collecting.{KeyOf, RowIsIn, RowIsClean, DotIsFrom, Gathered, Adds, RowTaken, StandsBehind}
+use Rattle.query_run.specs.Collecting.{Picks, KeyOf, RowIsIn, RowIsClean, DotIsFrom, Gathered, Adds, RowDone, RowLeft, RowTaken, StandsBehind}
 use Rattle.query_run.proofs.Lower as lower
 use Rattle.query_run.proofs.RowPoints.{are_offsets}
 use Rattle.query_run.proofs.Titles.{pairs_total}
@@ -113,9 +113,9 @@ entry_cases (t ∷ spans) pairs dots s c = at (pairs_cmp pairs t.0) refl c (entr
 
 -- ---- points are behind each other
 
-pub stands_behind : (id start end : ℕ) (founds : List Found) (spans : List Span) (names : Names) (f : Found) (key : RowKey) → Gathered id start end founds spans names → KeyOf id start end f key
+pub stands_behind : (picks : Picks) (id start end : ℕ) (founds : List Found) (spans : List Span) (names : Names) (f : Found) (key : RowKey) → Gathered picks id start end founds spans names → KeyOf id start end f key
     → ((g : Found) → Contains founds g → bytes_cmp g.row.bytes f.row.bytes ≡ Less) → StandsBehind spans f
-stands_behind id start end founds spans names f key gathered of passed other is row =
+stands_behind picks id start end founds spans names f key gathered of passed other is row =
     lower.all_of (λ d. d.0 < other.base * 1000) (dots_of spans other.pairs.items) (λ d c.
     let w = gathered.from (other.pairs.items, dots_of spans other.pairs.items) d (dot_stands spans other.pairs.items d c) c in
     let rows = passed w.found w.among in
@@ -129,17 +129,22 @@ stands_behind id start end founds spans names f key gathered of passed other is 
 
 -- ---- one row more
 
-kept_row : (id start end : ℕ) (spans more : List Span) (names after : Names) (f : Found) → ((q : Pairs) (d : ℕ × ℤ) → Contains (dots_of spans q) d → Contains (dots_of more q) d) → ((i : IdOf) → HasName names i → HasName after i)
-    → RowIsIn id start end spans names f → RowIsIn id start end more after f
-kept_row id start end spans more names after f keeps named r =
-    record { key = r.key; of = r.of; all = r.all; are = r.are; one = r.one; there = λ x c within. keeps r.key.pairs.items (dot_at r.key.base x) (r.there x c within); named = λ i c. named i (r.named i c) }
+kept_row : (picks : Picks) (id start end : ℕ) (spans more : List Span) (names after : Names) (f : Found) → ((q : Pairs) (d : ℕ × ℤ) → Contains (dots_of spans q) d → Contains (dots_of more q) d) → ((i : IdOf) → HasName names i → HasName after i)
+    → RowIsIn picks id start end spans names f → RowIsIn picks id start end more after f
+kept_row picks id start end spans more names after f keeps named r =
+    record {
+      key = r.key;
+      of = r.of;
+      is_in = λ picked. let w = r.is_in picked in record { clean = w.clean; there = λ x c within. keeps r.key.pairs.items (dot_at r.key.base x) (w.there x c within); named = λ i c. named i (w.named i c) };
+    }
 
-from_more : (id start end : ℕ) (founds more : List Found) (pairs : Pairs) (d : ℕ × ℤ) → ((f : Found) → Contains founds f → Contains more f) → DotIsFrom id start end founds pairs d → DotIsFrom id start end more pairs d
-from_more id start end founds more pairs d within w = record {
+from_more : (picks : Picks) (id start end : ℕ) (founds more : List Found) (pairs : Pairs) (d : ℕ × ℤ) → ((f : Found) → Contains founds f → Contains more f) → DotIsFrom picks id start end founds pairs d → DotIsFrom picks id start end more pairs d
+from_more picks id start end founds more pairs d within w = record {
   found = w.found;
   among = within w.found w.among;
   key = w.key;
   of = w.of;
+  picked = w.picked;
   pairs_are = w.pairs_are;
   all = w.all;
   are = w.are;
@@ -158,12 +163,12 @@ adds_has spans more pairs dots (inl (none, same)) d c = absurd (lower.not_in d (
 adds_has spans more pairs dots (inr (some, is)) d c =
     subst (λ (l : List Span). Contains (dots_of l pairs) d) (sym is) (subst (λ (l : Dots). Contains l d) (sym (added_here spans pairs dots)) (Contains-append_right (dots_of spans pairs) dots d c))
 
-pub gathered_more : (id start end : ℕ) (founds : List Found) (f : Found) (s t : Seen) (spans more : List Span) (names after : Names) → Gathered id start end founds spans names → RowTaken id start end f s spans names t more after
-    → Gathered id start end (founds ++ f ∷ []) more after
-gathered_more id start end founds f s t spans more names after g r = record {
+gathered_taken : (picks : Picks) (id start end : ℕ) (founds : List Found) (f : Found) (s t : Seen) (spans more : List Span) (names after : Names) → Gathered picks id start end founds spans names → RowTaken picks id start end f s spans names t more after
+    → Gathered picks id start end (founds ++ f ∷ []) more after
+gathered_taken picks id start end founds f s t spans more names after g r = record {
   rows = λ h c. elim (Contains-append_cases founds (f ∷ []) h c) [
-    | inl old ↦ kept_row id start end spans more names after h keeps kept (g.rows h old)
-    | inr new ↦ elim (lower.split f h [] new) [ inl same ↦ subst (RowIsIn id start end more after) same mine | inr none ↦ absurd (lower.not_in h none) ]
+    | inl old ↦ kept_row picks id start end spans more names after h keeps kept (g.rows h old)
+    | inr new ↦ elim (lower.split f h [] new) [ inl same ↦ subst (RowIsIn picks id start end more after) same mine | inr none ↦ absurd (lower.not_in h none) ]
   ];
   from = λ x d c i. from_at r.adds x d c i;
   some = λ x c. some_at r.adds x c;
@@ -175,15 +180,15 @@ gathered_more id start end founds f s t spans more names after g r = record {
     kept : (i : IdOf) → HasName names i → HasName after i
     kept i n = (n.0, r.named.kept i.0 i.1 n.0 n.1)
 
-    mine : RowIsIn id start end more after f
+    mine : RowIsIn picks id start end more after f
     mine = record {
       key = r.key;
       of = r.of;
-      all = r.has.all;
-      are = r.has.are;
-      one = r.has.one;
-      there = λ x c within. adds_has spans more r.key.pairs.items r.dots r.adds (dot_at r.key.base x) (r.has.there x c within);
-      named = r.named.all;
+      is_in = λ picked. record {
+        clean = record { all = r.has.all; are = r.has.are; one = r.has.one };
+        there = λ x c within. adds_has spans more r.key.pairs.items r.dots r.adds (dot_at r.key.base x) (r.has.there x c within);
+        named = r.named.all;
+      };
     }
 
     within : (h : Found) → Contains founds h → Contains (founds ++ f ∷ []) h
@@ -192,24 +197,24 @@ gathered_more id start end founds f s t spans more names after g r = record {
     last : Contains (founds ++ f ∷ []) f
     last = Contains-append_right founds (f ∷ []) f (lower.here f [])
 
-    new_dot : (d : ℕ × ℤ) → Contains r.dots d → DotIsFrom id start end (founds ++ f ∷ []) r.key.pairs.items d
+    new_dot : (d : ℕ × ℤ) → Contains r.dots d → DotIsFrom picks id start end (founds ++ f ∷ []) r.key.pairs.items d
     new_dot d c =
         let w = r.has.each d c in
-        record { found = f; among = last; key = r.key; of = r.of; pairs_are = refl; all = r.has.all; are = r.has.are; dot = w.0; there = w.1; dot_is = w.2; within = w.3 }
+        record { found = f; among = last; key = r.key; of = r.of; picked = r.picked; pairs_are = refl; all = r.has.all; are = r.has.are; dot = w.0; there = w.1; dot_is = w.2; within = w.3 }
 
-    old_dot : (x : Span) (d : ℕ × ℤ) → Contains spans x → Contains x.1 d → DotIsFrom id start end (founds ++ f ∷ []) x.0 d
-    old_dot x d c i = from_more id start end founds (founds ++ f ∷ []) x.0 d within (g.from x d c i)
+    old_dot : (x : Span) (d : ℕ × ℤ) → Contains spans x → Contains x.1 d → DotIsFrom picks id start end (founds ++ f ∷ []) x.0 d
+    old_dot x d c i = from_more picks id start end founds (founds ++ f ∷ []) x.0 d within (g.from x d c i)
 
-    both_dots : (d : ℕ × ℤ) → Contains (dots_of spans r.key.pairs.items ++ r.dots) d → DotIsFrom id start end (founds ++ f ∷ []) r.key.pairs.items d
+    both_dots : (d : ℕ × ℤ) → Contains (dots_of spans r.key.pairs.items ++ r.dots) d → DotIsFrom picks id start end (founds ++ f ∷ []) r.key.pairs.items d
     both_dots d c = elim (Contains-append_cases (dots_of spans r.key.pairs.items) r.dots d c) [
       | inl old ↦ old_dot (r.key.pairs.items, dots_of spans r.key.pairs.items) d (dot_stands spans r.key.pairs.items d old) old
       | inr new ↦ new_dot d new
     ]
 
-    from_at : Adds spans r.key.pairs.items r.dots more → (x : Span) (d : ℕ × ℤ) → Contains more x → Contains x.1 d → DotIsFrom id start end (founds ++ f ∷ []) x.0 d
+    from_at : Adds spans r.key.pairs.items r.dots more → (x : Span) (d : ℕ × ℤ) → Contains more x → Contains x.1 d → DotIsFrom picks id start end (founds ++ f ∷ []) x.0 d
     from_at (inl (none, same)) x d c i = old_dot x d (subst (λ (l : List Span). Contains l x) same c) i
     from_at (inr (some, is)) x d c i = elim (entry_cases spans r.key.pairs.items (dots_of spans r.key.pairs.items ++ r.dots) x (subst (λ (l : List Span). Contains l x) is c)) [
-      | inl same ↦ subst (λ (y : Span). DotIsFrom id start end (founds ++ f ∷ []) y.0 d) same (both_dots d (subst (λ (y : Span). Contains y.1 d) (sym same) i))
+      | inl same ↦ subst (λ (y : Span). DotIsFrom picks id start end (founds ++ f ∷ []) y.0 d) same (both_dots d (subst (λ (y : Span). Contains y.1 d) (sym same) i))
       | inr old ↦ old_dot x d old i
     ]
 
@@ -220,12 +225,37 @@ gathered_more id start end founds f s t spans more names after g r = record {
       | inr old ↦ g.some x old
     ]
 
-pub gathered_none : (id start end : ℕ) (spans : List Span) (names : Names) → spans ≡ [] → Gathered id start end [] spans names
-gathered_none id start end spans names none = record {
+-- a row that isn't asked for
+gathered_left : (picks : Picks) (id start end : ℕ) (founds : List Found) (f : Found) (s t : Seen) (spans more : List Span) (names after : Names) → Gathered picks id start end founds spans names → RowLeft picks id start end f s spans names t more after
+    → Gathered picks id start end (founds ++ f ∷ []) more after
+gathered_left picks id start end founds f s t spans more names after g r =
+    subst (λ (n : Names). Gathered picks id start end (founds ++ f ∷ []) more n) (sym r.names_are) (subst (λ (l : List Span). Gathered picks id start end (founds ++ f ∷ []) l names) (sym r.spans_are) (record {
+      rows = λ h c. elim (Contains-append_cases founds (f ∷ []) h c) [
+        | inl old ↦ g.rows h old
+        | inr new ↦ elim (lower.split f h [] new) [ inl same ↦ subst (RowIsIn picks id start end spans names) same mine | inr none ↦ absurd (lower.not_in h none) ]
+      ];
+      from = λ x d c i. from_more picks id start end founds (founds ++ f ∷ []) x.0 d (λ h c. Contains-append_left founds (f ∷ []) h c) (g.from x d c i);
+      some = g.some;
+    }))
+  where
+    never : (b : Bool) → b ≡ true → b ≡ false → ⊥
+    never true e n = cc
+    never false e n = cc
+
+    mine : RowIsIn picks id start end spans names f
+    mine = record { key = r.key; of = r.of; is_in = λ picked. absurd (never (picks r.key.pairs.items) picked r.left) }
+
+pub gathered_more : (picks : Picks) (id start end : ℕ) (founds : List Found) (f : Found) (s t : Seen) (spans more : List Span) (names after : Names) → Gathered picks id start end founds spans names → RowDone picks id start end f s spans names t more after
+    → Gathered picks id start end (founds ++ f ∷ []) more after
+gathered_more picks id start end founds f s t spans more names after g (inl r) = gathered_left picks id start end founds f s t spans more names after g r
+gathered_more picks id start end founds f s t spans more names after g (inr r) = gathered_taken picks id start end founds f s t spans more names after g r
+
+pub gathered_none : (picks : Picks) (id start end : ℕ) (spans : List Span) (names : Names) → spans ≡ [] → Gathered picks id start end [] spans names
+gathered_none picks id start end spans names none = record {
   rows = λ f c. absurd (lower.not_in f c);
   from = λ s d c i. absurd (lower.not_in s (subst (λ (l : List Span). Contains l s) none c));
   some = λ s c. absurd (lower.not_in s (subst (λ (l : List Span). Contains l s) none c));
 }
 
-pub row_clean : (id start end : ℕ) (spans : List Span) (names : Names) (f : Found) → RowIsIn id start end spans names f → RowIsClean id start end f
-row_clean id start end spans names f r = record { key = r.key; of = r.of; all = r.all; are = r.are; one = r.one }
+pub row_clean : (picks : Picks) (id start end : ℕ) (spans : List Span) (names : Names) (f : Found) → RowIsIn picks id start end spans names f → RowIsClean picks id start end f
+row_clean picks id start end spans names f r = record { key = r.key; of = r.of; clean = λ picked. (r.is_in picked).clean }

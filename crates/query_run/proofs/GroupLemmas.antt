@@ -1,10 +1,15 @@
 -- Groups made one by one, and what stands for all of them.
-use Rattle.std.proofs.Common.{◌≡◌, ℕ, List, [], ◌∷◌, ◌++◌, length, Result, Ok, Err, map, refl, sym, ap, ◌∙◌, append_assoc, append-nil, arith}
+use Rattle.std.proofs.Common.{◌≡◌, ℕ, List, [], ◌∷◌, ◌++◌, length, Result, Ok, Err, map, refl, sym, ap, subst, ◌∙◌, append_assoc, append-nil, arith}
 use Rattle.std.proofs.lemmas.List.{map-append}
+use Rattle.std.specs.Prelude.{Contains, Vec}
+use Rattle.std.specs.declared.alloc.Global.{Global}
+use Rattle.tsd_base.specs.TagList.{Pair}
+use Rattle.query_run.specs.declared.series.Series.{Series}
 use Rattle.lerp_aggregate.specs.declared.aggregation.AggFault.{AggFault}
 use Rattle.lerp_aggregate.specs.declared.aggregation.AggFault.TheVariants.{Overflow, OutOfMemory}
 use Rattle.json_reply.specs.Replies.{Group, plain}
 use Rattle.json_reply.specs.declared.reply.Group as code
+use Rattle.query_run.proofs.Lower.{here, there}
 use Rattle.query_run.specs.Answers.{all_groups}
 use Rattle.query_run.specs.Grouping.{GivesGroup, GivesGroups}
 
@@ -48,3 +53,13 @@ module _ {X : Type 0} (f : X → Result Group ℕ) (groups : List code.Group) (i
     pub fails : (fault : AggFault) → GivesGroup (Err fault) (f x) → GivesGroups (Err fault) (all_groups all)
     fails (Overflow time) e = ap all_groups (sym next ∙ ap (λ r. made groups ++ r ∷ map f rest) e) ∙ stops groups time (map f rest)
     fails OutOfMemory e = tt
+
+-- the members of the groups of a map
+abbrev pub values : List (List Pair × Vec Series Global) → List (List Series)
+values es = map (λ (e : List Pair × Vec Series Global). e.1.items) es
+
+pub value_here : (es : List (List Pair × Vec Series Global)) (e : List Pair × Vec Series Global) (rest : List (List Pair × Vec Series Global)) → es ≡ e ∷ rest → Contains (values es) e.1.items
+value_here es e rest is = subst (λ (l : List (List Pair × Vec Series Global)). Contains (values l) e.1.items) (sym is) (here e.1.items (values rest))
+
+pub value_later : (es : List (List Pair × Vec Series Global)) (e : List Pair × Vec Series Global) (rest : List (List Pair × Vec Series Global)) → es ≡ e ∷ rest → (m : List Series) → Contains (values rest) m → Contains (values es) m
+value_later es e rest is m c = subst (λ (l : List (List Pair × Vec Series Global)). Contains (values l) m) (sym is) (there e.1.items m (values rest) c)

@@ -1,9 +1,9 @@
 -- Lists of keys in order that have the same keys, and the tags of points.
-use Rattle.std.proofs.Common.{◌≡◌, Bool, true, false, T, cond, ◌&&◌, ◌||◌, List, [], ◌∷◌, Some, None, map, Less, refl, sym, ap, subst, ◌∙◌}
+use Rattle.std.proofs.Common.{◌≡◌, ℕ, Bool, true, false, T, cond, ◌&&◌, ◌||◌, List, [], ◌∷◌, Some, None, map, Less, refl, sym, ap, subst, ◌∙◌}
 use Rattle.std.specs.Prelude.{is_some}
 use Rattle.std.specs.declared.cmp.Ordering.{Ordering}
 use Rattle.std.specs.Cmp.{IsTotalOrder}
-use Rattle.std.specs.FinMap.{IsAntisymmetric, entries, entries_sorted, from_entries, get-from_entries, contains_key-keys}
+use Rattle.std.specs.FinMap.{IsAntisymmetric, entries, entries_sorted, from_entries, keys, get-from_entries, contains_key-keys}
 use Rattle.std.specs.FinMap.Entries.{find, is_sorted, below_all, same_entries, is_some-find}
 use Rattle.std.specs.List.{AllByRecursion, list_any}
 use Rattle.std.specs.List.Sorted.{IsStrictlySortedBy}
@@ -14,6 +14,9 @@ use Rattle.tsd_base.specs.Points.{DataPoint}
 use Rattle.tsd_base.specs.Readings.{series_of}
 use Rattle.tsd_base.specs.TagList.{Pair, tags_cmp, is_same_tags}
 use Rattle.tsd_base.specs.TagOrder.{tags_cmp_total, tags_cmp_exact, tags_ties, is_same_tags_equiv}
+use Rattle.query_text.specs.declared.queries.Sub.{Sub}
+use Rattle.group_by.specs.Filters.{group_key}
+use Rattle.query_run.specs.Answers.{group_keys}
 
 -- keys in order, as the entries of a set
 abbrev units : {K : Type 0} → List K → List (K × Unit {0})
@@ -61,26 +64,60 @@ module _ {K : Type 0} (R : K → K → Ordering) where
       ∙ ap (map (λ e. e.0)) (same_entries R total exact (units ks) (units ls) s t (λ q. find-units ks q ∙ ap (λ b. cond b (Some tt) None) (same q) ∙ sym (find-units ls q)))
       ∙ keys-units ls
 
-any_tags : (ps : List DataPoint) (q : List Pair) → list_any (eq_by_cmp tags_cmp q) (keys_of (map (λ (p : DataPoint). (p.tags, p.time)) ps)) ≡ list_any (λ p. is_same_tags p.tags q) ps
+-- ---- the keys of a map of entries by tags
+
+pub any_key_made : {K X : Type 0} {R : K → K → Ordering} → IsTotalOrder R → (es : List (K × X)) (q : K) → list_any (eq_by_cmp R q) (keys (from_entries {R = R} es)) ≡ list_any (eq_by_cmp R q) (keys_of es)
+any_key_made {R = R} total es q = sym (contains_key-keys (from_entries {R = R} es) q) ∙ ap is_some (get-from_entries total es q) ∙ is_some-find R q es
+
+module _ {X : Type 0} (es : List (List Pair × X)) where
+  abbrev made : List (List Pair)
+  made = keys (from_entries {R = tags_cmp} es)
+
+  any_made : (q : List Pair) → list_any (eq_by_cmp tags_cmp q) made ≡ list_any (eq_by_cmp tags_cmp q) (keys_of es)
+  any_made q = any_key_made tags_cmp_total es q
+
+  made_sorted : T (is_sorted tags_cmp (units made))
+  made_sorted = subst T (sym (is_sorted-keys tags_cmp (entries (from_entries {R = tags_cmp} es)))) (entries_sorted (from_entries {R = tags_cmp} es))
+
+  -- they are the keys in order that are those of the entries
+  made_are : (ks : List (List Pair)) → IsStrictlySortedBy tags_cmp ks → ((q : List Pair) → list_any (eq_by_cmp tags_cmp q) (keys_of es) ≡ list_any (eq_by_cmp tags_cmp q) ks) → made ≡ ks
+  made_are ks sorted same = same_keys tags_cmp tags_cmp_total tags_cmp_exact made ks made_sorted (is_sorted-units tags_cmp ks sorted) (λ q. any_made q ∙ same q)
+
+same_test : (q t : List Pair) → eq_by_cmp tags_cmp q t ≡ is_same_tags t q
+same_test q t = sym (tags_ties q t) ∙ is_same_tags_equiv.symm q t
+
+-- ---- the series of points
+
+abbrev by_tags : List DataPoint → List (List Pair × ℕ)
+by_tags ps = map (λ (p : DataPoint). (p.tags, p.time)) ps
+
+any_tags : (ps : List DataPoint) (q : List Pair) → list_any (eq_by_cmp tags_cmp q) (keys_of (by_tags ps)) ≡ list_any (λ p. is_same_tags p.tags q) ps
 any_tags [] q = refl
-any_tags (p ∷ ps) q = λ i. (sym (tags_ties q p.tags) ∙ is_same_tags_equiv.symm q p.tags) i || any_tags ps q i
-
-pub any_series_of : (ps : List DataPoint) (q : List Pair) → list_any (eq_by_cmp tags_cmp q) (series_of ps) ≡ list_any (λ p. is_same_tags p.tags q) ps
-any_series_of ps q =
-    let es = map (λ (p : DataPoint). (p.tags, p.time)) ps in
-    sym (contains_key-keys (from_entries {R = tags_cmp} es) q) ∙ ap is_some (get-from_entries tags_cmp_total es q) ∙ is_some-find tags_cmp q es ∙ any_tags ps q
-
-series_of-sorted : (ps : List DataPoint) → T (is_sorted tags_cmp (units (series_of ps)))
-series_of-sorted ps =
-    let made = from_entries {R = tags_cmp} (map (λ (p : DataPoint). (p.tags, p.time)) ps) in
-    subst T (sym (is_sorted-keys tags_cmp (entries made))) (entries_sorted made)
+any_tags (p ∷ ps) q = λ i. same_test q p.tags i || any_tags ps q i
 
 -- tags in order are the series of points where these have each of them and no others
 pub series_are : (ps : List DataPoint) (tags : List (List Pair)) → IsStrictlySortedBy tags_cmp tags → ((q : List Pair) → list_any (λ p. is_same_tags p.tags q) ps ≡ list_any (eq_by_cmp tags_cmp q) tags) → series_of ps ≡ tags
-series_are ps tags sorted same =
-    same_keys tags_cmp tags_cmp_total tags_cmp_exact (series_of ps) tags (series_of-sorted ps) (is_sorted-units tags_cmp tags sorted) (λ q. any_series_of ps q ∙ same q)
+series_are ps tags sorted same = made_are (by_tags ps) tags sorted (λ q. any_tags ps q ∙ same q)
 
 -- points with the same tags make the same series
 pub same_series : (ps qs : List DataPoint) → ((q : List Pair) → list_any (λ p. is_same_tags p.tags q) ps ≡ list_any (λ p. is_same_tags p.tags q) qs) → series_of ps ≡ series_of qs
 same_series ps qs same =
-    same_keys tags_cmp tags_cmp_total tags_cmp_exact (series_of ps) (series_of qs) (series_of-sorted ps) (series_of-sorted qs) (λ q. any_series_of ps q ∙ same q ∙ sym (any_series_of qs q))
+    same_keys tags_cmp tags_cmp_total tags_cmp_exact (series_of ps) (series_of qs) (made_sorted (by_tags ps)) (made_sorted (by_tags qs))
+    (λ q. any_made (by_tags ps) q ∙ any_tags ps q ∙ same q ∙ sym (any_tags qs q) ∙ sym (any_made (by_tags qs) q))
+
+-- ---- the keys of groups
+
+abbrev by_key : Sub → List (List Pair) → List (List Pair × List Pair)
+by_key s series = map (λ (t : List Pair). (group_key s t, t)) series
+
+any_key : (s : Sub) (series : List (List Pair)) (q : List Pair) → list_any (eq_by_cmp tags_cmp q) (keys_of (by_key s series)) ≡ list_any (λ t. is_same_tags (group_key s t) q) series
+any_key s [] q = refl
+any_key s (t ∷ series) q = λ i. same_test q (group_key s t) i || any_key s series q i
+
+-- keys in order are those of groups where the series have each of them and no others
+pub group_keys_are : (s : Sub) (series ks : List (List Pair)) → IsStrictlySortedBy tags_cmp ks → ((q : List Pair) → list_any (λ t. is_same_tags (group_key s t) q) series ≡ list_any (eq_by_cmp tags_cmp q) ks) → group_keys s series ≡ ks
+group_keys_are s series ks sorted same = made_are (by_key s series) ks sorted (λ q. any_key s series q ∙ same q)
+
+-- each key of a group is that of one of the series
+pub group_key_from : (s : Sub) (series : List (List Pair)) (q : List Pair) → list_any (eq_by_cmp tags_cmp q) (group_keys s series) ≡ list_any (λ t. is_same_tags (group_key s t) q) series
+group_key_from s series q = any_made (by_key s series) q ∙ any_key s series q

@@ -1,5 +1,6 @@
 mod Lower
 mod NameReads
+mod NameIds
 mod RowPoints
 mod Titles
 mod RowsTaken
@@ -8,6 +9,7 @@ mod Contents
 mod Passing
 mod ScanLoop
 mod RowReadings
+mod FilterIds
 mod Shown
 mod Standing
 mod Clashing
@@ -15,7 +17,10 @@ mod Short
 mod OneSub
 mod AllSubs
 mod Grouped
+mod AnyOf
 mod Keys
+mod Members
+mod Lists
 mod GroupLemmas
 mod SeriesLemmas
 mod Unordered

@@ -1,15 +1,20 @@
 -- One sub query: what is said of it, by what its steps say.
-use Rattle.std.proofs.Common.{◌≡◌, inl, inr, ℕ, ◌<◌, ◌≤◌, ◌^◌, true, List, [], ◌∷◌, ◌++◌, length, refl, sym, ap, subst, ◌∙◌, arith}
-use Rattle.std.specs.Prelude.{ℤ, Contains, None, Some, Result, Ok, Err, map}
+use Rattle.std.proofs.Common.{◌≡◌, ℕ, ◌<◌, ◌≤◌, ◌^◌, Bool, true, false, List, [], ◌∷◌, ◌++◌, length, refl, sym, ap, subst, ◌∙◌, arith}
+use Rattle.std.specs.Prelude.{ℤ, Contains, Option, None, Some, Result, Ok, Err, map, nat_lt, if◌then◌else◌}
 use Rattle.std.specs.Global.{Vec}
+use Rattle.std.specs.List.{flat_map}
 use Rattle.std.proofs.lemmas.List.Elements.{Contains-append_right}
 use Rattle.tsd_base.specs.declared.kinds.Kind.{Kind}
 use Rattle.tsd_base.specs.declared.kinds.Kind.TheVariants.{Metric}
+use Rattle.tsd_base.specs.declared.kinds.Fill.{Fill}
+use Rattle.tsd_base.specs.declared.kinds.Fill.TheVariants.{NoFill, Zero}
+use Rattle.tsd_base.specs.declared.kinds.Down.{Down}
 use Rattle.row_key.specs.declared.keys.RowKey.{RowKey}
 use Rattle.json_reply.specs.Replies.{Group, plain}
 use Rattle.json_reply.specs.declared.reply.Group as code
 use Rattle.query_text.specs.declared.queries.Query.{Query}
 use Rattle.query_text.specs.declared.queries.Sub.{Sub}
+use Rattle.query_text.specs.declared.queries.Filter.{Filter}
 use Rattle.cell_model.specs.declared.cells.Found.{Found}
 use Rattle.cell_model.specs.declared.events.Placed.{Placed}
 use Rattle.cell_model.specs.History.{History, first}
@@ -19,83 +24,132 @@ use Rattle.cell_model.specs.Lawful.{IsLawful}
 use Rattle.cell_model.specs.Seen.{Seen, IsPossible, Fits, InEach}
 use Rattle.cell_model.specs.Deeds.{Made, Extends, InOrder}
 use Rattle.uid_table.specs.Shown.{HasShown}
-use Rattle.uid_table.specs.Steps.{DidLook, LookedOrKept}
 use Rattle.row_scan.specs.Laws.{ScanCovers}
 use Rattle.span_merge.specs.Spans.{Span}
+use Rattle.downsample.specs.Buckets.{all_buckets}
 use Rattle.query_run.specs.declared.fault.AskFault.{AskFault}
 use Rattle.query_run.specs.declared.fault.AskFault.TheVariants.{TooManyBuckets, Unknown, Duplicate, Overflow, OutOfMemory, Stopped}
+use Rattle.query_run.specs.declared.id_filter.IdFilter.{IdFilter}
 use Rattle.query_run.specs.declared.series.Series.{Series}
-use Rattle.query_run.specs.Answers.{answer, as_point}
+use Rattle.query_run.specs.Answers.{answer}
 use Rattle.query_run.specs.Series.{points_in}
-use Rattle.query_run.specs.Parts.{NameOf, Part, AreQuerySteps, AllResolved, PartStands, FirstUnknown, IsShort}
+use Rattle.query_run.specs.Parts.{NameOf, Part, AreQuerySteps, AllResolved, PartStands, FirstUnknown}
 use Rattle.query_run.specs.Asked.{Cause}
-use Rattle.query_run.specs.Queries.{wanted, names_in, barred, answer_over}
+use Rattle.query_run.specs.IdFilters.{AreIdFilters, passes}
+use Rattle.query_run.specs.Queries.{wanted, filter_names, names_in, too_many, barred_by, barred_down, barred, answer_over, IsFew}
 use Rattle.query_run.specs.Naming.{IdOf, Names, ids_of}
-use Rattle.query_run.specs.Collecting.{Gathered, Counted, HasCollected, WasCut, FoundClash, ClashOf}
+use Rattle.query_run.specs.Collecting.{Picks, KeyOf, Gathered, Counted, HasCollected, WasCut, FoundClash, ClashOf}
+use Rattle.query_run.specs.Resolving.{AreResolved, IsUnresolved, UnresolvedBy}
 use Rattle.query_run.specs.Titling.{ArePairs, CanTitle, Titles}
-use Rattle.query_run.specs.Working.{ResolveSays, GroupsSay, Later, PartIsShort, SubRefused, SubSays}
+use Rattle.query_run.specs.Working.{GroupsSay, Later, SubRefused, SubSays}
 use Rattle.query_run.proofs.Lower as lower
 use Rattle.query_run.proofs.ScanLoop.{steps_joined, reads_steps}
 use Rattle.query_run.proofs.Shown.{readings_in, as_points}
-use Rattle.query_run.proofs.NameReads.{AreFew, none_few, one_few}
+use Rattle.query_run.proofs.NameIds.{id_later, resolved_joined, unresolved_wider, unresolved_behind}
+use Rattle.query_run.proofs.FilterIds.{id_now, picks_by}
+use Rattle.query_run.proofs.RowReadings.{PicksBy}
 use Rattle.query_run.proofs.Standing.{named_in, one_to_one, stands_in}
 use Rattle.query_run.proofs.Clashing.{StoodFound, found_stood, row_names, first_clash_of}
-use Rattle.query_run.proofs.Short.{few_rows, few_none}
+use Rattle.query_run.proofs.Short.{few_rows, few_looks}
 
--- ---- the metric
+-- ---- it can't be worked
 
--- the read that resolved it, or none where its id was kept
-looks_few : (kind : Kind) (name : List ℕ) (id : ℕ) (list : List Placed) → LookedOrKept kind name id list → AreFew list
-looks_few kind name id list (inl is) = none_few list is
-looks_few kind name id list (inr (d, is, look)) = one_few list d is look
+same_Some : {X : Type 0} (x y : X) → ◌≡◌ {A = Option X} (Some x) (Some y) → x ≡ y
+same_Some x y e = cc
 
-few_later : (q : Query) (s : Sub) (own : List Placed) (new : Seen) → length own ≤ 1 → Later new (PartIsShort q s own)
-few_later q s own new few later ext h lawful fits = few_none s.metric (base_time q.start) (base_time q.end) own (first later.length h) few
+none_some : {X : Type 0} (x : X) → ◌≡◌ {A = Option X} None (Some x) → ⊥
+none_some x e = cc
 
-unknown_first : (metric name : List ℕ) (kind : Kind) (p : Placed) (g : History) → kind ≡ Metric → name ≡ metric → DidLook p Metric metric None → FirstUnknown ((Metric, metric) ∷ []) (kind, name) (p ∷ []) g
-unknown_first metric name kind p g k n look = subst (λ (x : NameOf). FirstUnknown ((Metric, metric) ∷ []) x (p ∷ []) g) (λ i. ((sym k) i, (sym n) i)) (record {
-  before = [];
-  after = [];
-  cut = refl;
-  resolved = λ m c. absurd (lower.not_in {X = NameOf} m c);
-  none = (p, lower.here p [], look);
-})
+by_count : (count : ℕ) (fault : AskFault) (b : Bool) → nat_lt 1000000 count ≡ b → too_many count ≡ Some fault → fault ≡ TooManyBuckets count
+by_count count fault true e is = sym (same_Some (TooManyBuckets count) fault (sym (ap (λ b. if b then Some (TooManyBuckets count) else None) e) ∙ is))
+by_count count fault false e is = absurd (none_some fault (sym (ap (λ b. if b then Some (TooManyBuckets count) else None) e) ∙ is))
 
-pub resolve_refused : (q : Query) (s : Sub) (old new : Seen) (fault : AskFault) → ResolveSays s.metric old (Err fault) new → SubRefused q s old fault new
-resolve_refused q s old new (Unknown kind name) (k, n, p, made, look) = record {
-  part = record { own = p ∷ []; shown = [] };
-  made = made;
-  steps = reads_steps (p ∷ []) (one_few (p ∷ []) p refl look).0;
-  cause = λ h lawful fits. (refl, unknown_first s.metric name kind p (first new.length h) k n look);
-  short = few_later q s (p ∷ []) new (omega arith);
+barred_is : (down : Option Down) (start end : ℕ) (fault : AskFault) → barred_down start end down ≡ Some fault → (count : ℕ) × (fault ≡ TooManyBuckets count)
+barred_is None start end fault e = absurd (none_some fault e)
+barred_is (Some down) start end fault e = at down.fill e
+  where
+    at : (fill : Fill) → barred_by start end down.interval fill ≡ Some fault → (count : ℕ) × (fault ≡ TooManyBuckets count)
+    at NoFill e = absurd (none_some fault e)
+    at Zero e = (length (all_buckets down.interval start end), by_count (length (all_buckets down.interval start end)) fault (nat_lt 1000000 (length (all_buckets down.interval start end))) refl e)
+
+pub sub_barred : (q : Query) (s : Sub) (now : Seen) (fault : AskFault) → barred q s ≡ Some fault → SubRefused q s now fault now
+sub_barred q s now fault is = record {
+  part = record { own = []; shown = [] };
+  made = lower.nothing_made now;
+  steps = λ p c. absurd (lower.not_in p c);
+  cause = λ h lawful fits.
+      let w = barred_is s.down q.start q.end fault is in
+      subst (λ (e : AskFault). Cause (wanted q) names_in (barred q) (answer_over q) (IsFew q) s (record { own = []; shown = [] }) now.length h e) (sym w.1) (refl, is ∙ ap Some w.1);
+  few = λ h lawful fits. few_looks (names_in s) s.metric (base_time q.start) (base_time q.end) [] (first now.length h) (omega arith);
 }
-resolve_refused q s old new OutOfMemory (list, made, reads, few) =
-    record { part = record { own = list; shown = [] }; made = made; steps = reads_steps list reads; cause = λ h lawful fits. tt; short = few_later q s list new few }
-resolve_refused q s old new Stopped (list, made, reads, few) =
-    record { part = record { own = list; shown = [] }; made = made; steps = reads_steps list reads; cause = λ h lawful fits. tt; short = few_later q s list new few }
-resolve_refused q s old new (TooManyBuckets count) r = absurd r
-resolve_refused q s old new (Duplicate time a b) r = absurd r
-resolve_refused q s old new (Overflow time) r = absurd r
 
--- ---- what stands of the metric in a later history
+-- ---- its names
 
--- a sub query's metric was resolved, and then entries were made
-pub record Begun (metric : List ℕ) (id : ℕ) (old mid new : Seen) (own : List Placed) : Type 0 where
-  pub looks : List Placed
-  pub asked : Made old looks mid
-  pub few : AreFew looks
-  pub shown : HasShown mid Metric metric id
+abbrev metric_name : Sub → List NameOf
+metric_name s = (Metric, s.metric) ∷ []
+
+-- those before the first unknown one are resolved, in each lawful history that fits
+first_unknown : (names : List NameOf) (list : List Placed) (new : Seen) (h : History) → IsLawful h → Fits new h → (kind : Kind) (name : List ℕ) → UnresolvedBy names list new (Unknown kind name) → FirstUnknown names (kind, name) list (first new.length h)
+first_unknown names list new h lawful fits kind name u = record {
+  before = u.before;
+  after = u.after;
+  cut = u.cut;
+  resolved = λ n c. let w = u.shown n c in (w.0, w.1.stands new (lower.itself new) (first new.length h) (lower.first_lawful h new.length lawful) (lower.first_fits new h fits));
+  none = u.none;
+}
+
+pub names_refused : (q : Query) (s : Sub) (old new : Seen) (fault : AskFault) → barred q s ≡ None → IsUnresolved old (names_in s) fault new → SubRefused q s old fault new
+names_refused q s old new fault free u = record {
+  part = record { own = u.list; shown = [] };
+  made = u.made;
+  steps = reads_steps u.list u.looks.reads;
+  cause = λ h lawful fits. at fault u.cause h lawful fits;
+  few = λ h lawful fits. few_looks (names_in s) s.metric (base_time q.start) (base_time q.end) u.list (first new.length h) u.looks.few;
+}
+  where
+    at : (e : AskFault) → UnresolvedBy (names_in s) u.list new e → (h : History) → IsLawful h → Fits new h → Cause (wanted q) names_in (barred q) (answer_over q) (IsFew q) s (record { own = u.list; shown = [] }) new.length h e
+    at (Unknown kind name) x h lawful fits = (free, first_unknown (names_in s) u.list new h lawful fits kind name x)
+    at OutOfMemory x h lawful fits = tt
+    at Stopped x h lawful fits = tt
+    at (TooManyBuckets count) x h lawful fits = absurd x
+    at (Duplicate time a b) x h lawful fits = absurd x
+    at (Overflow time) x h lawful fits = absurd x
+
+pub metric_refused : (q : Query) (s : Sub) (old new : Seen) (fault : AskFault) → barred q s ≡ None → IsUnresolved old (metric_name s) fault new → SubRefused q s old fault new
+metric_refused q s old new fault free u = names_refused q s old new fault free (unresolved_wider old new (metric_name s) (flat_map filter_names s.filters) fault u)
+
+pub filters_refused : (q : Query) (s : Sub) (listed : List Filter) (old mid new : Seen) (fault : AskFault) → listed ≡ s.filters → barred q s ≡ None → AreResolved old (metric_name s) mid → IsUnresolved mid (flat_map filter_names listed) fault new → SubRefused q s old fault new
+filters_refused q s listed old mid new fault is free r u =
+    names_refused q s old new fault free (unresolved_behind old mid new (metric_name s) (flat_map filter_names s.filters) fault r (subst (λ (l : List Filter). IsUnresolved mid (flat_map filter_names l) fault new) is u))
+
+-- ---- what stands of the names in a later history
+
+-- a sub query's names were resolved, and then entries were made
+pub record Begun (s : Sub) (id : ℕ) (filters : List IdFilter) (old mid new : Seen) (own : List Placed) : Type 0 where
+  pub resolved : AreResolved old (names_in s) mid
+  pub metric : HasShown mid Metric s.metric id
+  pub by : AreIdFilters mid s.filters filters
   pub made : Made mid own new
 
-pub begun : (metric : List ℕ) (id : ℕ) (old mid new : Seen) (own : List Placed) → ResolveSays metric old (Ok id) mid → Made mid own new → Begun metric id old mid new own
-begun metric id old mid new own ((looks, asked, kept), shown) made = record { looks = looks; asked = asked; few = looks_few Metric metric id looks kept; shown = shown; made = made }
+-- by what was said of the metric's name, and of the filters that were listed
+pub begun : (s : Sub) (id : ℕ) (listed : List Filter) (items filters : List IdFilter) (old now mid new : Seen) (own : List Placed) → listed ≡ s.filters → filters ≡ items → AreResolved old (metric_name s) now × HasShown now Metric s.metric id
+    → AreResolved now (flat_map filter_names listed) mid × AreIdFilters mid listed items → Made mid own new → Begun s id filters old mid new own
+begun s id listed items filters old now mid new own listed_is filters_are (metric, shown) (names, by) made = record {
+  resolved = resolved_joined old now mid (metric_name s) (flat_map filter_names s.filters) metric (subst (λ (l : List Filter). AreResolved now (flat_map filter_names l) mid) listed_is names);
+  metric = id_later now mid Metric s.metric id names.made.since.extends shown;
+  by = subst (λ (l : List Filter). AreIdFilters mid l filters) listed_is (subst (AreIdFilters mid listed) (sym filters_are) by);
+  made = made;
+}
 
-module _ (metric : List ℕ) (id : ℕ) (old mid new : Seen) (own : List Placed) (b : Begun metric id old mid new own) where
-  made_all : Made old (b.looks ++ own) new
-  made_all = lower.made_joined old mid new b.looks own b.asked b.made
+module _ (s : Sub) (id : ℕ) (filters : List IdFilter) (old mid new : Seen) (own : List Placed) (b : Begun s id filters old mid new own) where
+  abbrev looks : List Placed
+  looks = b.resolved.list
 
-  steps_all : AreQuerySteps own → AreQuerySteps (b.looks ++ own)
-  steps_all steps = steps_joined b.looks own (reads_steps b.looks b.few.0) steps
+  made_all : Made old (looks ++ own) new
+  made_all = lower.made_joined old mid new looks own b.resolved.made b.made
+
+  steps_all : AreQuerySteps own → AreQuerySteps (looks ++ own)
+  steps_all steps = steps_joined looks own (reads_steps looks b.resolved.looks.reads) steps
 
   -- in each later history, up to what is seen
   module _ (later : Seen) (ext : Extends new later) (h : History) (lawful : IsLawful h) (fits : Fits later h) where
@@ -108,81 +162,86 @@ module _ (metric : List ℕ) (id : ℕ) (old mid new : Seen) (own : List Placed)
     g_fits : Fits later g
     g_fits = lower.first_fits later h fits
 
-    metric_known : id_of g Metric metric ≡ Some id
-    metric_known = b.shown.stands later (lower.extends_joined mid new later b.made.since.extends ext) g g_lawful g_fits
+    from_mid : Extends mid later
+    from_mid = lower.extends_joined mid new later b.made.since.extends ext
 
-    metric_named : name_of g Metric id ≡ Some metric
-    metric_named = lower.names_back g Metric metric id g_lawful b.shown.is_name metric_known
+    metric_known : id_of g Metric s.metric ≡ Some id
+    metric_known = b.metric.stands later from_mid g g_lawful g_fits
 
-    all_resolved : AllResolved g ((Metric, metric) ∷ [])
-    all_resolved n c = elim (lower.split {X = NameOf} (Metric, metric) n [] c) [
-      | inl is ↦ subst (λ (x : NameOf). (i : ℕ) × (id_of g x.0 x.1 ≡ Some i)) is (id, metric_known)
-      | inr none ↦ absurd (lower.not_in {X = NameOf} n none)
-    ]
+    metric_named : name_of g Metric id ≡ Some s.metric
+    metric_named = lower.names_back g Metric s.metric id g_lawful b.metric.is_name metric_known
 
-    in_order : InOrder h later.length (b.looks ++ own)
+    all_resolved : AllResolved g (names_in s)
+    all_resolved n c = let w = b.resolved.shown n c in (w.0, w.1.stands later from_mid g g_lawful g_fits)
+
+    in_order : InOrder h later.length (looks ++ own)
     in_order =
-        let o = lower.made_stands old new (b.looks ++ own) h made_all (ext.fits h fits) in
+        let o = lower.made_stands old new (looks ++ own) h made_all (ext.fits h fits) in
         let longer = ext.length in
         record { rising = o.rising; each = λ q c. let w = o.each q c in (let le = w.0 in omega (arith, le, longer), w.1) }
 
     stood : (spare start end : ℕ) (founds : List Found) (ids : List IdOf) → Counted spare id start end own founds ids → (f : Found) → Contains founds f → StoodFound h later.length f
     stood spare start end founds ids counted f c =
-        let s = found_stood spare id start end mid new own founds ids h counted b.made lawful (ext.fits h fits) f c in
-        let le = s.up_to in
+        let x = found_stood spare id start end mid new own founds ids h counted b.made lawful (ext.fits h fits) f c in
+        let le = x.up_to in
         let longer = ext.length in
-        record { when = s.when; up_to = omega (arith, le, longer); has = s.has }
+        record { when = x.when; up_to = omega (arith, le, longer); has = x.has }
 
-  short_later : (q : Query) (founds : List Found) (ids : List IdOf) → Counted 1 id q.start q.end own founds ids → Later new (λ end h. IsShort ((Metric, metric) ∷ []) metric (base_time q.start) (base_time q.end) (b.looks ++ own) (first end h))
-  short_later q founds ids counted later ext h lawful fits =
-      few_rows q.start q.end metric id b.looks own founds ids h later.length b.few.1 counted lawful (metric_known later ext h lawful fits) (stood later ext h lawful fits 1 q.start q.end founds ids counted)
+    -- the filters by ids pick the rows that were found as the filters by names do
+    pick : (spare start end : ℕ) (founds : List Found) (ids : List IdOf) → Counted spare id start end own founds ids → (f : Found) (key : RowKey) → Contains founds f → KeyOf id start end f key → PicksBy (passes filters) s.filters (name_of g) key
+    pick spare start end founds ids counted f key c of =
+        picks_by g mid (λ kind name i shown. id_now mid later g kind name i from_mid g_lawful g_fits shown) s.filters filters key b.by of.is_key
+        (row_names h later.length id start end f key lawful (stood spare start end founds ids counted f c) of)
+
+  few_later : (q : Query) (founds : List Found) (ids : List IdOf) → Counted 1 id q.start q.end own founds ids → Later new (λ end h. IsFew q s (looks ++ own) (first end h))
+  few_later q founds ids counted later ext h lawful fits =
+      few_rows (names_in s) q.start q.end s.metric id looks own founds ids h later.length b.resolved.looks.few counted lawful (metric_known later ext h lawful fits) (stood later ext h lawful fits 1 q.start q.end founds ids counted)
 
 -- ---- the rows
 
-found_in_own : (spare id start end : ℕ) (own : List Placed) (founds : List Found) (ids : List IdOf) (time : ℕ) (a b : ℤ) → Counted spare id start end own founds ids → (f : FoundClash id start end own time a b) → Contains founds f.found
-found_in_own spare id start end own founds ids time a b c f =
+found_in_own : (picks : Picks) (spare id start end : ℕ) (own : List Placed) (founds : List Found) (ids : List IdOf) (time : ℕ) (a b : ℤ) → Counted spare id start end own founds ids → (f : FoundClash picks id start end own time a b) → Contains founds f.found
+found_in_own picks spare id start end own founds ids time a b c f =
     c.shows f.last f.found (subst (λ (l : List Placed). Contains l f.last) (sym f.cut) (Contains-append_right f.earlier (f.last ∷ []) f.last (lower.here f.last []))) f.reply
 
-pub collect_refused : (q : Query) (s : Sub) (old mid new : Seen) (id : ℕ) (fault : AskFault) → ResolveSays s.metric old (Ok id) mid → WasCut id q.start q.end mid fault new → SubRefused q s old fault new
-collect_refused q s old mid new id fault r c = at fault c.cause
-  where
-    b : Begun s.metric id old mid new c.own
-    b = begun s.metric id old mid new c.own r c.made
+module _ (q : Query) (s : Sub) (old mid new : Seen) (id : ℕ) (filters : List IdFilter) (free : barred q s ≡ None) where
+  pub collect_refused : (fault : AskFault) (c : WasCut (passes filters) id q.start q.end mid fault new) → Begun s id filters old mid new c.own → SubRefused q s old fault new
+  collect_refused fault c b = at fault c.cause
+    where
+      refused : (e : AskFault) → InEach new (λ h. Cause (wanted q) names_in (barred q) (answer_over q) (IsFew q) s (record { own = b.resolved.list ++ c.own; shown = [] }) new.length h e) → SubRefused q s old e new
+      refused e cause = record {
+        part = record { own = b.resolved.list ++ c.own; shown = [] };
+        made = made_all s id filters old mid new c.own b;
+        steps = steps_all s id filters old mid new c.own b c.counted.steps;
+        cause = cause;
+        few = λ h lawful fits. few_later s id filters old mid new c.own b q c.founds c.ids c.counted new (lower.itself new) h lawful fits;
+      }
 
-    part : Part
-    part = record { own = b.looks ++ c.own; shown = [] }
-
-    refused : (e : AskFault) → InEach new (λ h. Cause (wanted q) names_in barred (answer_over q) s part new.length h e) → SubRefused q s old e new
-    refused e cause = record {
-      part = part;
-      made = made_all s.metric id old mid new c.own b;
-      steps = steps_all s.metric id old mid new c.own b c.counted.steps;
-      cause = cause;
-      short = short_later s.metric id old mid new c.own b q c.founds c.ids c.counted;
-    }
-
-    at : (e : AskFault) → ClashOf id q.start q.end c.own e → SubRefused q s old e new
-    at (Duplicate time x y) f =
-        refused (Duplicate time x y) (λ h lawful fits.
-        let found = found_in_own 1 id q.start q.end c.own c.founds c.ids time x y c.counted f in
-        let stand = stood s.metric id old mid new c.own b new (lower.itself new) h lawful fits 1 q.start q.end c.founds c.ids c.counted f.found found in
-        let resolved = all_resolved s.metric id old mid new c.own b new (lower.itself new) h lawful fits in
-        let named = metric_named s.metric id old mid new c.own b new (lower.itself new) h lawful fits in
-        let known = metric_known s.metric id old mid new c.own b new (lower.itself new) h lawful fits in
-        let order = in_order s.metric id old mid new c.own b new (lower.itself new) h lawful fits in
-        let row = row_names h new.length id q.start q.end f.found f.clash.key lawful stand f.clash.of in
-        (refl, resolved, first_clash_of h new.length q.start q.end s.metric id b.looks c.own time x y lawful order b.few.0 f named known row))
-    at OutOfMemory f = refused OutOfMemory (λ h lawful fits. tt)
-    at Stopped f = refused Stopped (λ h lawful fits. tt)
-    at (TooManyBuckets count) f = absurd f
-    at (Unknown kind name) f = absurd f
-    at (Overflow time) f = absurd f
+      at : (e : AskFault) → ClashOf (passes filters) id q.start q.end c.own e → SubRefused q s old e new
+      at (Duplicate time x y) f =
+          refused (Duplicate time x y) (λ h lawful fits.
+          let found = found_in_own (passes filters) 1 id q.start q.end c.own c.founds c.ids time x y c.counted f in
+          let stand = stood s id filters old mid new c.own b new (lower.itself new) h lawful fits 1 q.start q.end c.founds c.ids c.counted f.found found in
+          let resolved = all_resolved s id filters old mid new c.own b new (lower.itself new) h lawful fits in
+          let named = metric_named s id filters old mid new c.own b new (lower.itself new) h lawful fits in
+          let known = metric_known s id filters old mid new c.own b new (lower.itself new) h lawful fits in
+          let order = in_order s id filters old mid new c.own b new (lower.itself new) h lawful fits in
+          let row = row_names h new.length id q.start q.end f.found f.clash.key lawful stand f.clash.of in (
+            free,
+            resolved,
+            first_clash_of (passes filters) h new.length q.start q.end s.metric s.filters id b.resolved.list c.own time x y lawful order b.resolved.looks.reads f named known row
+                (λ other key shows of. pick s id filters old mid new c.own b new (lower.itself new) h lawful fits 1 q.start q.end c.founds c.ids c.counted other key (c.counted.shows shows.placed other shows.among shows.reply) of),
+          ))
+      at OutOfMemory f = refused OutOfMemory (λ h lawful fits. tt)
+      at Stopped f = refused Stopped (λ h lawful fits. tt)
+      at (TooManyBuckets count) f = absurd f
+      at (Unknown kind name) f = absurd f
+      at (Overflow time) f = absurd f
 
 -- ---- the groups
 
 -- the ids of a series with a point are those of a row
-pairs_titled : (id start end : ℕ) (founds : List Found) (spans : List Span) (names : Names) → Gathered id start end founds spans names → (s : Span) → Contains spans s → ArePairs names s.0
-pairs_titled id start end founds spans names g s c = at s.1 refl (g.some s c)
+pairs_titled : (picks : Picks) (id start end : ℕ) (founds : List Found) (spans : List Span) (names : Names) → Gathered picks id start end founds spans names → (s : Span) → Contains spans s → ArePairs names s.0
+pairs_titled picks id start end founds spans names g s c = at s.1 refl (g.some s c)
   where
     at : (dots : List (ℕ × ℤ)) → s.1 ≡ dots → 1 ≤ length s.1 → ArePairs names s.0
     at [] e some = let n = ap length e in absurd (omega (arith, some, n))
@@ -194,62 +253,61 @@ pairs_titled id start end founds spans names g s c = at s.1 refl (g.some s c)
           some = w.of.is_key.some;
           most = w.of.is_key.most;
           rising = w.of.is_key.rising;
-          named = λ i x. row.named i (subst (λ (k : RowKey). Contains (ids_of k.pairs.items) i) (sym same) x);
+          named = λ i x. (row.is_in (subst (λ (k : RowKey). picks k.pairs.items ≡ true) (sym same) w.picked)).named i (subst (λ (k : RowKey). Contains (ids_of k.pairs.items) i) (sym same) x);
         })
 
-pub can_title : (id start end : ℕ) (old new : Seen) (spans : List Span) (names : Names) → HasCollected id start end old spans names new → IsPossible new → CanTitle names spans
-can_title id start end old new spans names c p = record {
+pub can_title : (picks : Picks) (id start end : ℕ) (old new : Seen) (spans : List Span) (names : Names) → HasCollected picks id start end old spans names new → IsPossible new → CanTitle names spans
+can_title picks id start end old new spans names c p = record {
   one = one_to_one names new p.history c.shown p.lawful p.fits;
-  each = pairs_titled id start end c.founds spans names c.content;
+  each = pairs_titled picks id start end c.founds spans names c.content;
 }
 
-pub times_small : (id start end : ℕ) (old new : Seen) (spans : List Span) (names : Names) → end ≤ 4294967295999 → HasCollected id start end old spans names new → (s : Span) (d : ℕ × ℤ) → Contains spans s → Contains s.1 d → d.0 < 2 ^ 43
-times_small id start end old new spans names most c s d i j = let w = (c.content.from s d i j).within in let high = w.1 in omega (arith, high, most)
+pub times_small : (picks : Picks) (id start end : ℕ) (old new : Seen) (spans : List Span) (names : Names) → end ≤ 4294967295999 → HasCollected picks id start end old spans names new → (s : Span) (d : ℕ × ℤ) → Contains spans s → Contains s.1 d → d.0 < 2 ^ 43
+times_small picks id start end old new spans names most c s d i j = let w = (c.content.from s d i j).within in let high = w.1 in omega (arith, high, most)
 
 -- the part of a sub query that was read to its end
-module _ (q : Query) (s : Sub) (old mid new : Seen) (id : ℕ) (spans : List Span) (names : Names) (covering : ScanCovers) (r : ResolveSays s.metric old (Ok id) mid) (c : HasCollected id q.start q.end mid spans names new) where
-  b : Begun s.metric id old mid new c.own
-  b = begun s.metric id old mid new c.own r c.made
-
+module _ (q : Query) (s : Sub) (old mid new : Seen) (id : ℕ) (filters : List IdFilter) (free : barred q s ≡ None) (spans : List Span) (names : Names) (covering : ScanCovers) (c : HasCollected (passes filters) id q.start q.end mid spans names new) (b : Begun s id filters old mid new c.own) where
   whole_part : List Series → Part
-  whole_part series = record { own = b.looks ++ c.own; shown = readings_in s.metric series }
+  whole_part series = record { own = b.resolved.list ++ c.own; shown = readings_in s.metric series }
 
   part_stands : (series : List Series) → Titles names spans series → Later new (λ end h. PartStands (wanted q s) (names_in s) (whole_part series) end h)
   unfolding whole_part
   part_stands series titles later ext h lawful fits =
       let g = first later.length h in
-      let gl = g_lawful s.metric id old mid new c.own b later ext h lawful fits in
-      let gf = g_fits s.metric id old mid new c.own b later ext h lawful fits in
-      stands_in q.start q.end s.metric id b.looks c.own c.founds c.ids spans names series g b.few.0 c.counted c.content titles (metric_named s.metric id old mid new c.own b later ext h lawful fits) (metric_known s.metric id old mid new c.own b later ext h lawful fits)
-      (λ pairs tags n. named_in names new later g pairs tags c.shown ext gl gf n) h later.length refl covering lawful (in_order s.metric id old mid new c.own b later ext h lawful fits) c.begin c.starts c.whole
+      let gl = g_lawful s id filters old mid new c.own b later ext h lawful fits in
+      let gf = g_fits s id filters old mid new c.own b later ext h lawful fits in
+      stands_in (passes filters) q.start q.end s.metric s.filters id b.resolved.list c.own c.founds c.ids spans names series g b.resolved.looks.reads c.counted c.content titles (metric_named s id filters old mid new c.own b later ext h lawful fits)
+      (metric_known s id filters old mid new c.own b later ext h lawful fits) (λ pairs tags n. named_in names new later g pairs tags c.shown ext gl gf n) (pick s id filters old mid new c.own b later ext h lawful fits 1 q.start q.end c.founds c.ids c.counted)
+      h later.length refl covering lawful (in_order s id filters old mid new c.own b later ext h lawful fits) c.begin c.starts c.whole (names_in s) (all_resolved s id filters old mid new c.own b later ext h lawful fits)
 
-  same_answer : (series : List Series) (wants : Result (List Group) ℕ) → q.ms ≡ true → answer true s.how s.metric (points_in s.metric series) ≡ wants → answer_over q s (readings_in s.metric series) ≡ wants
-  same_answer series wants ms e = ap (λ m. answer m s.how s.metric (map as_point (readings_in s.metric series))) ms ∙ ap (answer true s.how s.metric) (as_points s.metric series) ∙ e
+  same_answer : (series : List Series) (wants : Result (List Group) ℕ) → answer q s (points_in s.metric series) ≡ wants → answer_over q s (readings_in s.metric series) ≡ wants
+  same_answer series wants e = ap (answer q s) (as_points s.metric series) ∙ e
 
-  refused_whole : (fault : AskFault) (shown : List Series) → InEach new (λ h. Cause (wanted q) names_in barred (answer_over q) s (whole_part shown) new.length h fault) → SubRefused q s old fault new
+  refused_whole : (fault : AskFault) (shown : List Series) → InEach new (λ h. Cause (wanted q) names_in (barred q) (answer_over q) (IsFew q) s (whole_part shown) new.length h fault) → SubRefused q s old fault new
   unfolding whole_part
   refused_whole fault shown cause = record {
     part = whole_part shown;
-    made = made_all s.metric id old mid new c.own b;
-    steps = steps_all s.metric id old mid new c.own b c.counted.steps;
+    made = made_all s id filters old mid new c.own b;
+    steps = steps_all s id filters old mid new c.own b c.counted.steps;
     cause = cause;
-    short = short_later s.metric id old mid new c.own b q c.founds c.ids c.counted;
+    few = λ h lawful fits. few_later s id filters old mid new c.own b q c.founds c.ids c.counted new (lower.itself new) h lawful fits;
   }
 
-  pub groups_answered : q.ms ≡ true → (result : Result (Vec code.Group) AskFault) → GroupsSay s.how s.metric names spans result → SubSays q s old result new
+  pub groups_answered : (result : Result (Vec code.Group) AskFault) → GroupsSay q s names spans result → SubSays q s old result new
   unfolding whole_part
-  groups_answered ms (Ok groups) (series, titles, e) = record {
+  groups_answered (Ok groups) (series, titles, e) = record {
     part = whole_part series;
-    made = made_all s.metric id old mid new c.own b;
-    steps = steps_all s.metric id old mid new c.own b c.counted.steps;
+    made = made_all s id filters old mid new c.own b;
+    steps = steps_all s id filters old mid new c.own b c.counted.steps;
+    free = free;
     stands = part_stands series titles;
-    answers = same_answer series (Ok (map plain groups.items)) ms e;
-    short = short_later s.metric id old mid new c.own b q c.founds c.ids c.counted;
+    answers = same_answer series (Ok (map plain groups.items)) e;
+    few = few_later s id filters old mid new c.own b q c.founds c.ids c.counted;
   }
-  groups_answered ms (Err (Overflow time)) (series, titles, e) =
-      refused_whole (Overflow time) series (λ h lawful fits. (refl, part_stands series titles new (lower.itself new) h lawful fits, same_answer series (Err time) ms e))
-  groups_answered ms (Err OutOfMemory) x = refused_whole OutOfMemory [] (λ h lawful fits. tt)
-  groups_answered ms (Err Stopped) x = absurd x
-  groups_answered ms (Err (TooManyBuckets count)) x = absurd x
-  groups_answered ms (Err (Unknown kind name)) x = absurd x
-  groups_answered ms (Err (Duplicate time a z)) x = absurd x
+  groups_answered (Err (Overflow time)) (series, titles, e) =
+      refused_whole (Overflow time) series (λ h lawful fits. (free, part_stands series titles new (lower.itself new) h lawful fits, same_answer series (Err time) e))
+  groups_answered (Err OutOfMemory) x = refused_whole OutOfMemory [] (λ h lawful fits. tt)
+  groups_answered (Err Stopped) x = absurd x
+  groups_answered (Err (TooManyBuckets count)) x = absurd x
+  groups_answered (Err (Unknown kind name)) x = absurd x
+  groups_answered (Err (Duplicate time a z)) x = absurd x

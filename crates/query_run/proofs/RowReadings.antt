@@ -19,9 +19,11 @@ use Rattle.cell_model.specs.Layout.{base_time}
 use Rattle.cell_model.specs.Readings.{Reading, OneValued, Named}
 use Rattle.row_scan.specs.Kept.{AreDots, values_at}
 use Rattle.row_scan.specs.Shown.{RowReads, Chosen, BySeries}
+use Rattle.query_text.specs.declared.queries.Filter.{Filter}
+use Rattle.group_by.specs.Filters.{passes}
 use Rattle.query_run.specs.Queries.{is_wanted}
 use Rattle.query_run.specs.RowDots.{IsIn}
-use Rattle.query_run.specs.Collecting.{KeyOf, RowIsClean}
+use Rattle.query_run.specs.Collecting.{Picks, KeyOf, RowIsClean}
 use Rattle.query_run.proofs.Lower as lower
 use Rattle.query_run.proofs.RowPoints.{one_value}
 
@@ -35,22 +37,25 @@ and_true : (a b : Bool) → a ≡ true → b ≡ true → (a && b) ≡ true
 and_true true b e f = f
 and_true false b e f = cc
 
-pub record Asks (start end : ℕ) (metric : List ℕ) (r : Reading) : Type 0 where
+pub record Asks (start end : ℕ) (metric : List ℕ) (filters : List Filter) (r : Reading) : Type 0 where
   pub metric_is : r.metric ≡ metric
   pub within : IsIn start end r.time
+  pub passed : passes filters r.tags ≡ true
 
-pub asks : (start end : ℕ) (metric : List ℕ) (r : Reading) → IsTrue (is_wanted start end metric r) → Asks start end metric r
-asks start end metric r w =
-    let m = both (is_same r.metric metric) (nat_le start r.time && nat_le r.time end) w in
-    let t = both (nat_le start r.time) (nat_le r.time end) m.1 in
-    record { metric_is = (bytes_decides r.metric metric).0 m.0; within = (leb-true start r.time t.0, leb-true r.time end t.1) }
+pub asks : (start end : ℕ) (metric : List ℕ) (filters : List Filter) (r : Reading) → IsTrue (is_wanted start end metric filters r) → Asks start end metric filters r
+asks start end metric filters r w =
+    let m = both (is_same r.metric metric) (nat_le start r.time && (nat_le r.time end && passes filters r.tags)) w in
+    let t = both (nat_le start r.time) (nat_le r.time end && passes filters r.tags) m.1 in
+    let u = both (nat_le r.time end) (passes filters r.tags) t.1 in
+    record { metric_is = (bytes_decides r.metric metric).0 m.0; within = (leb-true start r.time t.0, leb-true r.time end u.0); passed = u.1 }
 
-pub is_asked : (start end : ℕ) (metric : List ℕ) (r : Reading) → r.metric ≡ metric → IsIn start end r.time → IsTrue (is_wanted start end metric r)
-is_asked start end metric r m t =
-    and_true (is_same r.metric metric) (nat_le start r.time && nat_le r.time end) ((bytes_decides r.metric metric).1 m) (and_true (nat_le start r.time) (nat_le r.time end) (le-leb start r.time t.0) (le-leb r.time end t.1))
+pub is_asked : (start end : ℕ) (metric : List ℕ) (filters : List Filter) (r : Reading) → r.metric ≡ metric → IsIn start end r.time → passes filters r.tags ≡ true → IsTrue (is_wanted start end metric filters r)
+is_asked start end metric filters r m t p =
+    and_true (is_same r.metric metric) (nat_le start r.time && (nat_le r.time end && passes filters r.tags)) ((bytes_decides r.metric metric).1 m)
+    (and_true (nat_le start r.time) (nat_le r.time end && passes filters r.tags) (le-leb start r.time t.0) (and_true (nat_le r.time end) (passes filters r.tags) (le-leb r.time end t.1) p))
 
-pub by_series : (start end : ℕ) (metric : List ℕ) → BySeries (is_wanted start end metric)
-by_series start end metric a b m = λ i. is_same (m.metric i) metric && (nat_le start (m.time i) && nat_le (m.time i) end)
+pub by_series : (start end : ℕ) (metric : List ℕ) (filters : List Filter) → BySeries (is_wanted start end metric filters)
+by_series start end metric filters a b m = λ i. is_same (m.metric i) metric && (nat_le start (m.time i) && (nat_le (m.time i) end && passes filters (m.tags i)))
 
 pub hours_within : (start end time : ℕ) → IsIn start end time → (base_time start ≤ base_time time) × (base_time time ≤ base_time end)
 hours_within start end time w = (low start time w.0, low time end w.1)
@@ -117,6 +122,13 @@ reads_dot names id start end f key all r of are x =
       value_is = d.value_is;
     }
 
+-- the tags of a reading of the row have the names of its ids
+pub read_tags : (names : Kind → ℕ → Option (List ℕ)) (id start end : ℕ) (f : Found) (key : RowKey) (r : Reading) → KeyOf id start end f key → RowReads names f r → Named names key.pairs.items r.tags
+read_tags names id start end f key r of x =
+    let d = x.reads.dot_reads in
+    let same : d.key ≡ key = lower.one_key d.key key d.is_key of.is_key (sym d.row_is ∙ ap (λ (w : Row). w.bytes) of.row_is) in
+    subst (λ (k : RowKey). Named names k.pairs.items r.tags) same d.tags_are
+
 -- and each data point, with names, is a reading
 pub dot_reads : (names : Kind → ℕ → Option (List ℕ)) (id start end : ℕ) (f : Found) (key : RowKey) (all : List Dot) (r : Reading) → KeyOf id start end f key → AreDots f.cells all → ReadsDot names key all r → RowReads names f r
 dot_reads names id start end f key all r of are x =
@@ -136,15 +148,21 @@ dot_reads names id start end f key all r of are x =
 same_offset : (base a b s t : ℕ) → s ≡ base * 1000 + a → t ≡ base * 1000 + b → s ≡ t → a ≡ b
 same_offset base a b s t x y e = omega (arith, x, y, e)
 
+-- the row is asked for exactly where its tags pass the filters
+abbrev pub PicksBy : Picks → List Filter → (Kind → ℕ → Option (List ℕ)) → RowKey → Type 0
+PicksBy picks filters names key = (tags : List Pair) → Named names key.pairs.items tags → picks key.pairs.items ≡ passes filters tags
+
 -- at one time a clean row has one value
-pub clean_row : (names : Kind → ℕ → Option (List ℕ)) (id start end : ℕ) (metric : List ℕ) (f : Found) → RowIsClean id start end f → OneValued (Chosen (is_wanted start end metric) (RowReads names f))
-clean_row names id start end metric f c a b x y meets =
-    let p = reads_dot names id start end f c.key c.all a c.of c.are x.0 in
-    let q = reads_dot names id start end f c.key c.all b c.of c.are y.0 in
+pub clean_row : (picks : Picks) (names : Kind → ℕ → Option (List ℕ)) (id start end : ℕ) (metric : List ℕ) (filters : List Filter) (f : Found) → (c : RowIsClean picks id start end f) → PicksBy picks filters names c.key → OneValued (Chosen (is_wanted start end metric filters) (RowReads names f))
+clean_row picks names id start end metric filters f c by a b x y meets =
+    let w = asks start end metric filters a x.1 in
+    let tags = read_tags names id start end f c.key a c.of x.0 in
+    let clean = c.clean (by a.tags tags ∙ w.passed) in
+    let p = reads_dot names id start end f c.key clean.all a c.of clean.are x.0 in
+    let q = reads_dot names id start end f c.key clean.all b c.of clean.are y.0 in
     let offset = same_offset c.key.base p.dot.item.offset q.dot.item.offset a.time b.time p.time_is q.time_is meets.time in
-    let w = asks start end metric a x.1 in
-    let none = c.one p.dot.item.offset (subst (IsIn start end) p.time_is w.within) in
-    p.value_is ∙ one_value (values_at p.dot.item.offset c.all) none p.dot.value q.dot.value (lower.dot_value c.all p.dot p.dot.item.offset p.there refl) (lower.dot_value c.all q.dot p.dot.item.offset q.there (sym offset)) ∙ sym q.value_is
+    let none = clean.one p.dot.item.offset (subst (IsIn start end) p.time_is w.within) in
+    p.value_is ∙ one_value (values_at p.dot.item.offset clean.all) none p.dot.value q.dot.value (lower.dot_value clean.all p.dot p.dot.item.offset p.there refl) (lower.dot_value clean.all q.dot p.dot.item.offset q.there (sym offset)) ∙ sym q.value_is
 
 -- ---- tags are one
 

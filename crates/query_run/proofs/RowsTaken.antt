@@ -1,5 +1,5 @@
 -- One row that was found, and what is taken of it.
-use Rattle.std.proofs.Common.{◌≡◌, ℕ, ◌+◌, ◌*◌, ◌<◌, ◌≤◌, List, [], ◌∷◌, sym, ap, subst, ◌∙◌, arith}
+use Rattle.std.proofs.Common.{◌≡◌, ℕ, ◌+◌, ◌*◌, ◌<◌, ◌≤◌, true, false, List, [], ◌∷◌, refl, sym, ap, subst, ◌∙◌, arith}
 use Rattle.std.specs.Prelude.{ℤ, All, Contains, Err}
 use Rattle.std.specs.List.{AllByRecursion}
 use Rattle.std.proofs.lemmas.List.Elements.{recursion_from_All}
@@ -19,7 +19,7 @@ use Rattle.query_run.specs.declared.collecting.Collected.{Collected}
 use Rattle.query_run.specs.Faults.{ask_fault}
 use Rattle.query_run.specs.Naming.{IdOf, Names, KnowsPair, NamesRead, NamesCut, ids_of, known}
 use Rattle.query_run.specs.RowDots.{HasDots, DotsAsked}
-use Rattle.query_run.specs.Collecting.{KeyOf, FoundRow, StandsBehind, Adds, RowTaken, RowCut, RowAsked}
+use Rattle.query_run.specs.Collecting.{Picks, KeyOf, FoundRow, StandsBehind, Adds, RowLeft, RowTaken, RowCut, RowAsked}
 use Rattle.query_run.proofs.Lower as lower
 use Rattle.query_run.proofs.NameReads.{read_nothing, read_then_cut, cut_among}
 
@@ -40,46 +40,52 @@ no_names s names asked = cut_among s s names [] asked (λ i c. absurd (lower.not
 
 -- ---- a fault of its points
 
-pub dots_failed : (s : Seen) (id start end : ℕ) (f : Found) (key : RowKey) (before after : Collected) (fault : AskFault) → KeyOf id start end f key → DotsAsked f.cells key.base start end (Err fault) → RowAsked id start end f s before (Err fault) s after
-dots_failed s id start end f key before after (Duplicate time a b) of asked = (lower.nothing_made s, record { key = key; of = of; clash = asked })
-dots_failed s id start end f key before after OutOfMemory of asked = record { key = key; of = of; named = no_names s (known before.names) (ids_of key.pairs.items) }
-dots_failed s id start end f key before after (TooManyBuckets count) of asked = absurd asked
-dots_failed s id start end f key before after (Unknown kind name) of asked = absurd asked
-dots_failed s id start end f key before after (Overflow time) of asked = absurd asked
-dots_failed s id start end f key before after Stopped of asked = absurd asked
+pub dots_failed : (picks : Picks) (s : Seen) (id start end : ℕ) (f : Found) (key : RowKey) (before after : Collected) (fault : AskFault) → KeyOf id start end f key → picks key.pairs.items ≡ true → DotsAsked f.cells key.base start end (Err fault) → RowAsked picks id start end f s before (Err fault) s after
+dots_failed picks s id start end f key before after (Duplicate time a b) of picked asked = (lower.nothing_made s, record { key = key; of = of; picked = picked; clash = asked })
+dots_failed picks s id start end f key before after OutOfMemory of picked asked = record { key = key; of = of; named = no_names s (known before.names) (ids_of key.pairs.items) }
+dots_failed picks s id start end f key before after (TooManyBuckets count) of picked asked = absurd asked
+dots_failed picks s id start end f key before after (Unknown kind name) of picked asked = absurd asked
+dots_failed picks s id start end f key before after (Overflow time) of picked asked = absurd asked
+dots_failed picks s id start end f key before after Stopped of picked asked = absurd asked
 
 -- ---- a fault of its names
 
-pub names_failed : (s t : Seen) (id start end : ℕ) (f : Found) (key : RowKey) (pairs : List (ℕ × ℕ)) (before after : Collected) (e : RowsFault) → KeyOf id start end f key → pairs ≡ key.pairs.items → NamesCut s (known before.names) (ids_of pairs) t
-    → RowAsked id start end f s before (Err (ask_fault e)) t after
-names_failed s t id start end f key pairs before after e of same cut = at e
+pub names_failed : (picks : Picks) (s t : Seen) (id start end : ℕ) (f : Found) (key : RowKey) (pairs : List (ℕ × ℕ)) (before after : Collected) (e : RowsFault) → KeyOf id start end f key → pairs ≡ key.pairs.items → NamesCut s (known before.names) (ids_of pairs) t
+    → RowAsked picks id start end f s before (Err (ask_fault e)) t after
+names_failed picks s t id start end f key pairs before after e of same cut = at e
   where
     all : RowCut id start end f s (known before.names) t
     all = record { key = key; of = of; named = subst (λ (l : List (ℕ × ℕ)). NamesCut s (known before.names) (ids_of l) t) same cut }
 
-    at : (e : RowsFault) → RowAsked id start end f s before (Err (ask_fault e)) t after
+    at : (e : RowsFault) → RowAsked picks id start end f s before (Err (ask_fault e)) t after
     at rows.OutOfMemory = all
     at rows.Stopped = all
 
 -- ---- no memory for the points
 
-pub add_failed : (s t : Seen) (id start end : ℕ) (f : Found) (key : RowKey) (pairs : List (ℕ × ℕ)) (before after : Collected) (names : Names) → KeyOf id start end f key → pairs ≡ key.pairs.items → NamesRead s (known before.names) (ids_of pairs) t names
-    → RowAsked id start end f s before (Err OutOfMemory) t after
-add_failed s t id start end f key pairs before after names of same read =
-    names_failed s t id start end f key pairs before after rows.OutOfMemory of same (read_then_cut s t (known before.names) names (ids_of pairs) read)
+pub add_failed : (picks : Picks) (s t : Seen) (id start end : ℕ) (f : Found) (key : RowKey) (pairs : List (ℕ × ℕ)) (before after : Collected) (names : Names) → KeyOf id start end f key → pairs ≡ key.pairs.items → NamesRead s (known before.names) (ids_of pairs) t names
+    → RowAsked picks id start end f s before (Err OutOfMemory) t after
+add_failed picks s t id start end f key pairs before after names of same read =
+    names_failed picks s t id start end f key pairs before after rows.OutOfMemory of same (read_then_cut s t (known before.names) names (ids_of pairs) read)
 
 -- ---- all was taken
 
-pub row_taken : (s t : Seen) (id start end : ℕ) (f : Found) (key : RowKey) (pairs again : List (ℕ × ℕ)) (dots : List (ℕ × ℤ)) (before after : List Span) (names names_after : Names) → KeyOf id start end f key → pairs ≡ key.pairs.items → again ≡ key.pairs.items
-    → NamesRead s names (ids_of pairs) t names_after → HasDots f.cells key.base start end dots → Adds before again dots after → RowTaken id start end f s before names t after names_after
-row_taken s t id start end f key pairs again dots before after names names_after of same still read has adds = record {
+pub row_taken : (picks : Picks) (s t : Seen) (id start end : ℕ) (f : Found) (key : RowKey) (pairs again : List (ℕ × ℕ)) (dots : List (ℕ × ℤ)) (before after : List Span) (names names_after : Names) → KeyOf id start end f key → picks key.pairs.items ≡ true → pairs ≡ key.pairs.items → again ≡ key.pairs.items
+    → NamesRead s names (ids_of pairs) t names_after → HasDots f.cells key.base start end dots → Adds before again dots after → RowTaken picks id start end f s before names t after names_after
+row_taken picks s t id start end f key pairs again dots before after names names_after of picked same still read has adds = record {
   key = key;
   of = of;
+  picked = picked;
   named = subst (λ (l : List (ℕ × ℕ)). NamesRead s names (ids_of l) t names_after) same read;
   dots = dots;
   has = has;
   adds = subst (λ (l : List (ℕ × ℕ)). Adds before l dots after) still adds;
 }
+
+-- ---- it isn't asked for
+
+pub row_left : (picks : Picks) (s : Seen) (id start end : ℕ) (f : Found) (key : RowKey) (spans : List Span) (names : Names) → KeyOf id start end f key → picks key.pairs.items ≡ false → RowLeft picks id start end f s spans names s spans names
+row_left picks s id start end f key spans names of left = record { key = key; of = of; left = left; made = lower.nothing_made s; spans_are = refl; names_are = refl }
 
 -- ---- the points are above those of earlier hours
 

@@ -23,8 +23,8 @@ use Rattle.query_run.specs.declared.fault.AskFault.TheVariants.{TooManyBuckets, 
 use Rattle.query_run.specs.declared.collecting.Collected.{Collected}
 use Rattle.query_run.specs.Faults.{ask_fault}
 use Rattle.query_run.specs.Parts.{IsQueryStep, AreQuerySteps}
-use Rattle.query_run.specs.Naming.{IdOf, Names, HasName, AreReads, IdReads, ids_of, known}
-use Rattle.query_run.specs.Collecting.{KeyOf, StandsBehind, RowTaken, RowCut, RowClashes, RowAsked, Counted, Gathered, Gathering, HasCollected, ShowsBelow, ClashOf, WasCut}
+use Rattle.query_run.specs.Naming.{IdOf, Names, AllNamed, HasName, AreReads, IdReads, ids_of, known}
+use Rattle.query_run.specs.Collecting.{Picks, KeyOf, StandsBehind, RowDone, RowCut, RowClashes, RowAsked, Counted, Gathered, Gathering, HasCollected, ShowsBelow, ClashOf, WasCut}
 use Rattle.query_run.proofs.Lower as lower
 use Rattle.query_run.proofs.NameReads.{pairs_joined, named_kept}
 use Rattle.query_run.proofs.ScanSteps.{NextFound, next_found, only_behind, below_next, below_rest}
@@ -147,11 +147,11 @@ counted_end id start end own list founds ids left p c is next =
 -- ---- where the scan stands
 
 -- it was started and collected so far
-abbrev pub SoFar : ℕ → ℕ → ℕ → Left → Seen → List Span → Names → Seen → Type 0
-SoFar id start end left old spans names now = (begin : Left) × IsStart id (base_time start) (base_time end) begin × Gathering id start end begin left old spans names now
+abbrev pub SoFar : Picks → ℕ → ℕ → ℕ → Left → Seen → List Span → Names → Seen → Type 0
+SoFar picks id start end left old spans names now = (begin : Left) × IsStart id (base_time start) (base_time end) begin × Gathering picks id start end begin left old spans names now
 
-pub scan_starts : (id start end : ℕ) (left : Left) (s : Seen) (spans : List Span) (names : Names) → IsStart id (base_time start) (base_time end) left → Gathered id start end [] spans names → ((kind : Kind) (i : ℕ) → names kind i ≡ None) → SoFar id start end left s spans names s
-scan_starts id start end left s spans names is content none = (
+pub scan_starts : (picks : Picks) (id start end : ℕ) (left : Left) (s : Seen) (spans : List Span) (names : Names) → IsStart id (base_time start) (base_time end) left → Gathered picks id start end [] spans names → ((kind : Kind) (i : ℕ) → names kind i ≡ None) → SoFar picks id start end left s spans names s
+scan_starts picks id start end left s spans names is content none = (
   left,
   is,
   record {
@@ -171,20 +171,20 @@ scan_starts id start end left s spans names is content none = (
 )
 
 -- a row that a turn found
-pub record Turned (old now next : Seen) (id start end : ℕ) (left : Left) (spans : List Span) (names : Names) (f : Found) : Type 0 where
-  pub far : SoFar id start end left old spans names now
+pub record Turned (picks : Picks) (old now next : Seen) (id start end : ℕ) (left : Left) (spans : List Span) (names : Names) (f : Found) : Type 0 where
+  pub far : SoFar picks id start end left old spans names now
   pub p : Placed
   pub made : Made now (p ∷ []) next
   pub is_next : IsNext left (Some f) p
   pub possible : IsPossible next
 
-pub turned : (old now next : Seen) (id start end : ℕ) (left : Left) (spans : List Span) (names : Names) (o : Option Found) (f : Found) → SoFar id start end left old spans names now → o ≡ Some f → MadeSo now (TurnMade left (Ok o)) next → IsPossible next
-    → Turned old now next id start end left spans names f
-turned old now next id start end left spans names o f far is (list, made, (p, list_is, n)) possible =
+pub turned : (picks : Picks) (old now next : Seen) (id start end : ℕ) (left : Left) (spans : List Span) (names : Names) (o : Option Found) (f : Found) → SoFar picks id start end left old spans names now → o ≡ Some f → MadeSo now (TurnMade left (Ok o)) next → IsPossible next
+    → Turned picks old now next id start end left spans names f
+turned picks old now next id start end left spans names o f far is (list, made, (p, list_is, n)) possible =
     record { far = far; p = p; made = subst (λ (l : List Placed). Made now l next) list_is made; is_next = subst (λ (x : Option Found). IsNext left x p) is n; possible = possible }
 
-module _ (old now next : Seen) (id start end : ℕ) (left : Left) (spans : List Span) (names : Names) (f : Found) (t : Turned old now next id start end left spans names f) where
-  abbrev so : Gathering id start end t.far.0 left old spans names now
+module _ (picks : Picks) (old now next : Seen) (id start end : ℕ) (left : Left) (spans : List Span) (names : Names) (f : Found) (t : Turned picks old now next id start end left spans names f) where
+  abbrev so : Gathering picks id start end t.far.0 left old spans names now
   so = t.far.2
 
   pub row_found : NextFound next id start end left f
@@ -194,30 +194,40 @@ module _ (old now next : Seen) (id start end : ℕ) (left : Left) (spans : List 
   below g c = below_next g.row.bytes left f.row (so.passed g c) row_found.from_on
 
   pub row_behind : StandsBehind spans f
-  row_behind = stands_behind id start end so.founds spans names f row_found.row.key so.content row_found.row.of below
+  row_behind = stands_behind picks id start end so.founds spans names f row_found.row.key so.content row_found.row.of below
 
   made_next : Made old (so.own ++ t.p ∷ []) next
   made_next = lower.made_joined old now next so.own (t.p ∷ []) so.made t.made
 
-  -- all was taken of it
-  pub turn_goes : (after : Seen) (more : List Span) (names_after : Names) → RowTaken id start end f next spans names after more names_after → SoFar id start end (behind left f.row) old more names_after after
-  turn_goes after more names_after r =
-      let g = so in
-      let n = r.named in
-      let both = g.own ++ t.p ∷ [] in (
+  -- no names were read
+  no_reads_of : (asked : List IdOf) → IdReads 0 names asked [] []
+  no_reads_of asked = record {
+    reads = λ p c. absurd (lower.not_in p c);
+    count = omega arith;
+    once = λ i j d lt within. absurd (omega (arith, within));
+    fresh = λ i c. absurd (lower.not_in i c);
+    among = λ i c. absurd (lower.not_in i c);
+  }
+
+  abbrev both : List Placed
+  both = so.own ++ t.p ∷ []
+
+  -- it was taken or left, with these reads
+  goes : (after : Seen) (more : List Span) (names_after : Names) (key : RowKey) (list : List Placed) (ids : List IdOf) → KeyOf id start end f key → Made next list after → IdReads 0 names (ids_of key.pairs.items) ids list
+      → ((k : Kind) (i : ℕ) (name : List ℕ) → names k i ≡ Some name → names_after k i ≡ Some name) → ((i : IdOf) → Contains ids i → HasName names_after i) → AllNamed after names_after
+      → RowDone picks id start end f next spans names after more names_after → SoFar picks id start end (behind left f.row) old more names_after after
+  goes after more names_after key list ids of made reads kept had shown done =
+      let g = so in (
         t.far.0,
         t.far.1,
         record {
-          own = both ++ n.list;
+          own = both ++ list;
           founds = g.founds ++ f ∷ [];
-          ids = g.ids ++ n.ids;
-          made = lower.made_joined old next after both n.list made_next n.made;
-          counted = counted_more 0 id start end g.own n.list g.founds g.ids n.ids left t.p f r.key names g.counted t.is_next r.of below g.had n.reads;
-          had = λ i c. elim (Contains-append_cases g.ids n.ids i c) [
-            | inl o ↦ (let h = g.had i o in (h.0, n.kept i.0 i.1 h.0 h.1))
-            | inr x ↦ n.all i (n.reads.among i x)
-          ];
-          scanning = lower.others_pass t.far.0 (behind left f.row) both n.list (g.founds ++ f ∷ []) (lower.turn_goes_on t.far.0 left g.own (t.p ∷ []) g.founds f g.scanning (t.p, refl, t.is_next)) (reads_other n.list n.reads.reads);
+          ids = g.ids ++ ids;
+          made = lower.made_joined old next after both list made_next made;
+          counted = counted_more 0 id start end g.own list g.founds g.ids ids left t.p f key names g.counted t.is_next of below g.had reads;
+          had = λ i c. elim (Contains-append_cases g.ids ids i c) [ inl o ↦ (let h = g.had i o in (h.0, kept i.0 i.1 h.0 h.1)) | inr x ↦ had i x ];
+          scanning = lower.others_pass t.far.0 (behind left f.row) both list (g.founds ++ f ∷ []) (lower.turn_goes_on t.far.0 left g.own (t.p ∷ []) g.founds f g.scanning (t.p, refl, t.is_next)) (reads_other list reads.reads);
           only = only_behind id start end left f.row g.only row_found.from_on;
           passed = λ h c. elim (Contains-append_cases g.founds (f ∷ []) h c) [
             | inl o ↦ below_rest h.row.bytes left f.row (below h o)
@@ -226,17 +236,24 @@ module _ (old now next : Seen) (id start end : ℕ) (left : Left) (spans : List 
               | inr none ↦ absurd (lower.not_in h none)
             ]
           ];
-          below = below_more t.far.0 left g.own g.founds t.p f g.below t.is_next n.list;
-          content = gathered_more id start end g.founds f next after spans more names names_after g.content r;
-          shown = n.shown (named_kept now next names t.made.since.extends g.shown);
+          below = below_more t.far.0 left g.own g.founds t.p f g.below t.is_next list;
+          content = gathered_more picks id start end g.founds f next after spans more names names_after g.content done;
+          shown = shown;
         },
       )
 
-  no_memory_for : (after : Seen) (fault : AskFault) → ((own : List Placed) → ClashOf id start end own fault) → RowCut id start end f next names after → WasCut id start end old fault after
+  pub turn_goes : (after : Seen) (more : List Span) (names_after : Names) → RowDone picks id start end f next spans names after more names_after → SoFar picks id start end (behind left f.row) old more names_after after
+  turn_goes after more names_after (inl r) =
+      goes after more names_after r.key [] [] r.of r.made (no_reads_of (ids_of r.key.pairs.items)) (λ k i name e. ap (λ (n : Names). n k i) r.names_are ∙ e) (λ i c. absurd (lower.not_in i c))
+      (subst (AllNamed after) (sym r.names_are) (named_kept now after names (lower.extends_joined now next after t.made.since.extends r.made.since.extends) so.shown)) (inl r)
+  turn_goes after more names_after (inr r) =
+      let n = r.named in
+      goes after more names_after r.key n.list n.ids r.of n.made n.reads n.kept (λ i c. n.all i (n.reads.among i c)) (n.shown (named_kept now next names t.made.since.extends so.shown)) (inr r)
+
+  no_memory_for : (after : Seen) (fault : AskFault) → ((own : List Placed) → ClashOf picks id start end own fault) → RowCut id start end f next names after → WasCut picks id start end old fault after
   no_memory_for after fault cause r =
       let g = so in
       let n = r.named in
-      let both = g.own ++ t.p ∷ [] in
       record {
         own = both ++ n.list;
         founds = g.founds ++ f ∷ [];
@@ -249,23 +266,14 @@ module _ (old now next : Seen) (id start end : ℕ) (left : Left) (spans : List 
   -- the entries before it show each row below it
   shows_below : ShowsBelow id start end ((so.own ++ t.p ∷ []) ++ []) so.own f.row
   shows_below h n lawful stand row of has less =
-      let both = so.own ++ t.p ∷ [] in
       let w = found_before t.far.0 left so.own so.founds t.p f so.below t.is_next h n lawful (λ q c. stand q (Contains-append_left both [] q c)) row (t.far.1.all row of) has less in
       let by = so.counted.by w.0 w.1 in
       (w.0, record { placed = by.0; among = by.2; reply = by.3.1 }, w.2)
 
-  clash_of : (after : Seen) (time : ℕ) (a b : ℤ) → Made next [] after → RowClashes id start end f time a b → WasCut id start end old (Duplicate time a b) after
+  clash_of : (after : Seen) (time : ℕ) (a b : ℤ) → Made next [] after → RowClashes picks id start end f time a b → WasCut picks id start end old (Duplicate time a b) after
   clash_of after time a b made r =
       let g = so in
-      let both = g.own ++ t.p ∷ [] in
-      let nothing : IdReads 0 names (ids_of r.key.pairs.items) [] [] = record {
-        reads = λ p c. absurd (lower.not_in p c);
-        count = omega arith;
-        once = λ i j d lt within. absurd (omega (arith, within));
-        fresh = λ i c. absurd (lower.not_in i c);
-        among = λ i c. absurd (lower.not_in i c);
-      } in
-      let counted = counted_more 0 id start end g.own [] g.founds g.ids [] left t.p f r.key names g.counted t.is_next r.of below g.had nothing in
+      let counted = counted_more 0 id start end g.own [] g.founds g.ids [] left t.p f r.key names g.counted t.is_next r.of below g.had (no_reads_of (ids_of r.key.pairs.items)) in
       record {
         own = both ++ [];
         founds = g.founds ++ f ∷ [];
@@ -276,7 +284,7 @@ module _ (old now next : Seen) (id start end : ℕ) (left : Left) (spans : List 
           earlier = g.own;
           last = t.p;
           cut = append_assoc g.own (t.p ∷ []) [];
-          clean = λ p h c e. row_clean id start end spans names h (g.content.rows h (g.counted.shows p h c e));
+          clean = λ p h c e. row_clean picks id start end spans names h (g.content.rows h (g.counted.shows p h c e));
           found = f;
           reply = t.is_next.1;
           passed = shows_below;
@@ -285,7 +293,7 @@ module _ (old now next : Seen) (id start end : ℕ) (left : Left) (spans : List 
       }
 
   -- it was refused
-  pub turn_fails : (after : Seen) (before now_collected : Collected) (fault : AskFault) → known before.names ≡ names → RowAsked id start end f next before (Err fault) after now_collected → WasCut id start end old fault after
+  pub turn_fails : (after : Seen) (before now_collected : Collected) (fault : AskFault) → known before.names ≡ names → RowAsked picks id start end f next before (Err fault) after now_collected → WasCut picks id start end old fault after
   turn_fails after before coll (Duplicate time a b) same (made, r) = clash_of after time a b made r
   turn_fails after before coll OutOfMemory same r = no_memory_for after OutOfMemory (λ own. tt) (subst (λ (n : Names). RowCut id start end f next n after) same r)
   turn_fails after before coll Stopped same r = no_memory_for after Stopped (λ own. tt) (subst (λ (n : Names). RowCut id start end f next n after) same r)
@@ -295,26 +303,26 @@ module _ (old now next : Seen) (id start end : ℕ) (left : Left) (spans : List 
 
 -- ---- a turn that failed, and the end
 
-cause_of : (id start end : ℕ) (own : List Placed) (e : RowsFault) → ClashOf id start end own (ask_fault e)
-cause_of id start end own rows.OutOfMemory = tt
-cause_of id start end own rows.Stopped = tt
+cause_of : (picks : Picks) (id start end : ℕ) (own : List Placed) (e : RowsFault) → ClashOf picks id start end own (ask_fault e)
+cause_of picks id start end own rows.OutOfMemory = tt
+cause_of picks id start end own rows.Stopped = tt
 
-pub no_turn : (old now next : Seen) (id start end : ℕ) (left : Left) (spans : List Span) (names : Names) (e : RowsFault) → SoFar id start end left old spans names now → MadeSo now (TurnMade left (Err e)) next → WasCut id start end old (ask_fault e) next
-no_turn old now next id start end left spans names e (begin, is, g) (list, made, none) = record {
+pub no_turn : (picks : Picks) (old now next : Seen) (id start end : ℕ) (left : Left) (spans : List Span) (names : Names) (e : RowsFault) → SoFar picks id start end left old spans names now → MadeSo now (TurnMade left (Err e)) next → WasCut picks id start end old (ask_fault e) next
+no_turn picks old now next id start end left spans names e (begin, is, g) (list, made, none) = record {
   own = g.own ++ [];
   founds = g.founds;
   ids = g.ids;
   made = lower.made_joined old now next g.own [] g.made (subst (λ (l : List Placed). Made now l next) none made);
   counted = subst (λ (l : List Placed). Counted 1 id start end l g.founds g.ids) (sym (append-nil g.own)) (counted_wider id start end g.own g.founds g.ids g.counted);
-  cause = cause_of id start end (g.own ++ []) e;
+  cause = cause_of picks id start end (g.own ++ []) e;
 }
 
-pub given_up : (old now : Seen) (id start end : ℕ) (left : Left) (spans : List Span) (names : Names) → SoFar id start end left old spans names now → WasCut id start end old OutOfMemory now
-given_up old now id start end left spans names (begin, is, g) =
+pub given_up : (picks : Picks) (old now : Seen) (id start end : ℕ) (left : Left) (spans : List Span) (names : Names) → SoFar picks id start end left old spans names now → WasCut picks id start end old OutOfMemory now
+given_up picks old now id start end left spans names (begin, is, g) =
     record { own = g.own; founds = g.founds; ids = g.ids; made = g.made; counted = counted_wider id start end g.own g.founds g.ids g.counted; cause = tt }
 
-pub scan_ends : (old now next : Seen) (id start end : ℕ) (left : Left) (spans : List Span) (names : Names) (o : Option Found) → SoFar id start end left old spans names now → o ≡ None → MadeSo now (TurnMade left (Ok o)) next → HasCollected id start end old spans names next
-scan_ends old now next id start end left spans names o (begin, is, g) none (list, made, (p, list_is, n)) =
+pub scan_ends : (picks : Picks) (old now next : Seen) (id start end : ℕ) (left : Left) (spans : List Span) (names : Names) (o : Option Found) → SoFar picks id start end left old spans names now → o ≡ None → MadeSo now (TurnMade left (Ok o)) next → HasCollected picks id start end old spans names next
+scan_ends picks old now next id start end left spans names o (begin, is, g) none (list, made, (p, list_is, n)) =
     let next_none : IsNext left None p = subst (λ (x : Option Found). IsNext left x p) none n in
     record {
       own = g.own ++ list;

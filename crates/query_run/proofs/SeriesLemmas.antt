@@ -1,28 +1,28 @@
 -- The points of series that rise by their tags, and the groups of them.
-use Rattle.std.proofs.Common.{◌≡◌, ◌≢◌, zero, suc, ℕ, ◌≤◌, ℤ, Bool, true, false, cond, ◌||◌, List, [], ◌∷◌, ◌++◌, length, map, Less, refl, ap, ◌∙◌, append-nil, arith}
-use Rattle.std.specs.Prelude.{All, filter}
+use Rattle.std.proofs.Common.{◌≡◌, zero, suc, ℕ, ◌≤◌, ℤ, Bool, true, false, cond, ◌||◌, List, [], ◌∷◌, ◌++◌, length, map, Less, refl, sym, ap, subst, ◌∙◌, append-nil, arith}
+use Rattle.std.specs.Prelude.{All, Contains, filter}
 use Rattle.std.specs.List.{AllByRecursion, list_any}
 use Rattle.std.specs.List.Sorted.{IsStrictlySortedBy}
 use Rattle.std.specs.Ordering.{eq_by_cmp, is_eq}
 use Rattle.std.proofs.lemmas.List.{map-append}
-use Rattle.std.proofs.lemmas.List.Elements.{filter-append, All-head, All-tail}
+use Rattle.std.proofs.lemmas.List.Elements.{filter-append, filter_agree, All-filter, All-head, All-tail}
 use Rattle.std.proofs.lemmas.List.Folds.{list_any-append}
-use Rattle.lerp_aggregate.specs.Aggregation.{aggregated}
-use Rattle.query_run.proofs.Lower.{pairs_tail}
+use Rattle.query_run.proofs.Lower.{pairs_tail, map_in}
 use Rattle.tsd_base.specs.declared.kinds.Aggregator.{Aggregator}
-use Rattle.tsd_base.specs.declared.kinds.Aggregator.TheVariants.{Sum, Min, Max, Avg, Count, Zimsum, Mimmin, Mimmax, NoneOf}
+use Rattle.tsd_base.specs.declared.kinds.Aggregator.TheVariants.{NoneOf}
 use Rattle.tsd_base.specs.Points.{DataPoint}
 use Rattle.tsd_base.specs.Readings.{series_of, dots_of}
 use Rattle.tsd_base.specs.TagList.{Pair, tags_cmp, is_same_tags}
-use Rattle.tsd_base.specs.TagOrder.{tags_ties, is_same_tags_equiv}
-use Rattle.query_run.specs.Answers.{answer, all_groups, group_answer, groups_in, grouped}
-use Rattle.query_run.specs.Grouping.{alone, together}
-use Rattle.query_run.specs.Series.{points_with, points_in, RiseByTags, HavePoints}
+use Rattle.tsd_base.specs.TagOrder.{tags_ties, tags_same, is_same_tags_equiv}
+use Rattle.query_text.specs.declared.queries.Query.{Query}
+use Rattle.query_text.specs.declared.queries.Sub.{Sub}
+use Rattle.group_by.specs.Filters.{group_key, has_grouping, is_grouped, is_none}
+use Rattle.query_run.specs.Answers.{answer, all_groups, group_answer, group_from, group_keys, groups_in}
+use Rattle.query_run.specs.Grouping.{group_with, members, members_in}
+use Rattle.query_run.specs.Series.{tags_in, dots_in, points_with, points_in, AreEarly, RiseByTags, HavePoints, HaveTimes}
 use Rattle.query_run.specs.declared.series.Series.{Series}
-use Rattle.query_run.proofs.Keys.{series_are}
-
-abbrev tags_in : List Series → List (List Pair)
-tags_in series = map (λ (s : Series). s.tags) series
+use Rattle.query_run.proofs.Keys.{series_are, group_key_from}
+use Rattle.query_run.proofs.AnyOf.{in_any}
 
 -- ---- the points of one series
 dots-append : (ps qs : List DataPoint) (t : List Pair) → dots_of (ps ++ qs) t ≡ dots_of ps t ++ dots_of qs t
@@ -123,62 +123,93 @@ module _ (metric : List ℕ) where
   series_found : (series : List Series) → RiseByTags series → HavePoints series → series_of (points_in metric series) ≡ tags_in series
   series_found series rise some = series_are (points_in metric series) (tags_in series) (tags_rise series rise) (tags_found series some)
 
-pub no_series : (series : List Series) → length series ≡ 0 → series ≡ []
-no_series [] none = refl
-no_series (s ∷ series) none = absurd (omega (arith, none))
-
 -- ---- groups
-all_lists : (points : List DataPoint) (series : List Series) → AllByRecursion (λ (s : Series). dots_of points s.tags ≡ s.dots) series → map (dots_of points) (tags_in series) ≡ map (λ (s : Series). s.dots) series
+
+all_lists : (points : List DataPoint) (series : List Series) → AllByRecursion (λ (s : Series). dots_of points s.tags ≡ s.dots) series → map (dots_of points) (tags_in series) ≡ dots_in series
 all_lists points [] own = refl
 all_lists points (s ∷ series) own = λ i. own.0 i ∷ all_lists points series own.1 i
 
-each_list : (how : Aggregator) (metric : List ℕ) (points : List DataPoint) (series : List Series) → AllByRecursion (λ (s : Series). dots_of points s.tags ≡ s.dots) series
-    → map (group_answer true how metric points) (map (λ (t : List Pair). t ∷ []) (tags_in series)) ≡ map (alone how metric) series
-each_list how metric points [] own = refl
-each_list how metric points (s ∷ series) own = λ i. grouped true metric (s.tags ∷ []) (aggregated how (own.0 i ∷ [])) ∷ each_list how metric points series own.1 i
+own_kept : (p : Series → Bool) (points : List DataPoint) (series : List Series) → AllByRecursion (λ (s : Series). dots_of points s.tags ≡ s.dots) series → AllByRecursion (λ (s : Series). dots_of points s.tags ≡ s.dots) (filter p series)
+own_kept p points [] own = tt
+own_kept p points (s ∷ series) own = at (p s) (own_kept p points series own.1)
+  where
+    at : (b : Bool) → AllByRecursion (λ (s : Series). dots_of points s.tags ≡ s.dots) (filter p series) → AllByRecursion (λ (s : Series). dots_of points s.tags ≡ s.dots) (cond b (s ∷ filter p series) (filter p series))
+    at true rest = (own.0, rest)
+    at false rest = rest
 
-one_group : (how : Aggregator) (tags : List Pair) (others : List (List Pair)) → how ≢ NoneOf → groups_in how (tags ∷ others) ≡ (tags ∷ others) ∷ []
-one_group Sum tags others many = refl
-one_group Min tags others many = refl
-one_group Max tags others many = refl
-one_group Avg tags others many = refl
-one_group Count tags others many = refl
-one_group Zimsum tags others many = refl
-one_group Mimmin tags others many = refl
-one_group Mimmax tags others many = refl
-one_group NoneOf tags others many = absurd (many refl)
+tags_kept : (p : List Pair → Bool) (series : List Series) → filter p (tags_in series) ≡ tags_in (filter (λ (s : Series). p s.tags) series)
+tags_kept p [] = refl
+tags_kept p (s ∷ series) = at (p s.tags) (tags_kept p series)
+  where
+    at : (b : Bool) → filter p (tags_in series) ≡ tags_in (filter (λ (s : Series). p s.tags) series)
+        → cond b (s.tags ∷ filter p (tags_in series)) (filter p (tags_in series)) ≡ tags_in (cond b (s ∷ filter (λ (s : Series). p s.tags) series) (filter (λ (s : Series). p s.tags) series))
+    at true go = ap (λ l. s.tags ∷ l) go
+    at false go = go
 
-module _ (metric : List ℕ) (series : List Series) (rise : RiseByTags series) (some : HavePoints series) where
+module _ (q : Query) (s : Sub) (series : List Series) where
   abbrev points : List DataPoint
-  points = points_in metric series
+  points = points_in s.metric series
 
-  by_tags : (how : Aggregator) → answer true how metric points ≡ all_groups (map (group_answer true how metric points) (groups_in how (tags_in series)))
-  by_tags how = ap (λ l. all_groups (map (group_answer true how metric points) (groups_in how l))) (series_found metric series rise some)
+  one_group : AllByRecursion (λ (o : Series). dots_of points o.tags ≡ o.dots) series → (key : List Pair) → group_answer q s points (filter (λ t. is_same_tags (group_key s t) key) (tags_in series)) ≡ group_with q s (members s series key)
+  one_group own key =
+      ap (group_answer q s points) (tags_kept (λ t. is_same_tags (group_key s t) key) series)
+      ∙ ap (group_from q s (tags_in (members s series key))) (all_lists points (members s series key) (own_kept (λ (o : Series). is_same_tags (group_key s o.tags) key) points series own))
 
-  own : AllByRecursion (λ (s : Series). dots_of points s.tags ≡ s.dots) series
-  own = each_own metric series (tags_rise series rise)
+  each_group : AllByRecursion (λ (o : Series). dots_of points o.tags ≡ o.dots) series → (keys : List (List Pair))
+      → map (group_answer q s points) (map (λ key. filter (λ t. is_same_tags (group_key s t) key) (tags_in series)) keys) ≡ map (group_with q s) (map (members s series) keys)
+  each_group own [] = refl
+  each_group own (key ∷ keys) = λ i. one_group own key i ∷ each_group own keys i
 
-  -- no series make no group
-  pub answer_none : (how : Aggregator) → series ≡ [] → answer true how metric points ≡ all_groups []
-  answer_none how none = by_tags how ∙ ap (λ l. all_groups (map (group_answer true how metric points) (groups_in how (tags_in l)))) none ∙ ap (λ l. all_groups (map (group_answer true how metric points) l)) (nothing how)
-    where
-      nothing : (h : Aggregator) → groups_in h [] ≡ []
-      nothing h = refl
+  -- the answer over the points of series is the groups of their members
+  pub answer_groups : RiseByTags series → HavePoints series → answer q s points ≡ all_groups (map (group_with q s) (members_in s series))
+  answer_groups rise some =
+      ap (λ l. all_groups (map (group_answer q s points) (groups_in s l))) (series_found s.metric series rise some)
+      ∙ ap all_groups (each_group (each_own s.metric series (tags_rise series rise)) (group_keys s (tags_in series)))
 
-  -- each series is a group by itself
-  pub answer_alone : answer true NoneOf metric points ≡ all_groups (map (alone NoneOf metric) series)
-  answer_alone = by_tags NoneOf ∙ ap (λ l. all_groups (map (group_answer true NoneOf metric points) l)) (each_tags (tags_in series)) ∙ ap all_groups (each_list NoneOf metric points series own)
-    where
-      each_tags : (l : List (List Pair)) → groups_in NoneOf l ≡ map (λ (t : List Pair). t ∷ []) l
-      each_tags [] = refl
-      each_tags (t ∷ l) = refl
+-- ---- the members of one group
 
-  -- all series are one group
-  pub answer_together : (how : Aggregator) → how ≢ NoneOf → 1 ≤ length series → answer true how metric points ≡ all_groups (together how metric series ∷ [])
-  answer_together how many any =
-      by_tags how ∙ ap (λ l. all_groups (map (group_answer true how metric points) l)) (one series any)
-      ∙ ap (λ l. all_groups (grouped true metric (tags_in series) (aggregated how l) ∷ [])) (all_lists points series own)
-    where
-      one : (l : List Series) → 1 ≤ length l → groups_in how (tags_in l) ≡ tags_in l ∷ []
-      one [] few = absurd (omega (arith, few))
-      one (s ∷ l) few = one_group how s.tags (tags_in l) many
+pub members_early : (s : Sub) (series : List Series) → HaveTimes series → (m : List Series) → Contains (members_in s series) m → HaveTimes m
+members_early s series early m c =
+    let w = map_in (members s series) (group_keys s (tags_in series)) m c in
+    subst HaveTimes w.2 (All-filter (λ (o : Series). is_same_tags (group_key s o.tags) w.0) (λ (o : Series). AreEarly o.dots) series early)
+
+keep_all : {X : Type 0} (p : X → Bool) → ((x : X) → p x ≡ true) → (xs : List X) → filter p xs ≡ xs
+keep_all p all [] = refl
+keep_all p all (x ∷ xs) = ap (λ b. cond b (x ∷ filter p xs) (filter p xs)) (all x) ∙ ap (λ l. x ∷ l) (keep_all p all xs)
+
+-- under none the key is all tags
+none_key : (s : Sub) → s.how ≡ NoneOf → (tags : List Pair) → group_key s tags ≡ tags
+none_key s none tags = keep_all (λ (pair : Pair). is_grouped s pair.0) (λ pair. ap (λ (how : Aggregator). is_none how || has_grouping pair.0 s.filters) none) tags
+
+no_others : (key : List Pair) (series : List Series) → AllByRecursion (λ y. tags_cmp key y ≡ Less) (tags_in series) → filter (λ (o : Series). is_same_tags o.tags key) series ≡ []
+no_others key [] above = refl
+no_others key (o ∷ series) above = ap (λ b. cond b (o ∷ filter (λ (x : Series). is_same_tags x.tags key) series) (filter (λ (x : Series). is_same_tags x.tags key) series)) (differ_back key o.tags above.0) ∙ no_others key series above.1
+
+just_one : (key : List Pair) (series : List Series) → IsStrictlySortedBy tags_cmp (tags_in series) → list_any (λ t. is_same_tags t key) (tags_in series) ≡ true → length (filter (λ (o : Series). is_same_tags o.tags key) series) ≡ 1
+unfolding IsStrictlySortedBy
+just_one key [] sorted any = absurd cc
+just_one key (o ∷ series) sorted any = at (is_same_tags o.tags key) refl any (just_one key series sorted.1)
+  where
+    at : (b : Bool) → is_same_tags o.tags key ≡ b → (b || list_any (λ t. is_same_tags t key) (tags_in series)) ≡ true
+        → (list_any (λ t. is_same_tags t key) (tags_in series) ≡ true → length (filter (λ (x : Series). is_same_tags x.tags key) series) ≡ 1)
+        → length (cond b (o ∷ filter (λ (x : Series). is_same_tags x.tags key) series) (filter (λ (x : Series). is_same_tags x.tags key) series)) ≡ 1
+    at true e h go =
+        let same = tags_same o.tags key e in
+        let none = no_others key series (subst (λ t. AllByRecursion (λ y. tags_cmp t y ≡ Less) (tags_in series)) same sorted.0) in
+        ap (λ (l : List Series). length (o ∷ l)) none
+    at false e h go = go h
+
+-- under none each group has one member
+pub members_alone : (s : Sub) (series : List Series) → RiseByTags series → s.how ≡ NoneOf → (m : List Series) → Contains (members_in s series) m → length m ≡ 1
+members_alone s series rise none m c =
+    let keys = group_keys s (tags_in series) in
+    let w = map_in (members s series) keys m c in
+    let tied = sym (tags_ties w.0 w.0) ∙ is_same_tags_equiv.refl w.0 in
+    let any = sym (group_key_from s (tags_in series) w.0) ∙ in_any (eq_by_cmp tags_cmp w.0) w.0 keys w.1 tied in
+    let plain = any_agree (tags_in series) w.0 ∙ any in
+    ap length (sym w.2 ∙ filter_agree (λ (o : Series). is_same_tags (group_key s o.tags) w.0) (λ (o : Series). is_same_tags o.tags w.0) (λ o. ap (λ t. is_same_tags t w.0) (none_key s none o.tags)) series)
+    ∙ just_one w.0 series (tags_rise series rise) plain
+  where
+    any_agree : (l : List (List Pair)) (key : List Pair) → list_any (λ t. is_same_tags t key) l ≡ list_any (λ t. is_same_tags (group_key s t) key) l
+    any_agree [] key = refl
+    any_agree (t ∷ l) key = λ i. is_same_tags (sym (none_key s none t) i) key || any_agree l key i

@@ -12,7 +12,7 @@ use Rattle.cell_model.specs.Layout.{base_time}
 use Rattle.cell_model.specs.History.{History, first}
 use Rattle.cell_model.specs.Ids.{id_of}
 use Rattle.cell_model.specs.Lawful.{IsLawful}
-use Rattle.query_run.specs.Parts.{IsShort}
+use Rattle.query_run.specs.Parts.{NameOf, IsShort}
 use Rattle.query_run.specs.Naming.{IdOf, ids_of}
 use Rattle.query_run.specs.Collecting.{Counted}
 use Rattle.query_run.proofs.Lower as lower
@@ -72,9 +72,9 @@ ids_in (p ∷ pairs) ids all i c = elim (lower.split {X = IdOf} (TagKey, p.0) i 
   ]
 ]
 
-pub few_rows : (start end : ℕ) (metric : List ℕ) (id : ℕ) (looks own : List Placed) (founds : List Found) (ids : List IdOf) (h : History) (now : ℕ) → length looks ≤ 1 → Counted 1 id start end own founds ids → IsLawful h → id_of (first now h) Metric metric ≡ Some id
-    → ((f : Found) → Contains founds f → StoodFound h now f) → IsShort ((Metric, metric) ∷ []) metric (base_time start) (base_time end) (looks ++ own) (first now h)
-few_rows start end metric id looks own founds ids h now few c lawful known stood rows all holds_rows holds_ids =
+pub few_rows : (names : List NameOf) (start end : ℕ) (metric : List ℕ) (id : ℕ) (looks own : List Placed) (founds : List Found) (ids : List IdOf) (h : History) (now : ℕ) → length looks ≤ length names → Counted 1 id start end own founds ids → IsLawful h → id_of (first now h) Metric metric ≡ Some id
+    → ((f : Found) → Contains founds f → StoodFound h now f) → IsShort names metric (base_time start) (base_time end) (looks ++ own) (first now h)
+few_rows names start end metric id looks own founds ids h now few c lawful known stood rows all holds_rows holds_ids =
     let n = c.count in
     let r = fewer (map (λ (f : Found). f.row) founds) rows (rows_differ founds c.rising) (λ row x. let w = lower.map_in (λ (f : Found). f.row) founds row x in subst (Contains rows) w.2 (row_in w.0 w.1)) in
     let l = length-map founds (λ (f : Found). f.row) in
@@ -94,6 +94,6 @@ few_rows start end metric id looks own founds ids h now few c lawful known stood
         let row = of.row_is in
         holds_rows id f.row known (record { key = k.0; is_key = of.is_key; row_is = of.row_is; metric_is = of.metric_is; from_on = of.from_on; up_to = of.up_to }) (lower.row_stays h s.when now f.row lawful (ap (λ (w : Row). w.table) row) s.up_to s.has)
 
--- where at most one entry was made
-pub few_none : (metric : List ℕ) (first_base last_base : ℕ) (own : List Placed) (g : History) → length own ≤ 1 → IsShort ((Metric, metric) ∷ []) metric first_base last_base own g
-few_none metric first_base last_base own g le rows all holds_rows holds_ids = omega (arith, le)
+-- where at most one entry was made for each name
+pub few_looks : (names : List NameOf) (metric : List ℕ) (first_base last_base : ℕ) (own : List Placed) (g : History) → length own ≤ length names → IsShort names metric first_base last_base own g
+few_looks names metric first_base last_base own g le rows all holds_rows holds_ids = omega (arith, le)

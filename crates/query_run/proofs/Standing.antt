@@ -1,10 +1,11 @@
 -- What was collected stands: the readings under their names are those that the entries show.
-use Rattle.std.proofs.Common.{◌≡◌, inl, inr, ℕ, ◌+◌, ◌*◌, List, [], ◌∷◌, ◌++◌, sym, ap, subst, ◌∙◌}
+use Rattle.std.proofs.Common.{◌≡◌, inl, inr, ℕ, ◌+◌, ◌*◌, Bool, List, [], ◌++◌, sym, ap, subst, ◌∙◌}
 use Rattle.std.specs.Prelude.{ℤ, Contains, Option, Some}
 use Rattle.std.proofs.lemmas.List.Elements.{Contains-append_right, Contains-append_cases}
 use Rattle.tsd_base.specs.declared.kinds.Kind.{Kind}
 use Rattle.tsd_base.specs.declared.kinds.Kind.TheVariants.{Metric, TagKey, TagValue}
 use Rattle.tsd_base.specs.TagList.{Pair}
+use Rattle.row_key.specs.declared.keys.RowKey.{RowKey}
 use Rattle.cell_model.specs.declared.cells.Found.{Found}
 use Rattle.cell_model.specs.declared.events.Placed.{Placed}
 use Rattle.cell_model.specs.Layout.{base_time}
@@ -19,16 +20,17 @@ use Rattle.row_scan.specs.Shown.{ShowsRow, ShowsReading, Chosen, AsksWithin, NoC
 use Rattle.row_scan.specs.Laws.{ScanCovers}
 use Rattle.span_merge.specs.Spans.{Span, dots_of}
 use Rattle.query_run.specs.declared.series.Series.{Series}
-use Rattle.query_run.specs.Parts.{NameOf, PartStands}
+use Rattle.query_text.specs.declared.queries.Filter.{Filter}
+use Rattle.query_run.specs.Parts.{NameOf, AllResolved, PartStands}
 use Rattle.query_run.specs.Queries.{is_wanted}
 use Rattle.query_run.specs.Naming.{IdOf, Names, AllNamed, AreReads}
 use Rattle.query_run.specs.RowDots.{IsIn, dot_at}
-use Rattle.query_run.specs.Collecting.{Counted, Gathered, RowIsIn}
+use Rattle.query_run.specs.Collecting.{Picks, AreIn, Counted, Gathered, KeyOf}
 use Rattle.query_run.specs.Titling.{Titles, OneToOne}
 use Rattle.query_run.proofs.Lower as lower
 use Rattle.query_run.proofs.Contents.{dot_stands, row_clean}
 use Rattle.query_run.proofs.ScanLoop.{reads_other, reads_show_none}
-use Rattle.query_run.proofs.RowReadings.{Asks, asks, is_asked, by_series, hours_within, ReadsDot, reads_dot, dot_reads, clean_row, same_tags}
+use Rattle.query_run.proofs.RowReadings.{Asks, PicksBy, asks, is_asked, by_series, hours_within, ReadsDot, reads_dot, read_tags, dot_reads, clean_row, same_tags}
 use Rattle.query_run.proofs.Shown.{reading_at, readings_in, reading_of, of_reading}
 
 -- ---- the look at the metric's cell, where there was one
@@ -74,71 +76,79 @@ reading_among metric tags d r list m t i v c =
 
 -- ---- one history
 
-module _ (start end : ℕ) (metric : List ℕ) (id : ℕ) (looks own : List Placed) (founds : List Found) (ids : List IdOf) (spans : List Span) (names : Names) (series : List Series) (g : History)
-    (reads : AreReads looks) (counted : Counted 1 id start end own founds ids) (content : Gathered id start end founds spans names) (titles : Titles names spans series)
-    (metric_named : name_of g Metric id ≡ Some metric) (metric_known : id_of g Metric metric ≡ Some id) (tags_named : (pairs : List (ℕ × ℕ)) (tags : List Pair) → Named names pairs tags → Named (name_of g) pairs tags) where
+module _ (picks : Picks) (start end : ℕ) (metric : List ℕ) (filters : List Filter) (id : ℕ) (looks own : List Placed) (founds : List Found) (ids : List IdOf) (spans : List Span) (names : Names) (series : List Series) (g : History)
+    (reads : AreReads looks) (counted : Counted 1 id start end own founds ids) (content : Gathered picks id start end founds spans names) (titles : Titles names spans series)
+    (metric_named : name_of g Metric id ≡ Some metric) (metric_known : id_of g Metric metric ≡ Some id) (tags_named : (pairs : List (ℕ × ℕ)) (tags : List Pair) → Named names pairs tags → Named (name_of g) pairs tags)
+    (by : (f : Found) (key : RowKey) → Contains founds f → KeyOf id start end f key → PicksBy picks filters (name_of g) key) where
+  abbrev wants : Reading → Bool
+  wants = is_wanted start end metric filters
+
   shows_found : (f : Found) → Contains founds f → ShowsRow (looks ++ own) f
   shows_found f c = let w = counted.by f c in record { placed = w.0; among = Contains-append_right looks own w.0 w.2; reply = w.3.1 }
 
   found_of : (f : Found) → ShowsRow (looks ++ own) f → Contains founds f
   found_of f s = let w = shown_behind looks own f reads s in counted.shows w.placed f w.among w.reply
 
-  clean : NoClash (name_of g) (is_wanted start end metric) (looks ++ own)
-  clean f s = clean_row (name_of g) id start end metric f (row_clean id start end spans names f (content.rows f (found_of f s)))
+  clean : NoClash (name_of g) wants (looks ++ own)
+  clean f s =
+      let row = row_clean picks id start end spans names f (content.rows f (found_of f s)) in
+      clean_row picks (name_of g) id start end metric filters f row (by f row.key (found_of f s) row.of)
 
   -- each reading under its names is shown
-  shown_to : (r : Reading) → Contains (readings_in metric series) r → Chosen (is_wanted start end metric) (ShowsReading (name_of g) (looks ++ own)) r
+  shown_to : (r : Reading) → Contains (readings_in metric series) r → Chosen wants (ShowsReading (name_of g) (looks ++ own)) r
   shown_to r c =
       let w = reading_of metric series r c in
       let t = titles.each w.series_of w.among in
       let d = content.from t.0 w.dot t.1 (subst (λ (l : List (ℕ × ℤ)). Contains l w.dot) t.2.dots_are w.there) in
       let time : r.time ≡ d.key.base * 1000 + d.dot.item.offset = ap (λ (x : Reading). x.time) w.is ∙ ap (λ (x : ℕ × ℤ). x.0) d.dot_is in
+      let tags : Named (name_of g) d.key.pairs.items r.tags =
+      subst (λ (x : Reading). Named (name_of g) d.key.pairs.items x.tags) (sym w.is) (subst (λ (l : List (ℕ × ℕ)). Named (name_of g) l w.series_of.tags) (sym d.pairs_are) (tags_named t.0.0 w.series_of.tags t.2.tags)) in
       let dot : ReadsDot (name_of g) d.key d.all r = record {
         dot = d.dot;
         there = d.there;
         metric_is = ap (name_of g Metric) d.of.metric_is ∙ metric_named ∙ ap (λ (x : Reading). Some x.metric) (sym w.is);
-        tags_are = subst (λ (x : Reading). Named (name_of g) d.key.pairs.items x.tags) (sym w.is) (subst (λ (l : List (ℕ × ℕ)). Named (name_of g) l w.series_of.tags) (sym d.pairs_are) (tags_named t.0.0 w.series_of.tags t.2.tags));
+        tags_are = tags;
         time_is = time;
         value_is = ap (λ (x : Reading). x.value) w.is ∙ ap (λ (x : ℕ × ℤ). x.1) d.dot_is;
       } in (
         (d.found, shows_found d.found d.among, dot_reads (name_of g) id start end d.found d.key d.all r d.of d.are dot),
-        is_asked start end metric r (ap (λ (x : Reading). x.metric) w.is) (subst (λ (x : Reading). IsIn start end x.time) (sym w.is) d.within),
+        is_asked start end metric filters r (ap (λ (x : Reading). x.metric) w.is) (subst (λ (x : Reading). IsIn start end x.time) (sym w.is) d.within) (sym (by d.found d.key d.among d.of r.tags tags) ∙ d.picked),
       )
 
   -- and each that is shown is one of these
-  shown_at : (r : Reading) (f : Found) (row : RowIsIn id start end spans names f) (d : ReadsDot (name_of g) row.key row.all r) → Asks start end metric r → Contains (readings_in metric series) r
-  shown_at r f row d a =
+  shown_at : (r : Reading) (f : Found) (key : RowKey) (row : AreIn start end key.base f.cells key.pairs.items spans names) (d : ReadsDot (name_of g) key row.clean.all r) → Asks start end metric filters r → Contains (readings_in metric series) r
+  shown_at r f key row d a =
       let there = row.there d.dot d.there (subst (IsIn start end) d.time_is a.within) in
-      let t = titles.all (row.key.pairs.items, dots_of spans row.key.pairs.items) (dot_stands spans row.key.pairs.items (dot_at row.key.base d.dot) there) in
-      let tags : t.0.tags ≡ r.tags = same_tags (name_of g) row.key.pairs.items t.0.tags r.tags (tags_named row.key.pairs.items t.0.tags t.2.tags) d.tags_are in
-      let among = of_reading metric series t.0 (dot_at row.key.base d.dot) t.1 (subst (λ (l : List (ℕ × ℤ)). Contains l (dot_at row.key.base d.dot)) (sym t.2.dots_are) there) in
-      reading_among metric t.0.tags (dot_at row.key.base d.dot) r (readings_in metric series) a.metric_is tags d.time_is d.value_is among
+      let t = titles.all (key.pairs.items, dots_of spans key.pairs.items) (dot_stands spans key.pairs.items (dot_at key.base d.dot) there) in
+      let tags : t.0.tags ≡ r.tags = same_tags (name_of g) key.pairs.items t.0.tags r.tags (tags_named key.pairs.items t.0.tags t.2.tags) d.tags_are in
+      let among = of_reading metric series t.0 (dot_at key.base d.dot) t.1 (subst (λ (l : List (ℕ × ℤ)). Contains l (dot_at key.base d.dot)) (sym t.2.dots_are) there) in
+      reading_among metric t.0.tags (dot_at key.base d.dot) r (readings_in metric series) a.metric_is tags d.time_is d.value_is among
 
-  shown_from : (r : Reading) → Chosen (is_wanted start end metric) (ShowsReading (name_of g) (looks ++ own)) r → Contains (readings_in metric series) r
-  shown_from r ((f, s, read), wants) =
-      let row = content.rows f (found_of f s) in
-      shown_at r f row (reads_dot (name_of g) id start end f row.key row.all r row.of row.are read) (asks start end metric r wants)
+  shown_from : (r : Reading) → Chosen wants (ShowsReading (name_of g) (looks ++ own)) r → Contains (readings_in metric series) r
+  shown_from r ((f, s, read), wanted) =
+      let found = found_of f s in
+      let row = content.rows f found in
+      let a = asks start end metric filters r wanted in
+      let c = row.is_in (by f row.key found row.of r.tags (read_tags (name_of g) id start end f row.key r row.of read) ∙ a.passed) in
+      shown_at r f row.key c (reads_dot (name_of g) id start end f row.key c.clean.all r row.of c.clean.are read) a
 
-  asks_within : AsksWithin (is_wanted start end metric) g id (base_time start) (base_time end)
-  asks_within r wants =
-      let a = asks start end metric r wants in
+  asks_within : AsksWithin wants g id (base_time start) (base_time end)
+  asks_within r wanted =
+      let a = asks start end metric filters r wanted in
       let h = hours_within start end r.time a.within in
       (ap (id_of g Metric) a.metric_is ∙ metric_known, h.0, h.1)
 
   pub stands_in : (h : History) (length_now : ℕ) → first length_now h ≡ g → ScanCovers → IsLawful h → InOrder h length_now (looks ++ own) → (begin : Left) → IsStart id (base_time start) (base_time end) begin → Scanned begin own founds
-      → PartStands (is_wanted start end metric) ((Metric, metric) ∷ []) (record { own = looks ++ own; shown = readings_in metric series }) length_now h
-  stands_in h n same covering lawful order begin starts whole =
-      let clean_h = subst (λ (x : History). NoClash (name_of x) (is_wanted start end metric) (looks ++ own)) (sym same) clean in
-      let within_h = subst (λ (x : History). AsksWithin (is_wanted start end metric) x id (base_time start) (base_time end)) (sym same) asks_within in
-      let to = λ (r : Reading) (c : Contains (readings_in metric series) r). subst (λ (x : History). Chosen (is_wanted start end metric) (ShowsReading (name_of x) (looks ++ own)) r) (sym same) (shown_to r c) in
-      let from = λ (r : Reading) (c : Chosen (is_wanted start end metric) (ShowsReading (name_of (first n h)) (looks ++ own)) r). shown_from r (subst (λ (x : History). Chosen (is_wanted start end metric) (ShowsReading (name_of x) (looks ++ own)) r) same c) in
-      let covers : OwnCovers (is_wanted start end metric) (looks ++ own) n h =
-      covering h n id (base_time start) (base_time end) begin (looks ++ own) founds (is_wanted start end metric) lawful order starts (scan_after begin looks own founds reads whole) (by_series start end metric) within_h clean_h in
+      → (asked : List NameOf) → AllResolved (first length_now h) asked → PartStands (is_wanted start end metric filters) asked (record { own = looks ++ own; shown = readings_in metric series }) length_now h
+  stands_in h n same covering lawful order begin starts whole asked resolved =
+      let clean_h = subst (λ (x : History). NoClash (name_of x) wants (looks ++ own)) (sym same) clean in
+      let within_h = subst (λ (x : History). AsksWithin wants x id (base_time start) (base_time end)) (sym same) asks_within in
+      let to = λ (r : Reading) (c : Contains (readings_in metric series) r). subst (λ (x : History). Chosen wants (ShowsReading (name_of x) (looks ++ own)) r) (sym same) (shown_to r c) in
+      let from = λ (r : Reading) (c : Chosen wants (ShowsReading (name_of (first n h)) (looks ++ own)) r). shown_from r (subst (λ (x : History). Chosen wants (ShowsReading (name_of x) (looks ++ own)) r) same c) in
+      let covers : OwnCovers wants (looks ++ own) n h =
+      covering h n id (base_time start) (base_time end) begin (looks ++ own) founds wants lawful order starts (scan_after begin looks own founds reads whole) (by_series start end metric filters) within_h clean_h in
       record {
-        resolved = λ m c. elim (lower.split {X = NameOf} (Metric, metric) m [] c) [
-          | inl is ↦ subst (λ (x : NameOf). (i : ℕ) × (id_of (first n h) x.0 x.1 ≡ Some i)) is (id, subst (λ (x : History). id_of x Metric metric ≡ Some id) (sym same) metric_known)
-          | inr none ↦ absurd (lower.not_in {X = NameOf} m none)
-        ];
+        resolved = resolved;
         shown = λ r. (to r, from r);
         clean = clean_h;
         covers = record {

@@ -1,20 +1,26 @@
 -- Points with the same readings have the same answer.
-use Rattle.std.proofs.Common.{◌≡◌, ◌⊎◌, inl, inr, ℕ, ℤ, Bool, true, false, cond, ◌||◌, List, [], ◌∷◌, Option, Some, None, map, refl, sym, ap, ◌∙◌, arith}
+use Rattle.std.proofs.Common.{◌≡◌, inl, inr, ℕ, ℤ, Bool, true, false, cond, List, [], ◌∷◌, Option, Some, None, Ok, map, refl, sym, ap, ◌∙◌, arith}
 use Rattle.std.specs.Prelude.{Contains, filter, nat_eq}
 use Rattle.std.specs.List.{AllZip, list_any}
 use Rattle.std.specs.Map.{lookup}
 use Rattle.std.proofs.lemmas.Bool.Decides.{nat_tests}
 use Rattle.lerp_aggregate.specs.Aggregation.{value_at}
-use Rattle.lerp_aggregate.specs.Laws.{AreAlike, DependsOnValuesAlone}
+use Rattle.lerp_aggregate.specs.Laws.{AreAlike}
+use Rattle.lerp_aggregate.specs.Laws as aggregate
+use Rattle.downsample.specs.Laws as down
 use Rattle.cell_model.specs.Readings.{Reading, reading_of}
 use Rattle.query_run.proofs.Lower.{here, there, split, not_in, map_in, in_map}
 use Rattle.tsd_base.specs.declared.kinds.Aggregator.{Aggregator}
+use Rattle.tsd_base.specs.declared.kinds.Down.{Down}
+use Rattle.query_text.specs.declared.queries.Query.{Query}
+use Rattle.query_text.specs.declared.queries.Sub.{Sub}
 use Rattle.tsd_base.specs.Points.{DataPoint}
 use Rattle.tsd_base.specs.Readings.{series_of, dots_of}
 use Rattle.tsd_base.specs.TagList.{Pair, is_same_tags}
 use Rattle.tsd_base.specs.TagOrder.{is_same_tags_equiv, tags_same}
-use Rattle.query_run.specs.Answers.{answer, all_groups, group_answer, groups_in, grouped}
+use Rattle.query_run.specs.Answers.{answer, aggregated_all, all_groups, all_or_least, down_by, down_to, group_answer, groups_in, grouped}
 use Rattle.query_run.specs.Laws.{HaveSameReadings, AreOneValued, AnswerIsUnordered}
+use Rattle.query_run.proofs.AnyOf.{in_any, any_in}
 use Rattle.query_run.proofs.Keys.{same_series}
 
 -- ---- the value of a series at a time
@@ -65,25 +71,22 @@ both_ways true b f g = sym (f refl)
 both_ways false true f g = g refl
 both_ways false false f g = refl
 
-in_any : {X : Type 0} (passes : X → Bool) (x : X) (xs : List X) → Contains xs x → passes x ≡ true → list_any passes xs ≡ true
-in_any passes x [] among e = absurd (not_in x among)
-in_any {X} passes x (y ∷ xs) among e = at (split y x xs among) (λ c. in_any passes x xs c e)
-  where
-    or_true : (b : Bool) → (b || true) ≡ true
-    or_true true = refl
-    or_true false = refl
+-- ---- series that are alike
+all_plain : (lists : List (List (ℕ × ℤ))) (start end : ℕ) → all_or_least (map (down_to None start end) lists) ≡ Ok lists
+all_plain [] start end = refl
+all_plain (l ∷ lists) start end = rw (all_plain lists start end) refl
 
-    at : (y ≡ x) ⊎ Contains xs x → (Contains xs x → list_any passes xs ≡ true) → (passes y || list_any passes xs) ≡ true
-    at (inl same) rest = ap (λ b. b || list_any passes xs) (ap passes same ∙ e)
-    at (inr c) rest = ap (λ b. passes y || b) (rest c) ∙ or_true (passes y)
+all_down : down.DependsOnValuesAlone → (how : Down) (start end : ℕ) (xs ys : List (List (ℕ × ℤ))) → AllZip AreAlike xs ys → map (down_to (Some how) start end) xs ≡ map (down_to (Some how) start end) ys
+all_down downs how start end [] [] z = refl
+all_down downs how start end [] (y ∷ ys) z = absurd z
+all_down downs how start end (x ∷ xs) [] z = absurd z
+all_down downs how start end (x ∷ xs) (y ∷ ys) z = λ i. downs how start end x y z.0 i ∷ all_down downs how start end xs ys z.1 i
 
-any_in : {X : Type 0} (passes : X → Bool) (xs : List X) → list_any passes xs ≡ true → (x : X) × Contains xs x × (passes x ≡ true)
-any_in passes [] e = absurd (false_is_not_true e)
-any_in {X} passes (y ∷ xs) e = at (passes y) refl e (any_in passes xs)
-  where
-    at : (b : Bool) → passes y ≡ b → (b || list_any passes xs) ≡ true → (list_any passes xs ≡ true → (x : X) × Contains xs x × (passes x ≡ true)) → (x : X) × Contains (y ∷ xs) x × (passes x ≡ true)
-    at true is h rest = (y, here y xs, is)
-    at false is h rest = let w = rest h in (w.0, there y w.0 xs w.1, w.2)
+-- they make the same points, downsampled or not
+alike_group : aggregate.DependsOnValuesAlone → down.DependsOnValuesAlone → (how : Aggregator) (by : Option Down) (start end : ℕ) (xs ys : List (List (ℕ × ℤ))) → AllZip AreAlike xs ys
+    → aggregated_all how (all_or_least (map (down_to by start end) xs)) ≡ aggregated_all how (all_or_least (map (down_to by start end) ys))
+alike_group aggregates downs how None start end xs ys z = ap (aggregated_all how) (all_plain xs start end) ∙ aggregates how xs ys z ∙ sym (ap (aggregated_all how) (all_plain ys start end))
+alike_group aggregates downs how (Some d) start end xs ys z = ap (λ l. aggregated_all how (all_or_least l)) (all_down downs d start end xs ys z)
 
 -- ---- the same readings
 -- a point with the same reading
@@ -128,11 +131,12 @@ module _ (xs ys : List DataPoint) (same : HaveSameReadings xs ys) (one : AreOneV
   lists_alike [] = tt
   lists_alike (t ∷ series) = (λ time. values_same t time (value_at (dots_of xs t) time) (value_at (dots_of ys t) time) (found xs t time) (found ys t time), lists_alike series)
 
-  same_answer : DependsOnValuesAlone → (ms : Bool) (how : Aggregator) (metric : List ℕ) → answer ms how metric xs ≡ answer ms how metric ys
-  same_answer depends ms how metric =
-      let each : (series : List (List Pair)) → group_answer ms how metric xs series ≡ group_answer ms how metric ys series =
-      λ series. ap (grouped ms metric series) (depends how (map (dots_of xs) series) (map (dots_of ys) series) (lists_alike series)) in
-      λ i. all_groups (map (λ series. each series i) (groups_in how (series_same i)))
+  each_group : aggregate.DependsOnValuesAlone → down.DependsOnValuesAlone → (q : Query) (s : Sub) (series : List (List Pair)) → group_answer q s xs series ≡ group_answer q s ys series
+  each_group aggregates downs q s series =
+      ap (grouped q.ms s.metric series) (alike_group aggregates downs s.how (down_by q.ms s.how s.down) q.start q.end (map (dots_of xs) series) (map (dots_of ys) series) (lists_alike series))
 
-pub unordered : DependsOnValuesAlone → AnswerIsUnordered
-unordered depends ms how metric xs ys same one = same_answer xs ys same one depends ms how metric
+  same_answer : aggregate.DependsOnValuesAlone → down.DependsOnValuesAlone → (q : Query) (s : Sub) → answer q s xs ≡ answer q s ys
+  same_answer aggregates downs q s = λ i. all_groups (map (λ series. each_group aggregates downs q s series i) (groups_in s (series_same i)))
+
+pub unordered : aggregate.DependsOnValuesAlone → down.DependsOnValuesAlone → AnswerIsUnordered
+unordered aggregates downs q s xs ys same one = same_answer xs ys same one aggregates downs q s

@@ -3,6 +3,7 @@ use Rattle.std.specs.Prelude.{◌≡◌, ℕ, Bool, List, [], ◌∷◌, ◌++�
 use Rattle.std.specs.List.{flat_map}
 use Rattle.cell_model.specs.History.{History, first, store_after}
 use Rattle.cell_model.specs.Ids.{name_of}
+use Rattle.cell_model.specs.declared.events.Placed.{Placed}
 use Rattle.cell_model.specs.Readings.{Reading}
 use Rattle.cell_model.specs.Seen.{Seen, InEach}
 use Rattle.cell_model.specs.Deeds.{Made, before_first}
@@ -12,9 +13,9 @@ use Rattle.query_run.specs.declared.fault.AskFault.{AskFault}
 use Rattle.query_run.specs.declared.fault.AskFault.TheVariants.{TooManyBuckets, Unknown, Duplicate, Overflow, OutOfMemory, Stopped}
 use Rattle.query_run.specs.Parts.{NameOf, Part, AreQuerySteps, AllResolved, PartStands, FirstUnknown, FirstClash}
 
--- of a sub query: which readings are wanted; the names that it has, in order; why it is refused by itself, if it is; and the groups
--- over readings, or the time of an overflow
-module _ {Sub : Type 0} (wanted : Sub → Reading → Bool) (names_in : Sub → List NameOf) (barred : Sub → Option AskFault) (answer_over : Sub → List Reading → Result (List Group) ℕ) where
+-- of a sub query: which readings are wanted; the names that it has, in order; why it is refused by itself, if it is; the groups
+-- over readings, or the time of an overflow; and which entries are few enough for it
+module _ {Sub : Type 0} (wanted : Sub → Reading → Bool) (names_in : Sub → List NameOf) (barred : Sub → Option AskFault) (answer_over : Sub → List Reading → Result (List Group) ℕ) (IsFew : Sub → List Placed → History → Type 0) where
   -- why a sub query is refused, by the entries made for it; each cause comes where those that stand before it here don't
   abbrev pub Cause : Sub → Part → ℕ → History → AskFault → Type 0
   Cause s part end h (TooManyBuckets count) = (part.own ≡ []) × (barred s ≡ Some (TooManyBuckets count))
@@ -24,11 +25,11 @@ module _ {Sub : Type 0} (wanted : Sub → Reading → Bool) (names_in : Sub → 
   Cause s part end h OutOfMemory = Unit {0}
   Cause s part end h Stopped = Unit {0}
 
-  -- each sub query has its part, and the groups are the answers over what the parts show
+  -- each sub query has its part, of few entries, and the groups are the answers over what the parts show
   pub data Answers (end : ℕ) (h : History) : List Sub → List Part → List Group → Type 0 where
     none : Answers end h [] [] []
     more : {s : Sub} {part : Part} {groups : List Group} {subs : List Sub} {parts : List Part} {rest : List Group} → barred s ≡ None → PartStands (wanted s) (names_in s) part end h
-        → answer_over s part.shown ≡ Ok groups → Answers end h subs parts rest → Answers end h (s ∷ subs) (part ∷ parts) (groups ++ rest)
+        → answer_over s part.shown ≡ Ok groups → IsFew s part.own (first end h) → Answers end h subs parts rest → Answers end h (s ∷ subs) (part ∷ parts) (groups ++ rest)
 
   -- all sub queries are answered, by these entries and no other
   pub record Answered (old : Seen) (subs : List Sub) (groups : List Group) (new : Seen) : Type 0 where
@@ -50,6 +51,7 @@ module _ {Sub : Type 0} (wanted : Sub → Reading → Bool) (names_in : Sub → 
     pub steps : AreQuerySteps (flat_map (λ (p : Part). p.own) parts ++ part.own)
     pub before : InEach new (λ h. Answers new.length h done parts groups)
     pub cause : InEach new (λ h. Cause sub part new.length h fault)
+    pub few : InEach new (λ h. IsFew sub part.own (first new.length h))
 
   abbrev pub AskSays : Seen → List Sub → Result Reply AskFault → Seen → Type 0
   AskSays old subs (Ok reply) new = Answered old subs (map plain reply.groups.items) new

@@ -1,9 +1,10 @@
--- The rows of a metric in a range of times, collected as the points of series by the ids of their tags.
-use Rattle.std.specs.Prelude.{◌≡◌, ◌≢◌, ◌⊎◌, ℕ, ℤ, ◌+◌, ◌*◌, ◌<◌, ◌≤◌, IsTrue, List, [], ◌∷◌, ◌++◌, length, All, AllPairs, Contains, None, Some, Result, Ok, Err}
+-- The rows of a metric in a range of times whose pairs of ids are picked, collected as the points of series by the ids of their tags.
+use Rattle.std.specs.Prelude.{◌≡◌, ◌≢◌, ◌⊎◌, ℕ, ℤ, Bool, false, ◌+◌, ◌*◌, ◌<◌, ◌≤◌, IsTrue, List, [], ◌∷◌, ◌++◌, length, All, AllPairs, Contains, None, Some, Result, Ok, Err}
 use Rattle.std.specs.declared.cmp.Ordering.TheVariants.{Less}
 use Rattle.row_key.specs.declared.tables.Table.TheVariants.{Points}
 use Rattle.row_key.specs.declared.keys.RowKey.{RowKey}
 use Rattle.row_key.specs.Key.{IsKey, key_bytes}
+use Rattle.qual_codec.specs.declared.cells.Cell.{Cell}
 use Rattle.qual_codec.specs.declared.cells.Dot.{Dot}
 use Rattle.qual_codec.specs.Dots.{Reads}
 use Rattle.cell_model.specs.declared.cells.Found.{Found}
@@ -36,6 +37,10 @@ pub record KeyOf (id start end : ℕ) (f : Found) (key : RowKey) : Type 0 where
   pub from_on : base_time start ≤ key.base
   pub up_to : key.base ≤ base_time end
 
+-- whether a row with these pairs of ids is asked for
+abbrev pub Picks : Type 0
+Picks = List (ℕ × ℕ) → Bool
+
 -- such a row, whose cells read, and whose ids are known to be those of names
 pub record FoundRow (s : Seen) (id start end : ℕ) (f : Found) : Type 0 where
   pub key : RowKey
@@ -52,18 +57,29 @@ abbrev pub Adds : List Span → List (ℕ × ℕ) → List (ℕ × ℤ) → List
 Adds spans pairs dots more = ((dots ≡ []) × (more ≡ spans)) ⊎ ((1 ≤ length dots) × (more ≡ added spans pairs dots))
 
 -- the names of the row's ids were asked for, and its points in the range were added
-pub record RowTaken (id start end : ℕ) (f : Found) (old : Seen) (spans : List Span) (names : Names) (new : Seen) (spans_after : List Span) (names_after : Names) : Type 0 where
+pub record RowTaken (picks : Picks) (id start end : ℕ) (f : Found) (old : Seen) (spans : List Span) (names : Names) (new : Seen) (spans_after : List Span) (names_after : Names) : Type 0 where
   pub key : RowKey
   pub of : KeyOf id start end f key
+  pub picked : IsTrue (picks key.pairs.items)
   pub named : NamesRead old names (ids_of key.pairs.items) new names_after
   pub dots : List (ℕ × ℤ)
   pub has : HasDots f.cells key.base start end dots
   pub adds : Adds spans key.pairs.items dots spans_after
 
--- the row has two values at this time of the range, and none earlier
-pub record RowClashes (id start end : ℕ) (f : Found) (time : ℕ) (a b : ℤ) : Type 0 where
+-- the row isn't asked for, and nothing was done
+pub record RowLeft (picks : Picks) (id start end : ℕ) (f : Found) (old : Seen) (spans : List Span) (names : Names) (new : Seen) (spans_after : List Span) (names_after : Names) : Type 0 where
   pub key : RowKey
   pub of : KeyOf id start end f key
+  pub left : picks key.pairs.items ≡ false
+  pub made : Made old [] new
+  pub spans_are : spans_after ≡ spans
+  pub names_are : names_after ≡ names
+
+-- the row has two values at this time of the range, and none earlier
+pub record RowClashes (picks : Picks) (id start end : ℕ) (f : Found) (time : ℕ) (a b : ℤ) : Type 0 where
+  pub key : RowKey
+  pub of : KeyOf id start end f key
+  pub picked : IsTrue (picks key.pairs.items)
   pub clash : Clashes f.cells key.base start end time a b
 
 pub record RowCut (id start end : ℕ) (f : Found) (old : Seen) (names : Names) (new : Seen) : Type 0 where
@@ -71,12 +87,16 @@ pub record RowCut (id start end : ℕ) (f : Found) (old : Seen) (names : Names) 
   pub of : KeyOf id start end f key
   pub named : NamesCut old names (ids_of key.pairs.items) new
 
-abbrev pub RowAsked : ℕ → ℕ → ℕ → Found → Seen → Collected → Result (Unit {0}) AskFault → Seen → Collected → Type 0
-RowAsked id start end f old before (Ok x) new after = RowTaken id start end f old before.spans (known before.names) new after.spans (known after.names)
-RowAsked id start end f old before (Err (Duplicate time a b)) new after = Made old [] new × RowClashes id start end f time a b
-RowAsked id start end f old before (Err OutOfMemory) new after = RowCut id start end f old (known before.names) new
-RowAsked id start end f old before (Err Stopped) new after = RowCut id start end f old (known before.names) new
-RowAsked id start end f old before (Err fault) new after = ⊥
+abbrev pub RowDone : Picks → ℕ → ℕ → ℕ → Found → Seen → List Span → Names → Seen → List Span → Names → Type 0
+RowDone picks id start end f old spans names new spans_after names_after =
+    RowLeft picks id start end f old spans names new spans_after names_after ⊎ RowTaken picks id start end f old spans names new spans_after names_after
+
+abbrev pub RowAsked : Picks → ℕ → ℕ → ℕ → Found → Seen → Collected → Result (Unit {0}) AskFault → Seen → Collected → Type 0
+RowAsked picks id start end f old before (Ok x) new after = RowDone picks id start end f old before.spans (known before.names) new after.spans (known after.names)
+RowAsked picks id start end f old before (Err (Duplicate time a b)) new after = Made old [] new × RowClashes picks id start end f time a b
+RowAsked picks id start end f old before (Err OutOfMemory) new after = RowCut id start end f old (known before.names) new
+RowAsked picks id start end f old before (Err Stopped) new after = RowCut id start end f old (known before.names) new
+RowAsked picks id start end f old before (Err fault) new after = ⊥
 
 -- the id is one of the row's tags
 abbrev pub HasId : ℕ → ℕ → ℕ → Found → IdOf → Type 0
@@ -93,30 +113,37 @@ pub record Counted (spare id start end : ℕ) (own : List Placed) (founds : List
   pub once : AllPairs (λ i j. i ≢ j) ids
   pub from : (i : IdOf) → Contains ids i → (f : Found) × Contains founds f × HasId id start end f i
 
--- at no time of the range the row has two values
-pub record RowIsClean (id start end : ℕ) (f : Found) : Type 0 where
+-- at no time of the range the cells have two values; their hour begins at this second
+pub record AreClean (start end base : ℕ) (cells : List Cell) : Type 0 where
+  pub all : List Dot
+  pub are : AreDots cells all
+  pub one : (offset : ℕ) → IsIn start end (base * 1000 + offset) → first_clash (values_at offset all) ≡ None
+
+-- so it is of the row's cells, where it is asked for
+pub record RowIsClean (picks : Picks) (id start end : ℕ) (f : Found) : Type 0 where
   pub key : RowKey
   pub of : KeyOf id start end f key
-  pub all : List Dot
-  pub are : AreDots f.cells all
-  pub one : (offset : ℕ) → IsIn start end (key.base * 1000 + offset) → first_clash (values_at offset all) ≡ None
+  pub clean : IsTrue (picks key.pairs.items) → AreClean start end key.base f.cells
 
--- and its points in the range are those of its series, and its ids have names
-pub record RowIsIn (id start end : ℕ) (spans : List Span) (names : Names) (f : Found) : Type 0 where
+-- the cells are clean, their points in the range are those of the series of these pairs, and the ids of the pairs have names
+pub record AreIn (start end base : ℕ) (cells : List Cell) (pairs : List (ℕ × ℕ)) (spans : List Span) (names : Names) : Type 0 where
+  pub clean : AreClean start end base cells
+  pub there : (x : Dot) → Contains clean.all x → IsIn start end (base * 1000 + x.item.offset) → Contains (dots_of spans pairs) (dot_at base x)
+  pub named : (i : IdOf) → Contains (ids_of pairs) i → HasName names i
+
+-- so it is of the row's, where it is asked for
+pub record RowIsIn (picks : Picks) (id start end : ℕ) (spans : List Span) (names : Names) (f : Found) : Type 0 where
   pub key : RowKey
   pub of : KeyOf id start end f key
-  pub all : List Dot
-  pub are : AreDots f.cells all
-  pub one : (offset : ℕ) → IsIn start end (key.base * 1000 + offset) → first_clash (values_at offset all) ≡ None
-  pub there : (x : Dot) → Contains all x → IsIn start end (key.base * 1000 + x.item.offset) → Contains (dots_of spans key.pairs.items) (dot_at key.base x)
-  pub named : (i : IdOf) → Contains (ids_of key.pairs.items) i → HasName names i
+  pub is_in : IsTrue (picks key.pairs.items) → AreIn start end key.base f.cells key.pairs.items spans names
 
--- the point of the series is one of a row that was found
-pub record DotIsFrom (id start end : ℕ) (founds : List Found) (pairs : List (ℕ × ℕ)) (d : ℕ × ℤ) : Type 0 where
+-- the point of the series is one of a row that was found and is asked for
+pub record DotIsFrom (picks : Picks) (id start end : ℕ) (founds : List Found) (pairs : List (ℕ × ℕ)) (d : ℕ × ℤ) : Type 0 where
   pub found : Found
   pub among : Contains founds found
   pub key : RowKey
   pub of : KeyOf id start end found key
+  pub picked : IsTrue (picks key.pairs.items)
   pub pairs_are : key.pairs.items ≡ pairs
   pub all : List Dot
   pub are : AreDots found.cells all
@@ -125,10 +152,10 @@ pub record DotIsFrom (id start end : ℕ) (founds : List Found) (pairs : List (�
   pub dot_is : d ≡ dot_at key.base dot
   pub within : IsIn start end d.0
 
--- the series are those of the rows that were found, each with their points in the range, one or more
-pub record Gathered (id start end : ℕ) (founds : List Found) (spans : List Span) (names : Names) : Type 0 where
-  pub rows : (f : Found) → Contains founds f → RowIsIn id start end spans names f
-  pub from : (s : Span) (d : ℕ × ℤ) → Contains spans s → Contains s.1 d → DotIsFrom id start end founds s.0 d
+-- the series are those of the rows that were found and are asked for, each with their points in the range, one or more
+pub record Gathered (picks : Picks) (id start end : ℕ) (founds : List Found) (spans : List Span) (names : Names) : Type 0 where
+  pub rows : (f : Found) → Contains founds f → RowIsIn picks id start end spans names f
+  pub from : (s : Span) (d : ℕ × ℤ) → Contains spans s → Contains s.1 d → DotIsFrom picks id start end founds s.0 d
   pub some : (s : Span) → Contains spans s → 1 ≤ length s.1
 
 -- of what is left of the scan only rows of the metric in these hours are keys
@@ -147,7 +174,7 @@ pub record FoundBelow (begin left : Left) (own : List Placed) (founds : List Fou
       → (f : Found) × Contains founds f × (f.row ≡ row)
 
 -- the scan has come so far
-pub record Gathering (id start end : ℕ) (begin left : Left) (old : Seen) (spans : List Span) (names : Names) (new : Seen) : Type 0 where
+pub record Gathering (picks : Picks) (id start end : ℕ) (begin left : Left) (old : Seen) (spans : List Span) (names : Names) (new : Seen) : Type 0 where
   pub own : List Placed
   pub founds : List Found
   pub ids : List IdOf
@@ -158,11 +185,11 @@ pub record Gathering (id start end : ℕ) (begin left : Left) (old : Seen) (span
   pub only : OnlyRows id start end left
   pub passed : (f : Found) → Contains founds f → bytes_cmp f.row.bytes left.from ≡ Less
   pub below : FoundBelow begin left own founds
-  pub content : Gathered id start end founds spans names
+  pub content : Gathered picks id start end founds spans names
   pub shown : AllNamed new names
 
 -- the scan has come to its end
-pub record HasCollected (id start end : ℕ) (old : Seen) (spans : List Span) (names : Names) (new : Seen) : Type 0 where
+pub record HasCollected (picks : Picks) (id start end : ℕ) (old : Seen) (spans : List Span) (names : Names) (new : Seen) : Type 0 where
   pub own : List Placed
   pub founds : List Found
   pub ids : List IdOf
@@ -171,7 +198,7 @@ pub record HasCollected (id start end : ℕ) (old : Seen) (spans : List Span) (n
   pub counted : Counted 1 id start end own founds ids
   pub starts : IsStart id (base_time start) (base_time end) begin
   pub whole : Scanned begin own founds
-  pub content : Gathered id start end founds spans names
+  pub content : Gathered picks id start end founds spans names
   pub shown : AllNamed new names
 
 -- the earlier entries show each row of the metric in these hours that was there before all of the entries, and is below this one
@@ -181,31 +208,31 @@ ShowsBelow id start end own earlier below =
     → (f : Found) × ShowsRow earlier f × (f.row ≡ row)
 
 -- the last entry shows the first row with a clash, and the clash is the row's first one
-pub record FoundClash (id start end : ℕ) (own : List Placed) (time : ℕ) (a b : ℤ) : Type 0 where
+pub record FoundClash (picks : Picks) (id start end : ℕ) (own : List Placed) (time : ℕ) (a b : ℤ) : Type 0 where
   pub earlier : List Placed
   pub last : Placed
   pub cut : own ≡ earlier ++ last ∷ []
-  pub clean : (p : Placed) (f : Found) → Contains earlier p → p.entry.reply ≡ Next (Some f) → RowIsClean id start end f
+  pub clean : (p : Placed) (f : Found) → Contains earlier p → p.entry.reply ≡ Next (Some f) → RowIsClean picks id start end f
   pub found : Found
   pub reply : last.entry.reply ≡ Next (Some found)
   pub passed : ShowsBelow id start end own earlier found.row
-  pub clash : RowClashes id start end found time a b
+  pub clash : RowClashes picks id start end found time a b
 
-abbrev pub ClashOf : ℕ → ℕ → ℕ → List Placed → AskFault → Type 0
-ClashOf id start end own (Duplicate time a b) = FoundClash id start end own time a b
-ClashOf id start end own OutOfMemory = Unit {0}
-ClashOf id start end own Stopped = Unit {0}
-ClashOf id start end own fault = ⊥
+abbrev pub ClashOf : Picks → ℕ → ℕ → ℕ → List Placed → AskFault → Type 0
+ClashOf picks id start end own (Duplicate time a b) = FoundClash picks id start end own time a b
+ClashOf picks id start end own OutOfMemory = Unit {0}
+ClashOf picks id start end own Stopped = Unit {0}
+ClashOf picks id start end own fault = ⊥
 
 -- the scan was broken off
-pub record WasCut (id start end : ℕ) (old : Seen) (fault : AskFault) (new : Seen) : Type 0 where
+pub record WasCut (picks : Picks) (id start end : ℕ) (old : Seen) (fault : AskFault) (new : Seen) : Type 0 where
   pub own : List Placed
   pub founds : List Found
   pub ids : List IdOf
   pub made : Made old own new
   pub counted : Counted 1 id start end own founds ids
-  pub cause : ClashOf id start end own fault
+  pub cause : ClashOf picks id start end own fault
 
-abbrev pub CollectSays : ℕ → ℕ → ℕ → Seen → Result Collected AskFault → Seen → Type 0
-CollectSays id start end old (Ok c) new = HasCollected id start end old c.spans (known c.names) new
-CollectSays id start end old (Err fault) new = WasCut id start end old fault new
+abbrev pub CollectSays : Picks → ℕ → ℕ → ℕ → Seen → Result Collected AskFault → Seen → Type 0
+CollectSays picks id start end old (Ok c) new = HasCollected picks id start end old c.spans (known c.names) new
+CollectSays picks id start end old (Err fault) new = WasCut picks id start end old fault new

@@ -1,8 +1,9 @@
 -- What an answer depends on.
-use Rattle.std.specs.Prelude.{◌≡◌, ◌↔◌, ℕ, Bool, List, map, Contains}
-use Rattle.tsd_base.specs.declared.kinds.Aggregator.{Aggregator}
+use Rattle.std.specs.Prelude.{◌≡◌, ◌↔◌, List, map, Contains}
 use Rattle.tsd_base.specs.Points.{DataPoint}
 use Rattle.cell_model.specs.Readings.{Reading, reading_of}
+use Rattle.query_text.specs.declared.queries.Query.{Query}
+use Rattle.query_text.specs.declared.queries.Sub.{Sub}
 use Rattle.query_run.specs.Answers.{answer}
 
 -- they have the same readings, in any order and each any number of times
@@ -15,4 +16,4 @@ AreOneValued points = (p q : DataPoint) → Contains points p → Contains point
 
 -- where no series has two values at one time, neither the order of points nor their form nor how often one is repeated changes an answer
 abbrev pub AnswerIsUnordered : Type 0
-AnswerIsUnordered = (ms : Bool) (how : Aggregator) (metric : List ℕ) (xs ys : List DataPoint) → HaveSameReadings xs ys → AreOneValued xs → answer ms how metric xs ≡ answer ms how metric ys
+AnswerIsUnordered = (q : Query) (s : Sub) (xs ys : List DataPoint) → HaveSameReadings xs ys → AreOneValued xs → answer q s xs ≡ answer q s ys

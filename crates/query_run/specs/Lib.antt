@@ -6,8 +6,10 @@ pub mod Faults
 pub mod Series
 pub mod Grouping
 pub mod Laws
+pub mod IdFilters
 pub mod Naming
 pub mod RowDots
 pub mod Collecting
 pub mod Titling
+pub mod Resolving
 pub mod Working

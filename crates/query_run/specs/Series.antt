@@ -1,10 +1,17 @@
 -- The series of a metric, and their points.
-use Rattle.std.specs.Prelude.{◌≡◌, ℕ, ◌≤◌, ◌<◌, ◌^◌, true, List, length, map, All, AllPairs, ℤ}
+use Rattle.std.specs.Prelude.{◌≡◌, ℕ, ◌≤◌, ◌<◌, ◌^◌, List, length, map, All, AllPairs, ℤ, true}
 use Rattle.std.specs.List.{flat_map}
 use Rattle.std.specs.declared.cmp.Ordering.TheVariants.{Less}
 use Rattle.tsd_base.specs.TagList.{Pair, tags_cmp}
 use Rattle.tsd_base.specs.Points.{DataPoint}
 use Rattle.query_run.specs.declared.series.Series.{Series}
+
+-- the tags of series, and their points
+abbrev pub tags_in : List Series → List (List Pair)
+tags_in series = map (λ s. s.tags) series
+
+abbrev pub dots_in : List Series → List (List (ℕ × ℤ))
+dots_in series = map (λ s. s.dots) series
 
 -- the points of one series, in milliseconds
 abbrev pub points_with : List ℕ → List Pair → List (ℕ × ℤ) → List DataPoint
@@ -22,6 +29,10 @@ RiseByTags series = AllPairs (λ s t. tags_cmp s.tags t.tags ≡ Less) series
 abbrev pub HavePoints : List Series → Type 0
 HavePoints series = All (λ s. 1 ≤ length s.dots) series
 
--- the time of each of their points is below 2^43 milliseconds
+-- the times of points are below 2^43 milliseconds
+abbrev pub AreEarly : List (ℕ × ℤ) → Type 0
+AreEarly dots = All (λ d. d.0 < 2 ^ 43) dots
+
+-- so is the time of each point of the series
 abbrev pub HaveTimes : List Series → Type 0
-HaveTimes series = All (λ s. All (λ d. d.0 < 2 ^ 43) s.dots) series
+HaveTimes series = All (λ s. AreEarly s.dots) series

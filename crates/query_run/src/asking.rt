@@ -1,8 +1,8 @@
 //! Asking a query.
-ghost use Rattle.std.specs.Prelude.{◌≡◌, ◌++◌, ◌≤◌, All, true, IfOk, IfErr, OnOk};
+ghost use Rattle.std.specs.Prelude.{◌≡◌, ◌++◌, ◌≤◌, All, IfOk, IfErr, OnOk};
 ghost use Rattle.json_reply.specs.Replies.{IsReady};
 ghost use Rattle.query_run.specs.Faults.{AskRose};
-ghost use Rattle.query_run.specs.Queries.{IsPlain, QuerySays, QueryIsShort};
+ghost use Rattle.query_run.specs.Queries.{CanDown, QuerySays};
 
 use crate::fault::AskFault;
 use crate::working::work;
@@ -23,13 +23,13 @@ fn add(groups: &mut Vec<Group>, more: Vec<Group>) -> Result<(), AllocError>
 
 /// Answers a query: the groups of its sub queries, in order.
 ///
-/// Each sub query is worked alone. Its metric is resolved; then the rows of the metric in the hours from the start's to the end's are
-/// read one by one, and directly after each the names of the ids that it shows and that the sub query has not named before, pair by
-/// pair from the left, key before value. A metric whose id `names` has kept takes no read, and neither does an id whose name it has
-/// kept. What these rows show covers every point in range that was accepted before the first of these steps, and lies within what is
-/// accepted at the end.
+/// Each sub query is worked alone. Its names are resolved in the order of its text; then the rows of the metric in the hours from the
+/// start's to the end's are read one by one, and directly after each that passes the filters the names of the ids that it shows and
+/// that the sub query has not named before, pair by pair from the left, key before value. A name or an id whose pair `names` has kept
+/// takes no read. What these rows show covers every point that the sub query wants and that was accepted before the first of these
+/// steps, and lies within what is accepted at the end.
 ///
-/// Sub queries with a downsample or filters, and times in seconds, are not built yet.
+/// Times are in milliseconds. A downsample's interval is at least one millisecond, and whole seconds where times are told in seconds.
 pub fn ask<R: Rows + Drop>(
     alloc: Global,
     names: &mut Uids<R>,
@@ -37,10 +37,8 @@ pub fn ask<R: Rows + Drop>(
 ) -> Result<Reply, AskFault>
     requires order { query.now.start ≤ query.now.end }
     requires most { query.now.end ≤ 4294967295999 }
-    requires ms { query.now.ms ≡ true }
-    requires plain { All IsPlain query.now.subs }
+    requires downs { All (CanDown query.now.ms) query.now.subs }
     ensures says { QuerySays query.now (R.seen names.old) result (R.seen names.new) }
-    ensures few { QueryIsShort query.now (R.seen names.old) (R.seen names.new) }
     ensures ready { IfOk result (λ reply. All IsReady reply.groups.items) }
     ensures grows { R.stops names.old ≤ R.stops names.new }
     ensures stopped { IfErr result (AskRose (R.stops names.old) (R.stops names.new)) }

@@ -1,4 +1,4 @@
-//! The rows of a metric, collected as the points of series by the ids of their tags.
+//! The rows of a metric that pass filters, collected as the points of series by the ids of their tags.
 ghost use Rattle.std.specs.Prelude.{◌≡◌, ◌≤◌, ℕ, All, IfErr, OnOk};
 ghost use Rattle.row_key.specs.declared.keys.RowKey.{RowKey};
 ghost use Rattle.row_key.specs.Key.{IsKey, key_bytes};
@@ -7,9 +7,11 @@ ghost use Rattle.cell_model.specs.Seen.{IsPossible};
 ghost use Rattle.tsd_base.specs.Dots.{IsAboveAll};
 ghost use Rattle.span_merge.specs.Spans.{dots_of};
 ghost use Rattle.query_run.specs.Faults.{AskRose};
+ghost use Rattle.query_run.specs.IdFilters.{passes};
 ghost use Rattle.query_run.specs.Collecting.{Adds, CollectSays, FoundRow, RowAsked, StandsBehind};
 
 use crate::fault::AskFault;
+use crate::id_filter::{IdFilter, passes};
 use crate::naming::{IdNames, name_pairs};
 use crate::row_dots::row_dots;
 use cell_model::cells::Found;
@@ -57,10 +59,12 @@ fn add_dots(
     spans.add(alloc, pairs, dots)
 }
 
-/// Collects the points of a row from `start` to `end`, and the names of its ids.
+/// Collects the points of a row from `start` to `end`, and the names of its ids, where it passes the filters. Of any other row the key
+/// alone is read.
 fn take_row<R: Rows + Drop>(
     alloc: Global,
     names: &mut Uids<R>,
+    filters: &[IdFilter],
     start: u64,
     end: u64,
     found: &Found,
@@ -70,23 +74,27 @@ fn take_row<R: Rows + Drop>(
     requires row { (metric : ℕ) × FoundRow (R.seen names.old) metric start end found.now }
     requires behind { StandsBehind collected.old.spans found.now }
     requires possible { IsPossible (R.seen names.old) }
-    ensures asked { (metric : ℕ) → FoundRow (R.seen names.old) metric start end found.now → RowAsked metric start end found.now (R.seen names.old) collected.old result (R.seen names.new) collected.new }
+    ensures asked { (metric : ℕ) → FoundRow (R.seen names.old) metric start end found.now → RowAsked (passes filters.now) metric start end found.now (R.seen names.old) collected.old result (R.seen names.new) collected.new }
     ensures possible { OnOk result (IsPossible (R.seen names.new)) }
     ensures grows { R.stops names.old ≤ R.stops names.new }
     ensures stopped { IfErr result (AskRose (R.stops names.old) (R.stops names.new)) }
 {
     let key = key_of(found.row.bytes.list());
+    if !passes(filters, key.pairs.as_slice()) {
+        return Ok(());
+    }
     let dots = row_dots(alloc, &found.cells, key.base, start, end)?;
     name_pairs(alloc, names, key.pairs.as_slice(), &mut collected.names)?;
     add_dots(alloc, &mut collected.spans, key.pairs.as_slice(), dots)?;
     Ok(())
 }
 
-/// Collects the rows of a metric's id, with the points from `start` to `end`.
+/// Collects the rows of a metric's id that pass the filters, with the points from `start` to `end`.
 pub(crate) fn collect<R: Rows + Drop>(
     alloc: Global,
     names: &mut Uids<R>,
     metric: u32,
+    filters: &[IdFilter],
     start: u64,
     end: u64,
 ) -> Result<Collected, AskFault>
@@ -94,7 +102,7 @@ pub(crate) fn collect<R: Rows + Drop>(
     requires order { start ≤ end }
     requires most { end ≤ 4294967295999 }
     requires possible { IsPossible (R.seen names.old) }
-    ensures says { CollectSays metric start end (R.seen names.old) result (R.seen names.new) }
+    ensures says { CollectSays (passes filters.now) metric start end (R.seen names.old) result (R.seen names.new) }
     ensures possible { OnOk result (IsPossible (R.seen names.new)) }
     ensures grows { R.stops names.old ≤ R.stops names.new }
     ensures stopped { IfErr result (AskRose (R.stops names.old) (R.stops names.new)) }
@@ -108,7 +116,7 @@ pub(crate) fn collect<R: Rows + Drop>(
         let Some(found) = scan.turn(alloc, names)? else {
             return Ok(collected);
         };
-        take_row(alloc, names, start, end, &found, &mut collected)?;
+        take_row(alloc, names, filters, start, end, &found, &mut collected)?;
     }
     Err(AskFault::OutOfMemory)
 }

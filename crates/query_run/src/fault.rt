@@ -4,7 +4,7 @@ ghost use Rattle.query_run.specs.declared.fault.AskFault.TheVariants.{OutOfMemor
 ghost use Rattle.query_run.specs.Faults.{ask_fault};
 
 use cell_model::answers::RowsFault;
-use std::alloc::AllocError;
+use std::alloc::{AllocError, AllocFailed};
 use tsd_base::kinds::Kind;
 use tsd_base::names::Name;
 
@@ -13,13 +13,14 @@ use tsd_base::names::Name;
 pub enum AskFault {
     /// The sub query has `count` buckets, more than 1,000,000.
     TooManyBuckets { count: u64 },
-    /// No name of this kind is the one that the sub query has.
+    /// A name of this kind that the sub query has is no series' name. Those before it in its text are.
     Unknown { kind: Kind, name: Name },
-    /// A row that was read has two values at this time: the first cell that has one has `a`, and the first behind it that has
+    /// A row that was read and passes the filters has two values at this time: the first cell that has one has `a`, and the first behind it that has
     /// another has `b`. It is the first such row, and its least such time. Each row below it with a reading that is asked for, which
     /// was there before the sub query's first step, was read before it.
     Duplicate { time: u64, a: i64, b: i64 },
-    /// A sum leaves `i64` at this time, the least of the first group that has one.
+    /// A sum leaves `i64`. Of the first group that has such a sum it is the least bucket of one of its series, and where there is none
+    /// the least time of the group.
     Overflow { time: u64 },
     /// There was no memory for the query.
     OutOfMemory,
@@ -42,6 +43,14 @@ impl From<AllocError> for AskFault {
     ghost from_gives = { λ _ answer. answer ≡ OutOfMemory };
 
     fn from(_failed: AllocError) -> AskFault {
+        AskFault::OutOfMemory
+    }
+}
+
+impl<T: Drop> From<AllocFailed<T>> for AskFault {
+    ghost from_gives = { λ _ answer. answer ≡ OutOfMemory };
+
+    fn from(_failed: AllocFailed<T>) -> AskFault {
         AskFault::OutOfMemory
     }
 }

@@ -4,9 +4,12 @@
 pub mod asking;
 mod collecting;
 pub mod fault;
+mod group_key;
 mod grouping;
+mod id_filter;
 pub mod laws;
 mod naming;
+mod resolve;
 mod row_dots;
 pub mod series;
 mod titling;

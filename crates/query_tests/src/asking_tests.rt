@@ -10,7 +10,7 @@ use json_reply::reply::reply_text;
 use map_body::MapBody;
 use query_run::{AskFault, ask};
 use query_text::queries::{Query, SubList};
-use query_text::subs::{asks_more, read_m};
+use query_text::subs::read_m;
 use std::alloc::{AllocError, Global};
 use std::process::Abort;
 use std::test::Fail;
@@ -115,6 +115,15 @@ const ZIMSUM_WITH_OTHER: &str =
 const SUM_IN_PART: &str =
     r#"[{"aggregateTags":["h"],"dps":{"1356998400000":10,"1356998430000":20,"1357002000000":40},"metric":"m","tags":{}}]"#;
 
+const BY_HOUR: &str =
+    r#"[{"aggregateTags":[],"dps":{"1356998400000":30,"1357002000000":90},"metric":"m","tags":{"h":"a"}},{"aggregateTags":[],"dps":{"1356998400000":0,"1357005600000":7200},"metric":"m","tags":{"h":"b"}}]"#;
+
+const ONLY_B: &str =
+    r#"[{"aggregateTags":[],"dps":{"1356998400000":0,"1357005600000":7200},"metric":"m","tags":{"h":"b"}}]"#;
+
+const FIRST_OF_A: &str =
+    r#"[{"aggregateTags":[],"dps":{"1356998400000":10,"1357002000000":40,"1357005600000":0,"1357009200000":0},"metric":"m","tags":{"h":"a"}}]"#;
+
 const DUPLICATE: &str = "duplicate at 1357002030000: 50, 300";
 
 /// A query, what caller 2 does between its steps, its answer, and that of the same query behind it.
@@ -127,7 +136,7 @@ struct Case {
     after: &'static str,
 }
 
-const CASES: [Case; 22] = [
+const CASES: [Case; 26] = [
     Case {
         what: "nobody steps in between",
         query: "sum:m",
@@ -324,6 +333,38 @@ const CASES: [Case; 22] = [
         wanted: "unknown x",
         after: "unknown x",
     },
+    Case {
+        what: "a group for each host, by the hour, with a row merged that is still to come",
+        query: "sum:1h-sum:m{h=*}",
+        end: END,
+        plan: &[(2, MERGE_NEXT)],
+        wanted: BY_HOUR,
+        after: BY_HOUR,
+    },
+    Case {
+        what: "two values in a row that the filters leave out",
+        query: "zimsum:m{}{h=b}",
+        end: END,
+        plan: &[(1, PUT_LONGER)],
+        wanted: ONLY_B,
+        after: ONLY_B,
+    },
+    Case {
+        what: "the first value of each hour, and zeros, with a row put that a filter leaves out",
+        query: "max:1h-first-zero:m{h=not_literal_or(b|c)}",
+        end: END,
+        plan: &[(1, PUT_C)],
+        wanted: FIRST_OF_A,
+        after: FIRST_OF_A,
+    },
+    Case {
+        what: "a value without an id behind a key that has one",
+        query: "sum:m{h=a|x}",
+        end: END,
+        plan: &[],
+        wanted: "unknown x",
+        after: "unknown x",
+    },
 ];
 
 /// The query of a case.
@@ -331,7 +372,6 @@ fn query_of(rt: &impl Abort, alloc: Global, case: &Case) -> Result<Query, Fail>
     ensures { IfOk result IsAsked }
 {
     let text = case.query.as_bytes();
-    assert!(rt; !asks_more(text));
     assert!(rt; START <= case.end && case.end <= END);
     let mut subs = Vec::new(alloc);
     subs.push(read_m(alloc, text, true)?)?;

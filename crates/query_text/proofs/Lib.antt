@@ -1,4 +1,4 @@
 mod Lower
 pub mod Parts
 pub mod FilterParts
-pub mod Plain
+pub mod Intervals

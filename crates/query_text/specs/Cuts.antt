@@ -1,14 +1,11 @@
 -- Texts cut at bytes.
 use Rattle.std.specs.Prelude.{ℕ, ◌+◌, Bool, false, nat_eq, List, take, drop, position, Option, None, Some}
 use Rattle.std.specs.Option.{option_map}
-use Rattle.std.specs.List.{list_any, slice_split}
+use Rattle.std.specs.List.{slice_split}
 
 -- the place of the first such byte
 abbrev pub place_of : ℕ → List ℕ → Option ℕ
 place_of byte text = position (λ b. nat_eq b byte) text
-
-abbrev pub has_byte : ℕ → List ℕ → Bool
-has_byte byte text = list_any (λ b. nat_eq b byte) text
 
 abbrev pub up_to : List ℕ → Option ℕ → List ℕ
 up_to text None = text

@@ -1,5 +1,5 @@
 -- Downsamples in text.
-use Rattle.std.specs.Prelude.{ℕ, ◌*◌, ◌%◌, Bool, ◌&&◌, ◌||◌, nat_eq, nat_le, List, codes, take, drop, Option, None, Some, if◌then◌else◌}
+use Rattle.std.specs.Prelude.{◌≡◌, ℕ, ◌*◌, ◌%◌, ◌≤◌, Bool, false, ◌&&◌, ◌||◌, nat_eq, nat_le, List, codes, take, drop, Option, None, Some, if◌then◌else◌}
 use Rattle.std.specs.Char.{is_ascii_digit}
 use Rattle.std.specs.List.{prefix_len}
 use Rattle.std.specs.Str.Parse.{digits_value}
@@ -76,3 +76,8 @@ down_in ms interval (Some shape) = down_by ms interval (function_named (before 4
 -- An interval, a function and perhaps a fill, with a `-` between them; whole seconds where times aren't told in milliseconds.
 abbrev pub down_of : Bool → List ℕ → Option Down
 down_of ms text = down_in ms (interval_of (before 45 text)) (behind 45 text)
+
+-- an interval of at least one millisecond, and of whole seconds where times aren't told in milliseconds
+pub record IsInterval (ms : Bool) (interval : ℕ) : Type 0 where
+  pub some : 1 ≤ interval
+  pub whole : ms ≡ false → interval % 1000 ≡ 0

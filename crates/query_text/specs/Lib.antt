@@ -3,4 +3,3 @@ pub mod Cuts
 pub mod Downs
 pub mod FilterTexts
 pub mod Subs
-pub mod PlainSubs

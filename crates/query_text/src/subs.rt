@@ -1,7 +1,6 @@
 //! Sub queries in text.
-ghost use Rattle.std.specs.Prelude.{◌≡◌, ◌+◌, ◌<◌, ◌≤◌, false, ◌||◌, length, Some, IfSome};
-ghost use Rattle.query_text.specs.Cuts.{has_byte, place_of};
-ghost use Rattle.query_text.specs.PlainSubs.{asks_more, m_of, GivesM};
+ghost use Rattle.std.specs.Prelude.{◌≡◌, ◌<◌, ◌≤◌, length, Some, IfOk, IfSome};
+ghost use Rattle.query_text.specs.Downs.{IsInterval};
 ghost use Rattle.query_text.specs.Subs.{asks_rate, colon_from, head_of, sub_by_aggregator, sub_by_down, sub_by_metric, sub_of, GivesSub};
 
 use crate::aggregators::aggregator_named;
@@ -12,22 +11,12 @@ use crate::queries::{FilterList, QueryFault, Sub};
 use std::alloc::Global;
 use tsd_base::kinds::{Aggregator, Down};
 
-/// Whether the text asks for more than all series of a metric: behind the `:` of an aggregator there is one more `:` or a `{`.
-pub fn asks_more(text: &[u8]) -> bool
-    ensures { result ≡ asks_more text.now }
-{
-    match place_of(head(text), b':') {
-        Some(colon) => { aggregator_named(&text[..colon]).is_some() && goes_on(&text[colon + 1..]) }
-        None => false,
-    }
-}
-
 /// Reads a sub query: an aggregator, perhaps a downsample, and a metric, with a `:` between them, and then at most two parts of
 /// filters in braces, of which the first ones group. Where `ms` is false a downsample's interval has to be whole seconds. It
 /// answers the first fault from the left.
 pub fn read_m(alloc: Global, text: &[u8], ms: bool) -> Result<Sub, QueryFault>
     ensures sub { GivesSub result (sub_of ms text.now) }
-    ensures plain { asks_more text.now ≡ false → GivesM result (m_of text.now) }
+    ensures interval { IfOk result (λ sub. IfSome sub.down (λ down. IsInterval ms down.interval)) }
 {
     let head = head(text);
     let Some(colon) = place_of(head, b':') else {
@@ -135,11 +124,4 @@ fn colon_from(text: &[u8], from: usize) -> Option<usize>
         Some(n) => Some(from + n),
         None => None,
     }
-}
-
-/// Whether the text has a `:` or a `{`.
-fn goes_on(text: &[u8]) -> bool
-    ensures { result ≡ (has_byte 58 text.now || has_byte 123 text.now) }
-{
-    text.contains(&b':') || text.contains(&b'{')
 }

@@ -1,5 +1,5 @@
 use crate::queries::{NameList, QueryFault, Sub, Test};
-use crate::subs::{asks_more, read_m};
+use crate::subs::read_m;
 use std::alloc::Global;
 use std::test::Fail;
 use tsd_base::kinds::{Aggregator, Down, Fill, Function};
@@ -19,7 +19,6 @@ fn all_series_of_a_metric_by_each_aggregator(rt: HostRuntime) {
         (b"sum:rate", Aggregator::Sum, b"rate"),
     ];
     for (text, how, metric) in cases {
-        assert!(rt; !asks_more(text));
         let read = read_m(rt.alloc(), text, false);
         assert!(rt; read.is_ok());
         if let Ok(sub) = read {
@@ -50,22 +49,7 @@ fn the_first_fault_of_a_text(rt: HostRuntime) {
         (b"zimsum:", QueryFault::BadM { at: 7 }),
     ];
     for (text, fault) in cases {
-        assert!(rt; !asks_more(text));
         assert_eq!(rt; read_m(rt.alloc(), text, false).err(), Some(fault));
-    }
-}
-
-#[test]
-fn texts_that_ask_for_more(rt: HostRuntime) {
-    let cases: [&[u8]; 5] = [
-        b"sum:rate:m",
-        b"sum:10s-avg:m",
-        b"sum:m{host=*}",
-        b"sum:{",
-        b"none::",
-    ];
-    for text in cases {
-        assert!(rt; asks_more(text));
     }
 }
 

@@ -1,24 +1,36 @@
 //! A kind of names that has no id left.
 
 use crate::names::there_and_back;
+use crate::other::Stage;
+use crate::raced::Raced;
 use crate::stores::{exhausted, named};
 use cell_model::Body;
 use point_put::{Config, PutFault, put};
+use std::alloc::AllocError;
 use std::test::Fail;
 use tsd_base::kinds::Kind;
 use tsd_base::names::Name;
 use tsd_base::reading::read_point;
-use uid_table::{AssignFault, Assigned, ResolveFault};
+use uid_table::{AssignFault, Assigned, ResolveFault, Uids};
 
 const METRIC: Kind = Kind::Metric;
 
 #[test]
 fn a_new_name_of_an_exhausted_kind_gets_no_id(rt: HostRuntime) -> Result<(), Fail> {
     let alloc = rt.alloc();
-    let mut uids = named(alloc, exhausted(alloc)?)?;
     let old = Name::read(alloc, b"a")?;
     let new = Name::read(alloc, b"b")?;
+    // Between the first two steps of caller 1, caller 2 looks for the name and asks for an id.
+    let raced = Raced::make(alloc, exhausted(alloc)?, new.again(alloc)?, [0, 2, 0, 0]);
+    let Ok(mut uids) = Uids::over(alloc, raced, 1) else {
+        return Err(AllocError.into());
+    };
     let fault = AssignFault::Exhausted { kind: METRIC };
+    assert_eq!(rt; uids.assign(alloc, METRIC, &new), Err(fault));
+    let (mut solo, stage) = uids.part().end()?;
+    assert_eq!(rt; stage, Stage::Astray);
+    solo.turn(2);
+    let mut uids = named(alloc, solo)?;
     assert_eq!(rt; uids.assign(alloc, METRIC, &new), Err(fault));
     let known = Assigned::Existing { id: 5 };
     assert_eq!(rt; uids.assign(alloc, METRIC, &old), Ok(known));

@@ -31,7 +31,7 @@ pub enum Stage {
     Forward { id: u32 },
     /// Nothing: it has its answer.
     Ended { answer: Assigned },
-    /// Nothing: it had a reply that no store of ids gives.
+    /// Nothing: it was given no id, or had a reply that no store of ids gives.
     Astray,
 }
 

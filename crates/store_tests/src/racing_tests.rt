@@ -15,7 +15,7 @@ use tsd_base::kinds::Kind;
 use tsd_base::names::Name;
 use uid_table::{Assigned, Uids};
 
-const NAME: &[u8] = b"sys.cpu.user";
+const NAME: &[u8] = b"a";
 
 /// Caller 1 assigns the name, with the steps of caller 2 in between.
 fn race(alloc: Global, plan: [u8; 4]) -> Result<(Solo<MapBody>, Assigned, Stage), Fail>

@@ -35,10 +35,16 @@ fn exhausted_listing(alloc: Global) -> Result<Listing, AllocError>
     Ok(listing)
 }
 
-/// One caller of that store.
-pub fn exhausted(alloc: Global) -> Result<Solo<MapBody>, AllocError> {
+/// Two callers of that store. It is the turn of caller 1.
+pub fn exhausted(alloc: Global) -> Result<Solo<MapBody>, AllocError>
+    ensures callers { IfOk result (λ s. s.callers ≡ 2) }
+    ensures caller { IfOk result (λ s. s.caller ≡ 1) }
+    ensures room { IfOk result (λ s. 8 ≤ s.room) }
+{
     let body = MapBody::of(alloc, exhausted_listing(alloc)?)?;
-    Solo::make(alloc, body, 1)
+    let mut solo = Solo::make(alloc, body, 2)?;
+    solo.turn(1);
+    Ok(solo)
 }
 
 /// The callers of a store, with names and ids.

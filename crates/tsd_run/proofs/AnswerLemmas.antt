@@ -1,23 +1,27 @@
--- What a query over stored points prints.
-use Rattle.std.proofs.Common.{◌≡◌, ℕ, ℤ, ◌-◌, Bool, true, false, cond, List, [], ◌∷◌, ◌++◌, refl, sym, ap, subst, ◌∙◌, arith, append-nil}
-use Rattle.std.specs.Prelude.{Option, None, Some, Result, Ok, Err, ◌%◌, All, Contains, codes, find, map, option_and_then, option_map, is_some}
-use Rattle.std.specs.List.{AllByRecursion, flat_map, list_any}
-use Rattle.std.proofs.lemmas.List.Elements.{All-from_recursion, Contains-append_right}
+-- The answer of a query over stored points.
+use Rattle.std.proofs.Common.{◌≡◌, ◌⊎◌, inl, inr, ⊎_elim, ℕ, ℤ, zero, suc, ◌-◌, Bool, true, false, List, [], ◌∷◌, ◌++◌, length, refl, sym, ap, subst, ◌∙◌, arith, append-nil}
+use Rattle.std.specs.Prelude.{◌≢◌, ◌&&◌, if◌then◌else◌, Option, None, Some, Result, Ok, Err, IfOk, IsOk, IsTrue, Contains, find, is_some, map, nat_le, not, option_and_then, option_map, slice_index_or}
+use Rattle.std.specs.List.{flat_map, list_any}
+use Rattle.std.proofs.lemmas.Bool.{and_parts}
+use Rattle.std.proofs.lemmas.List.Elements.{Contains-append_right}
 use Rattle.tsd_base.specs.Alphabet.{IsName}
 use Rattle.tsd_base.specs.Points.{DataPoint}
-use Rattle.tsd_base.specs.Readings.{last_points}
 use Rattle.tsd_base.specs.Tags.{is_same}
 use Rattle.tsd_base.specs.declared.kinds.Kind.{Kind}
-use Rattle.tsd_base.specs.declared.kinds.Kind.TheVariants.{Metric}
 use Rattle.cell_model.specs.declared.events.Placed.{Placed}
 use Rattle.cell_model.specs.Deeds.{Made, before_first}
 use Rattle.cell_model.specs.History.{History, first, store_after}
-use Rattle.cell_model.specs.Ids.{id_number, id_of, name_of}
+use Rattle.cell_model.specs.Ids.{id_in as id_at, id_number, id_of, name_of, name_row}
 use Rattle.cell_model.specs.Lawful.{IsLawful}
+use Rattle.cell_model.specs.Layout.{names_of}
+use Rattle.cell_model.specs.Machine.{kind_qual}
+use Rattle.cell_model.specs.Readings.{Meets, Reading}
 use Rattle.cell_model.specs.Seen.{Seen, Fits}
-use Rattle.json_reply.specs.Replies.{Group, IsReady, plain}
+use Rattle.cell_model.specs.Store.{value_at}
+use Rattle.group_by.specs.Filters.{passes}
+use Rattle.json_reply.specs.Replies.{Group, plain}
 use Rattle.json_reply.specs.declared.reply.Reply.{Reply}
-use Rattle.query_text.specs.declared.queries.Query as text
+use Rattle.query_text.specs.declared.queries.Query.{Query}
 use Rattle.query_text.specs.declared.queries.Sub.{Sub}
 use Rattle.query_run.specs.declared.fault.AskFault.{AskFault}
 use Rattle.query_run.specs.declared.fault.AskFault.TheVariants.{TooManyBuckets, Unknown, Duplicate, Overflow, OutOfMemory, Stopped}
@@ -26,153 +30,169 @@ use Rattle.query_run.specs.Asked.{Answers, Cause}
 use Rattle.query_run.specs.Asked.Answers.{none, more}
 use Rattle.query_run.specs.Faults.{AskRose}
 use Rattle.query_run.specs.Laws.{AnswerIsUnordered}
-use Rattle.query_run.specs.Parts.{AllResolved, AreQuerySteps, FirstClash, NameOf, Part, PartStands}
-use Rattle.query_run.specs.Queries.{QuerySays, answer_over, barred, names_in, wanted}
+use Rattle.query_run.specs.Parts.{AllResolved, AreQuerySteps, FirstClash, FoundNone, NameOf, Part, PartStands}
+use Rattle.query_run.specs.Queries.{IsFew, QuerySays, answer_over, barred, names_in, wanted}
 use Rattle.uid_table.specs.Steps.{DidLook}
-use Rattle.tsd_run.specs.declared.query.Query.{Query}
-use Rattle.tsd_run.specs.Ids.{id_in}
-use Rattle.tsd_run.specs.declared.printed.Printed.{Printed}
 use Rattle.tsd_run.specs.Clashes.{Clash, clashes, first_clash, is_first}
-use Rattle.tsd_run.specs.Outcomes.{clashed, kept, names_after, refused, replied, unless_clash}
-use Rattle.tsd_run.specs.Printing.{outcome_of, query_outcome}
-use Rattle.tsd_run.specs.Replying.{CanCome, RefusesAsked, told_in}
-use Rattle.tsd_run.specs.Storing.{IsStored, IsTaken}
-use Rattle.tsd_run.proofs.Asking.{answer_is, ids_stand}
+use Rattle.tsd_run.specs.Ids.{id_in}
+use Rattle.tsd_run.specs.Naming.{list_of}
+use Rattle.tsd_run.specs.Outcomes.{answered, first_unknown, has_name, kept, names_after, unless, unless_overflow}
+use Rattle.tsd_run.specs.Storing.{IsStored}
+use Rattle.tsd_run.proofs.Asking.{answer_is, ids_are, last_of_wanted}
 use Rattle.tsd_run.proofs.Clashing.{clean_clashes, clash_is_first}
-use Rattle.tsd_run.proofs.Clashless.{two_values}
 use Rattle.tsd_run.proofs.Entering.{looked_at}
 use Rattle.tsd_run.proofs.Follows.{went}
-use Rattle.tsd_run.proofs.Lower.{id_kept, not_Some, each_entry, deeds_each, here}
-use Rattle.tsd_run.proofs.MetricLemmas.{known_is}
-use Rattle.tsd_run.proofs.OneValue.{coarse_clashes, one_valued}
-use Rattle.tsd_run.proofs.Seconds.{all_told, answer_holds, kept_hold, kept_last, last_hold, plain_told, ready_told, told_answer}
-use Rattle.tsd_run.proofs.SeriesLemmas.{coarse_points, whole_points}
+use Rattle.tsd_run.proofs.LastPoints.{same_bytes}
+use Rattle.tsd_run.proofs.Lower.{deeds_each, each_entry, first_lawful, here, id_kept, not_Some, sound_after, split, there}
+use Rattle.tsd_run.proofs.NamedPoints.{known_is}
+use Rattle.tsd_run.proofs.OneValue.{one_valued}
+use Rattle.tsd_run.proofs.SeriesLemmas.{name_of_points}
 
--- the query that is asked for a sub query in a range
-abbrev pub asked_query : Query → text.Query
-asked_query q = record { start = q.start; end = q.end; ms = true; subs = q.sub ∷ [] }
+-- ---- the first of a list
+none_passes : {X : Type 0} (p : X → Bool) (xs : List X) → ((x : X) → Contains xs x → p x ≡ false) → find p xs ≡ None
+none_passes p [] each = refl
+none_passes p (x ∷ xs) each = ap (λ b. if b then Some x else find p xs) (each x (here x xs)) ∙ none_passes p xs (λ y has. each y (there x y xs has))
 
-pub asked_is : (q : Query) (a : text.Query) → a.start ≡ q.start → a.end ≡ q.end → a.ms ≡ true → a.subs ≡ q.sub ∷ [] → a ≡ asked_query q
-asked_is q a s e m b = λ i. record { start = s i; end = e i; ms = m i; subs = b i }
+first_passes : {X : Type 0} (p : X → Bool) (before : List X) (x : X) (behind : List X) → ((y : X) → Contains before y → p y ≡ false) → p x ≡ true → find p (before ++ x ∷ behind) ≡ Some x
+first_passes p [] x behind each is = ap (λ b. if b then Some x else find p behind) is
+first_passes p (y ∷ before) x behind each is =
+    ap (λ b. if b then Some y else find p (before ++ x ∷ behind)) (each y (here y before)) ∙ first_passes p before x behind (λ z has. each z (there y z before has)) is
 
-module _ (q : Query) (points : List DataPoint) (old new : Seen) (is_name : IsName q.sub.metric) (stored : IsStored q.ms points old) where
-  abbrev points_kept : List DataPoint
-  points_kept = kept q.start q.end q.sub.metric points
+-- ---- what has an id is a name
+is_zero : (name : List ℕ) → (name ≡ 0 ∷ []) ⊎ (name ≢ 0 ∷ [])
+is_zero [] = inr (λ e. let l = ap length e in omega (arith, l))
+is_zero (zero ∷ []) = inl refl
+is_zero (suc n ∷ []) = inr (λ e. let first_ : suc n ≡ 0 = ap (λ (xs : List ℕ). slice_index_or xs 0 0) e in omega (arith, first_))
+is_zero (a ∷ b ∷ name) = inr (λ e. let l = ap length e in omega (arith, l))
 
-  abbrev Known : Bool → Type 0
-  Known b = list_any (λ p. is_same p.metric q.sub.metric) points ≡ b
+named : (h : History) (kind : Kind) (name : List ℕ) (id : ℕ) → IsLawful h → id_of h kind name ≡ Some id → IsName name
+named h kind name id lawful is = at (value_at (store_after h) (name_row name) (kind_qual kind)) refl
+  where
+    counter : (value : List ℕ) → value_at (store_after h) (name_row name) (kind_qual kind) ≡ Some value → name ≡ 0 ∷ [] → IsName name
+    counter value stands zero_row =
+        let c = (sound_after h lawful).counters (kind_qual kind) value (ap (λ (n : List ℕ). value_at (store_after h) (name_row n) (kind_qual kind)) (sym zero_row) ∙ stands) in
+        absurd (not_Some id (sym is ∙ ap (option_and_then id_number) (stands ∙ ap Some c.value_is)))
 
-  in_form : (ms : Bool) → q.ms ≡ ms → AllByRecursion (IsTaken ms) points
-  in_form ms e = subst (λ (m : Bool). AllByRecursion (IsTaken m) points) e stored.taken
+    at : (value : Option (List ℕ)) → value_at (store_after h) (name_row name) (kind_qual kind) ≡ value → IsName name
+    at None stands = absurd (not_Some id (sym is ∙ ap (option_and_then id_number) stands))
+    at (Some value) stands = ⊎_elim (counter value stands) (λ (other : name ≢ 0 ∷ []). ((sound_after h lawful).forward name (kind_qual kind) value other stands).is_name) (is_zero name)
 
-  -- what is printed: where the metric is known without a clash, or with one; and where it is unknown
-  by_metric : (b : Bool) → Known b
-      → query_outcome q points ≡ cond b (unless_clash (first_clash (names_after points) points_kept) (replied (answer q.ms q.sub.how q.sub.metric points_kept))) (refused (codes "query: unknown metric " ++ q.sub.metric))
-  by_metric b known =
-      ap (λ b. cond b (unless_clash (first_clash (names_after points) points_kept) (replied (answer q.ms q.sub.how q.sub.metric points_kept))) (refused (codes "query: unknown metric " ++ q.sub.metric))) known
+-- ---- what a sub query wants
+by_series : (q : Query) (s : Sub) (r t : Reading) → Meets r t → wanted q s r ≡ wanted q s t
+by_series q s r t m = λ i. is_same (m.metric i) s.metric && (nat_le q.start (m.time i) && (nat_le (m.time i) q.end && passes s.filters (m.tags i)))
 
-  unclashed : Known true → clashes (names_after points) points_kept ≡ [] → query_outcome q points ≡ replied (answer q.ms q.sub.how q.sub.metric points_kept)
-  unclashed known clean =
-      by_metric true known
-      ∙ ap (λ (cs : List Clash). unless_clash (option_map {U = ℕ × ℤ × ℤ} (λ c. (c.time, c.a, c.b)) (find (is_first cs) cs)) (replied (answer q.ms q.sub.how q.sub.metric points_kept))) clean
+of_metric : (q : Query) (s : Sub) (r : Reading) → IsTrue (wanted q s r) → r.metric ≡ s.metric
+of_metric q s r is = same_bytes r.metric s.metric (and_parts (is_same r.metric s.metric) _ is).0
 
-  clashing : (c : ℕ × ℤ × ℤ) → Known true → first_clash (names_after points) points_kept ≡ Some c → query_outcome q points ≡ clashed c
-  clashing c known is = by_metric true known ∙ ap (λ o. unless_clash o (replied (answer q.ms q.sub.how q.sub.metric points_kept))) is
+-- ---- the first fault
+module _ (q : Query) (s : Sub) (points : List DataPoint) where
+  abbrev names_of_sub : List NameOf
+  names_of_sub = names_in s
 
-  unknown : Known false → query_outcome q points ≡ refused (codes "query: unknown metric " ++ q.sub.metric)
-  unknown known = by_metric false known
+  abbrev is_unknown : NameOf → Bool
+  is_unknown n = not (list_any (has_name n) points)
 
-  metric_id : (b : Bool) → is_some (id_in stored.names.metrics q.sub.metric) ≡ b → Known b
-  metric_id b is = sym (known_is points stored.names q.sub.metric stored.noted) ∙ is
+  abbrev found_clash : Option (ℕ × ℤ × ℤ)
+  found_clash = first_clash (names_after points) (kept q s points)
 
-  -- one sub query makes one part
-  pub record OnePart (parts : List Part) (groups : List Group) (h : History) : Type 0 where
+  abbrev behind_names : Result (List Group) AskFault
+  behind_names = unless (option_map (λ (c : ℕ × ℤ × ℤ). Duplicate c.0 c.1 c.2) found_clash) (unless_overflow (answer q s (kept q s points)))
+
+  abbrev behind_buckets : Result (List Group) AskFault
+  behind_buckets = unless (option_map (λ (n : NameOf). Unknown n.0 n.1) (first_unknown s points)) behind_names
+
+  is_barred : (fault : AskFault) → barred q s ≡ Some fault → answered q s points ≡ Err fault
+  is_barred fault is = ap (λ b. unless b behind_buckets) is
+
+  has_unknown : (n : NameOf) → barred q s ≡ None → first_unknown s points ≡ Some n → answered q s points ≡ Err (Unknown n.0 n.1)
+  has_unknown n free is = ap (λ b. unless b behind_buckets) free ∙ ap (λ o. unless (option_map (λ (n : NameOf). Unknown n.0 n.1) o) behind_names) is
+
+  names_known : barred q s ≡ None → first_unknown s points ≡ None → answered q s points ≡ behind_names
+  names_known free is = ap (λ b. unless b behind_buckets) free ∙ ap (λ o. unless (option_map (λ (n : NameOf). Unknown n.0 n.1) o) behind_names) is
+
+  has_clash : (time : ℕ) (a b : ℤ) → found_clash ≡ Some (time, a, b) → behind_names ≡ Err (Duplicate time a b)
+  has_clash time a b is = ap (λ o. unless (option_map (λ (c : ℕ × ℤ × ℤ). Duplicate c.0 c.1 c.2) o) (unless_overflow (answer q s (kept q s points)))) is
+
+  is_clean : clashes (names_after points) (kept q s points) ≡ [] → behind_names ≡ unless_overflow (answer q s (kept q s points))
+  is_clean clean =
+      ap (λ (cs : List Clash). unless (option_map (λ (c : ℕ × ℤ × ℤ). Duplicate c.0 c.1 c.2) (option_map {U = ℕ × ℤ × ℤ} (λ c. (c.time, c.a, c.b)) (find (is_first cs) cs))) (unless_overflow (answer q s (kept q s points)))) clean
+
+module _ (q : Query) (s : Sub) (points : List DataPoint) (old new : Seen) (stored : IsStored points old) where
+  abbrev AnswersOf : ℕ → History → List Sub → List Part → List Group → Type 0
+  AnswersOf = Answers (wanted q) names_in (barred q) (answer_over q) (IsFew q)
+
+  abbrev CauseOf : Sub → Part → ℕ → History → AskFault → Type 0
+  CauseOf = Cause (wanted q) names_in (barred q) (answer_over q) (IsFew q)
+
+  -- ---- one sub query makes one part
+  record OnePart (parts : List Part) (groups : List Group) (h : History) : Type 0 where
     pub part : Part
     pub parts_are : parts ≡ part ∷ []
-    pub stands : PartStands (wanted (asked_query q) q.sub) (names_in q.sub) part new.length h
-    pub answer_is_ : answer true q.sub.how q.sub.metric (map as_point part.shown) ≡ Ok groups
+    pub free : barred q s ≡ None
+    pub stands : PartStands (wanted q s) (names_in s) part new.length h
+    pub answer_is_ : answer q s (map as_point part.shown) ≡ Ok groups
 
-  one_part : (h : History) {parts : List Part} {groups : List Group} → Answers (wanted (asked_query q)) names_in barred (answer_over (asked_query q)) new.length h (q.sub ∷ []) parts groups → OnePart parts groups h
-  one_part h (more {groups = groups} b stands is none) = record { part = _; parts_are = refl; stands = stands; answer_is_ = is ∙ ap Ok (sym (append-nil groups)) }
+  one_part : (h : History) {parts : List Part} {groups : List Group} → AnswersOf new.length h (s ∷ []) parts groups → OnePart parts groups h
+  one_part h (more {groups = groups} b stands is few none) = record { part = _; parts_are = refl; free = b; stands = stands; answer_is_ = is ∙ ap Ok (sym (append-nil groups)) }
 
-  no_part : (h : History) {parts : List Part} {groups : List Group} → Answers (wanted (asked_query q)) names_in barred (answer_over (asked_query q)) new.length h [] parts groups → parts ≡ []
+  no_part : (h : History) {parts : List Part} {groups : List Group} → AnswersOf new.length h [] parts groups → parts ≡ []
   no_part h none = refl
 
   own_of_one : (part : Part) → flat_map (λ (p : Part). p.own) (part ∷ []) ≡ part.own
   own_of_one part = append-nil part.own
 
   module _ (part : Part) (made : Made old part.own new) (steps : AreQuerySteps part.own) (h : History) (lawful : IsLawful h) (fits : Fits new h) where
-    resolved_known : AllResolved (first new.length h) (names_in q.sub) → Known true
-    resolved_known resolved =
-        let id = resolved (Metric, q.sub.metric) (here (Metric, q.sub.metric) []) in
-        let w = went old new part.own h made stored.by lawful fits in
-        metric_id true (ap is_some (sym (stored.ids h lawful w.fitted Metric q.sub.metric is_name) ∙ sym (ids_stand q.ms points old new part.own stored made steps h lawful fits Metric q.sub.metric) ∙ id.1))
+    -- a resolved name is one of the points
+    resolved_known : (n : NameOf) (id : ℕ) → id_of (first new.length h) n.0 n.1 ≡ Some id → is_unknown q s points n ≡ false
+    resolved_known n id is =
+        let name = named (first new.length h) n.0 n.1 id (first_lawful h new.length lawful) is in
+        ap not (sym (known_is points stored.names n stored.noted) ∙ ap is_some (sym (ids_are points old new part.own stored made steps h lawful fits n.0 n.1 name) ∙ is))
+
+    all_known : AllResolved (first new.length h) (names_in s) → first_unknown s points ≡ None
+    all_known resolved = none_passes (is_unknown q s points) (names_in s) (λ n has. let r = resolved n has in resolved_known n r.0 r.1)
+
+    -- one that was not found is none
+    not_found : (n : NameOf) → FoundNone part.own n → is_unknown q s points n ≡ true
+    not_found n f = ap not (sym (known_is points stored.names n stored.noted) ∙ at (id_in (list_of stored.names n.0) n.1) refl)
+      where
+        at : (o : Option ℕ) → id_in (list_of stored.names n.0) n.1 ≡ o → is_some (id_in (list_of stored.names n.0) n.1) ≡ false
+        at None is = ap is_some is
+        at (Some id) is =
+            let d = f.0 in
+            let is_name = name_of_points points stored.are_points n (sym (known_is points stored.names n stored.noted) ∙ ap is_some is) in
+            let w = went old new part.own h made stored.by lawful fits in
+            let before : id_of (first old.length h) n.0 n.1 ≡ Some id = stored.ids h lawful w.fitted n.0 n.1 is_name ∙ is in
+            let own = deeds_each h old.caller old.length new.length d (subst (λ (xs : List Placed). Contains xs d) (sym (made.made h fits)) f.1) in
+            let above = own.above in
+            let later = id_kept h old.length (d.place - 1) n.0 n.1 id lawful is_name (omega (arith, above)) before in
+            let legal = each_entry h d.place d.entry lawful own.stands in
+            absurd (not_Some id (sym later ∙ ap (option_and_then id_number) (looked_at (store_after (first (d.place - 1) h)) d.place d n.0 n.1 None legal.reply f.2)))
 
     -- what is read to its end shows no clash
-    no_clashes : PartStands (wanted (asked_query q) q.sub) (names_in q.sub) part new.length h → clashes (names_after points) points_kept ≡ []
-    no_clashes stands = by_form q.ms refl
-      where
-        by_form : (ms : Bool) → q.ms ≡ ms → clashes (names_after points) points_kept ≡ []
-        by_form false e = coarse_clashes (names_after points) points_kept (kept_hold (λ p. p.fine ≡ false) q.start q.end q.sub.metric points (coarse_points points (in_form false e)))
-        by_form true e = clean_clashes q.ms points old new part.own stored made steps h lawful fits q.start q.end q.sub.metric part refl stands
+    no_clashes : PartStands (wanted q s) (names_in s) part new.length h → clashes (names_after points) (kept q s points) ≡ []
+    no_clashes stands = clean_clashes points old new part.own stored made steps h lawful fits (wanted q s) (by_series q s) s.metric (of_metric q s) (names_in s) part refl stands
 
-    answer_kept : AnswerIsUnordered → PartStands (wanted (asked_query q) q.sub) (names_in q.sub) part new.length h → answer true q.sub.how q.sub.metric (map as_point part.shown) ≡ answer true q.sub.how q.sub.metric points_kept
+    answer_kept : AnswerIsUnordered → PartStands (wanted q s) (names_in s) part new.length h → answer q s (map as_point part.shown) ≡ answer q s (kept q s points)
     answer_kept unordered stands =
-        answer_is q.ms points old new part.own stored made steps h lawful fits q.start q.end q.sub.metric part refl stands.covers
-        (one_valued points points_kept (kept_last q.start q.end q.sub.metric points) (names_after points) (no_clashes stands)) unordered q.sub.how
+        answer_is points old new part.own stored made steps h lawful fits (wanted q s) s.metric (of_metric q s) part refl stands.covers
+        (one_valued points (kept q s points) (last_of_wanted (wanted q s) points) (names_after points) (no_clashes stands)) unordered q s
 
-    -- a name that was not found has no id
-    not_found : (d : Placed) → Contains part.own d → DidLook d Metric q.sub.metric None → Known false
-    not_found d has look = at (id_in stored.names.metrics q.sub.metric) refl
-      where
-        at : (o : Option ℕ) → id_in stored.names.metrics q.sub.metric ≡ o → Known false
-        at None is = metric_id false (ap is_some is)
-        at (Some id) is =
-            let w = went old new part.own h made stored.by lawful fits in
-            let before : id_of (first old.length h) Metric q.sub.metric ≡ Some id = stored.ids h lawful w.fitted Metric q.sub.metric is_name ∙ is in
-            let own = deeds_each h old.caller old.length new.length d (subst (λ (xs : List Placed). Contains xs d) (sym (made.made h fits)) has) in
-            let above = own.above in
-            let later = id_kept h old.length (d.place - 1) Metric q.sub.metric id lawful is_name (omega (arith, above)) before in
-            let legal = each_entry h d.place d.entry lawful own.stands in
-            absurd (not_Some id (sym later ∙ ap (option_and_then id_number) (looked_at (store_after (first (d.place - 1) h)) d.place d Metric q.sub.metric None legal.reply look)))
+    -- so it is the answer over the points
+    read_whole : AnswerIsUnordered → barred q s ≡ None → PartStands (wanted q s) (names_in s) part new.length h → answered q s points ≡ unless_overflow (answer q s (map as_point part.shown))
+    read_whole unordered free stands =
+        names_known q s points free (all_known stands.resolved) ∙ is_clean q s points (no_clashes stands) ∙ ap unless_overflow (sym (answer_kept unordered stands))
 
   -- ---- an answer
-  pub record Told (answered : Result (List Group) ℕ) : Type 0 where
-    pub known : Known true
-    pub clean : clashes (names_after points) points_kept ≡ []
-    pub is : answer true q.sub.how q.sub.metric points_kept ≡ answered
-
-  pub told_ok : AnswerIsUnordered → (reply : Reply) → QuerySays (asked_query q) old (Ok reply) new → Told (Ok (map plain reply.groups.items))
-  told_ok unordered reply says =
+  pub told_answer : AnswerIsUnordered → q.subs ≡ s ∷ [] → (reply : Reply) → QuerySays q old (Ok reply) new → answered q s points ≡ Ok (map plain reply.groups.items)
+  told_answer unordered one reply says =
       let p = says.made.since.lives stored.by.possible in
-      let one = one_part p.history (says.answers p.history p.lawful p.fits) in
-      let own : flat_map (λ (p : Part). p.own) says.parts ≡ one.part.own = ap (flat_map (λ (p : Part). p.own)) one.parts_are ∙ own_of_one one.part in
+      let o = one_part p.history (subst (λ (subs : List Sub). AnswersOf new.length p.history subs says.parts (map plain reply.groups.items)) one (says.answers p.history p.lawful p.fits)) in
+      let own : flat_map (λ (p : Part). p.own) says.parts ≡ o.part.own = ap (flat_map (λ (p : Part). p.own)) o.parts_are ∙ own_of_one o.part in
       let made = subst (λ xs. Made old xs new) own says.made in
       let steps = subst (λ xs. AreQuerySteps xs) own says.steps in
-      record {
-        known = resolved_known one.part made steps p.history p.lawful p.fits one.stands.resolved;
-        clean = no_clashes one.part made steps p.history p.lawful p.fits one.stands;
-        is = sym (answer_kept one.part made steps p.history p.lawful p.fits unordered one.stands) ∙ one.answer_is_;
-      }
+      read_whole o.part made steps p.history p.lawful p.fits unordered o.free o.stands ∙ ap unless_overflow o.answer_is_
 
-  -- in milliseconds or in seconds
-  pub told_outcome : (reply : Reply) → Told (Ok (map plain reply.groups.items)) → replied (Ok (map plain (map (told_in q.ms) reply.groups.items))) ≡ query_outcome q points
-  told_outcome reply t =
-      ap (λ gs. replied (Ok gs)) (plain_told q.ms reply.groups.items) ∙ ap (λ r. replied (all_told q.ms r)) (sym t.is) ∙ ap replied (sym (told_answer q.ms q.sub.how q.sub.metric points_kept)) ∙ sym (unclashed t.known t.clean)
-
-  pub told_ready : (reply : Reply) → Told (Ok (map plain reply.groups.items)) → All IsReady reply.groups.items → All IsReady (map (told_in q.ms) reply.groups.items)
-  told_ready reply t ready =
-      All-from_recursion IsReady (map (told_in q.ms) reply.groups.items)
-      (ready_told q.ms reply.groups.items ready
-      (λ seconds. answer_holds (λ time. time % 1000 ≡ 0) q.sub.how q.sub.metric points_kept
-      (All-from_recursion (λ p. p.time % 1000 ≡ 0) points_kept (kept_hold (λ p. p.time % 1000 ≡ 0) q.start q.end q.sub.metric points (whole_points points (in_form false seconds))))
-      (map plain reply.groups.items) t.is))
-
-  -- ---- a refusal
-  abbrev pub CauseOf : Part → History → AskFault → Type 0
-  CauseOf part h fault = Cause (wanted (asked_query q)) names_in barred (answer_over (asked_query q)) q.sub part new.length h fault
-
-  -- it is of the one sub query
+  -- ---- a refusal is of the one sub query
   record OneCause (fault : AskFault) : Type 0 where
     pub part : Part
     pub made : Made old part.own new
@@ -180,19 +200,18 @@ module _ (q : Query) (points : List DataPoint) (old new : Seen) (is_name : IsNam
     pub history : History
     pub lawful : IsLawful history
     pub fits : Fits new history
-    pub cause : CauseOf part history fault
+    pub cause : CauseOf s part new.length history fault
 
-  one_sub : (done rest : List Sub) (s : Sub) → q.sub ∷ [] ≡ done ++ s ∷ rest → (done ≡ []) × (s ≡ q.sub)
-  one_sub [] rest s e = (refl, cc)
-  one_sub (d ∷ []) rest s e = absurd cc
-  one_sub (d ∷ x ∷ done) rest s e = absurd cc
+  one_sub : (done rest : List Sub) (t : Sub) → s ∷ [] ≡ done ++ t ∷ rest → (done ≡ []) × (t ≡ s)
+  one_sub [] rest t e = (refl, cc)
+  one_sub (d ∷ []) rest t e = absurd cc
+  one_sub (d ∷ x ∷ done) rest t e = absurd cc
 
-  one_cause : (fault : AskFault) → QuerySays (asked_query q) old (Err fault) new → OneCause fault
-  one_cause fault says =
+  one_cause : q.subs ≡ s ∷ [] → (fault : AskFault) → QuerySays q old (Err fault) new → OneCause fault
+  one_cause one fault says =
       let p = says.made.since.lives stored.by.possible in
-      let cut = one_sub says.done says.rest says.sub says.cut in
-      let parts : says.parts ≡ [] =
-      no_part p.history (subst (λ (subs : List Sub). Answers (wanted (asked_query q)) names_in barred (answer_over (asked_query q)) new.length p.history subs says.parts says.groups) cut.0 (says.before p.history p.lawful p.fits)) in
+      let cut = one_sub says.done says.rest says.sub (sym one ∙ says.cut) in
+      let parts : says.parts ≡ [] = no_part p.history (subst (λ (subs : List Sub). AnswersOf new.length p.history subs says.parts says.groups) cut.0 (says.before p.history p.lawful p.fits)) in
       let own : flat_map (λ (p : Part). p.own) says.parts ++ says.part.own ≡ says.part.own = ap (λ (ps : List Part). flat_map (λ (p : Part). p.own) ps ++ says.part.own) parts in
       record {
         part = says.part;
@@ -201,71 +220,39 @@ module _ (q : Query) (points : List DataPoint) (old new : Seen) (is_name : IsNam
         history = p.history;
         lawful = p.lawful;
         fits = p.fits;
-        cause = subst (λ (s : Sub). Cause (wanted (asked_query q)) names_in barred (answer_over (asked_query q)) s says.part new.length p.history fault) cut.1 (says.cause p.history p.lawful p.fits);
+        cause = subst (λ (t : Sub). CauseOf t says.part new.length p.history fault) cut.1 (says.cause p.history p.lawful p.fits);
       }
 
-  one_name : (before after : List NameOf) (n : NameOf) → (Metric, q.sub.metric) ∷ [] ≡ before ++ n ∷ after → (Metric, q.sub.metric) ≡ n
-  one_name [] after n e = cc
-  one_name (b ∷ []) after n e = absurd cc
-  one_name (b ∷ c ∷ before) after n e = absurd cc
-
-  -- a metric that was not found is unknown
-  unknown_metric : (kind : Kind) (name : List ℕ) → OneCause (Unknown kind name) → Known false × (name ≡ q.sub.metric)
-  unknown_metric kind name c =
+  told_unknown : (kind : Kind) (name : List ℕ) → OneCause (Unknown kind name) → answered q s points ≡ Err (Unknown kind name)
+  told_unknown kind name c =
       let u = c.cause.1 in
-      let same = one_name u.before u.after (kind, name) u.cut in
-      let d = u.none in (
-        not_found c.part c.made c.steps c.history c.lawful c.fits d.0 d.1 (subst (λ (n : NameOf). DidLook d.0 n.0 n.1 None) (sym same) d.2),
-        ap (λ (n : NameOf). n.1) (sym same),
-      )
+      has_unknown q s points (kind, name) c.cause.0
+      (ap (find (is_unknown q s points)) u.cut
+      ∙ first_passes (is_unknown q s points) u.before (kind, name) u.after
+      (λ n has. let r = u.resolved n has in resolved_known c.part c.made c.steps c.history c.lawful c.fits n r.0 r.1)
+      (not_found c.part c.made c.steps c.history c.lawful c.fits (kind, name) u.none))
 
-  overflown : AnswerIsUnordered → (time : ℕ) → OneCause (Overflow time) → Told (Err time)
-  overflown unordered time c = record {
-    known = resolved_known c.part c.made c.steps c.history c.lawful c.fits c.cause.1.resolved;
-    clean = no_clashes c.part c.made c.steps c.history c.lawful c.fits c.cause.1;
-    is = sym (answer_kept c.part c.made c.steps c.history c.lawful c.fits unordered c.cause.1) ∙ c.cause.2;
-  }
+  told_clash : (time : ℕ) (a b : ℤ) → OneCause (Duplicate time a b) → answered q s points ≡ Err (Duplicate time a b)
+  told_clash time a b c =
+      names_known q s points c.cause.0 (all_known c.part c.made c.steps c.history c.lawful c.fits c.cause.1)
+      ∙ has_clash q s points time a b (clash_is_first points old new c.part.own stored c.made c.steps c.history c.lawful c.fits (wanted q s) (by_series q s) s.metric (of_metric q s) time a b c.cause.2)
 
-  -- a clash that is told is the first one
-  told_clash : (time : ℕ) (a b : ℤ) → OneCause (Duplicate time a b) → first_clash (names_after points) points_kept ≡ Some (time, a, b)
-  told_clash time a b c = by_form q.ms refl
-    where
-      f : FirstClash (store_after (first (before_first c.part.own new.length) c.history)) (name_of (first new.length c.history)) (wanted (asked_query q) q.sub) c.part.own time a b
-      f = c.cause.2
+  -- a fault that is told is the first one
+  pub told_fault : AnswerIsUnordered → q.subs ≡ s ∷ [] → (fault : AskFault) → fault ≢ OutOfMemory → fault ≢ Stopped → QuerySays q old (Err fault) new → answered q s points ≡ Err fault
+  told_fault unordered one (TooManyBuckets count) memory runs says = let c = one_cause one (TooManyBuckets count) says in is_barred q s points (TooManyBuckets count) c.cause.1
+  told_fault unordered one (Unknown kind name) memory runs says = told_unknown kind name (one_cause one (Unknown kind name) says)
+  told_fault unordered one (Duplicate time a b) memory runs says = told_clash time a b (one_cause one (Duplicate time a b) says)
+  told_fault unordered one (Overflow time) memory runs says =
+      let c = one_cause one (Overflow time) says in
+      read_whole c.part c.made c.steps c.history c.lawful c.fits unordered c.cause.0 c.cause.1 ∙ ap unless_overflow c.cause.2
+  told_fault unordered one OutOfMemory memory runs says = absurd (memory refl)
+  told_fault unordered one Stopped memory runs says = absurd (runs refl)
 
-      among : Contains c.part.own f.at
-      among = subst (λ (xs : List Placed). Contains xs f.at) (sym f.cut) (Contains-append_right f.earlier (f.at ∷ f.later) f.at (here f.at f.later))
+-- nothing stops a caller whose count of stops doesn't rise
+pub not_stopped : (fault : AskFault) → AskRose 0 0 fault → fault ≢ Stopped
+not_stopped fault rose is = let r : AskRose 0 0 Stopped = subst (AskRose 0 0) is rose in omega (arith, r)
 
-      by_form : (ms : Bool) → q.ms ≡ ms → first_clash (names_after points) points_kept ≡ Some (time, a, b)
-      by_form false e =
-          let coarse = coarse_points points (in_form false e) in
-          let single = one_valued points (last_points points) (λ p has. has) (names_after points) (coarse_clashes (names_after points) (last_points points) (last_hold (λ p. p.fine ≡ false) points coarse)) in
-          absurd (two_values q.ms points old new c.part.own stored c.made c.steps c.history c.lawful c.fits f.at among f.found f.reply (wanted (asked_query q) q.sub) time a b f.clash single)
-      by_form true e = clash_is_first q.ms points old new c.part.own stored c.made c.steps c.history c.lawful c.fits q.start q.end q.sub.metric time a b f
-
-  -- what is printed
-  pub refusal_outcome : AnswerIsUnordered → (fault : AskFault) (printed : Printed) → QuerySays (asked_query q) old (Err fault) new → RefusesAsked fault printed → outcome_of printed ≡ query_outcome q points
-  refusal_outcome unordered (Unknown kind name) printed says refuses =
-      let u = unknown_metric kind name (one_cause (Unknown kind name) says) in
-      refuses ∙ ap (λ m. refused (codes "query: unknown metric " ++ m)) u.1 ∙ sym (unknown u.0)
-  refusal_outcome unordered (Overflow time) printed says refuses =
-      let t = overflown unordered time (one_cause (Overflow time) says) in
-      refuses ∙ ap (λ r. replied (all_told q.ms r)) (sym t.is) ∙ ap replied (sym (told_answer q.ms q.sub.how q.sub.metric points_kept)) ∙ sym (unclashed t.known t.clean)
-  refusal_outcome unordered (Duplicate time a b) printed says refuses =
-      let c = one_cause (Duplicate time a b) says in
-      refuses ∙ sym (clashing (time, a, b) (resolved_known c.part c.made c.steps c.history c.lawful c.fits c.cause.1) (told_clash time a b c))
-  refusal_outcome unordered (TooManyBuckets count) printed says refuses = absurd refuses
-  refusal_outcome unordered OutOfMemory printed says refuses = absurd refuses
-  refusal_outcome unordered Stopped printed says refuses = absurd refuses
-
-  -- no other fault comes
-  pub can_come : (fault : AskFault) → QuerySays (asked_query q) old (Err fault) new → AskRose 0 0 fault → CanCome fault
-  can_come (Unknown kind name) says rose = tt
-  can_come (Duplicate time a b) says rose = tt
-  can_come (Overflow time) says rose = tt
-  can_come OutOfMemory says rose = tt
-  can_come (TooManyBuckets count) says rose = let c = one_cause (TooManyBuckets count) says in absurd (no_fault c.cause.1)
-    where
-      no_fault : {fault : AskFault} → None ≡ Some fault → ⊥
-      no_fault e = cc
-  can_come Stopped says rose = absurd (omega (arith, rose))
+-- what is told, where something is
+pub told_where : {X E F : Type 0} (r : Result X E) (P Q : X → Type 0) → IfOk r P → (IsOk r → F) → ((x : X) → P x → F → Q x) → IfOk r Q
+told_where (Ok x) P Q is told then_ = then_ x is (told refl)
+told_where (Err e) P Q is told then_ = tt

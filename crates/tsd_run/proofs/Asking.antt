@@ -1,12 +1,10 @@
 -- A query that is asked over stored points is answered over them.
 use Rattle.std.proofs.Common.{◌≡◌, inr, ⊎_elim, ℕ, ◌+◌, ◌≤◌, Bool, true, false, List, [], ◌∷◌, refl, sym, ap, subst, ◌∙◌, arith}
-use Rattle.std.specs.Prelude.{Some, IsTrue, Contains, map, ◌&&◌, nat_le, if◌then◌else◌, option_and_then}
+use Rattle.std.specs.Prelude.{Some, IsTrue, Contains, filter, map, nat_le, if◌then◌else◌, option_and_then}
 use Rattle.std.specs.FinMap.{empty}
 use Rattle.tsd_base.specs.Alphabet.{IsName}
 use Rattle.tsd_base.specs.Points.{DataPoint}
-use Rattle.tsd_base.specs.Readings.{is_chosen, last_points}
-use Rattle.tsd_base.specs.Tags.{is_same}
-use Rattle.tsd_base.specs.declared.kinds.Aggregator.{Aggregator}
+use Rattle.tsd_base.specs.Readings.{last_points}
 use Rattle.tsd_base.specs.declared.kinds.Kind.{Kind}
 use Rattle.cell_model.specs.declared.events.Entry.{Entry}
 use Rattle.cell_model.specs.declared.events.Placed.{Placed}
@@ -24,15 +22,14 @@ use Rattle.cell_model.specs.Store.{Store, value_at}
 use Rattle.query_run.specs.Answers.{answer, as_point}
 use Rattle.query_run.specs.Laws.{AnswerIsUnordered}
 use Rattle.query_run.specs.Parts.{AreQuerySteps, IsQueryStep, Part}
-use Rattle.query_run.specs.Queries.{is_wanted}
+use Rattle.query_text.specs.declared.queries.Query.{Query}
+use Rattle.query_text.specs.declared.queries.Sub.{Sub}
 use Rattle.row_scan.specs.Shown.{Chosen, Covers}
 use Rattle.tsd_run.specs.Naming.{id_in, list_of}
-use Rattle.tsd_run.specs.Outcomes.{kept}
 use Rattle.tsd_run.specs.Storing.{IsStored, IsUnmerged, Puts, WasPut}
 use Rattle.tsd_run.proofs.Beginning.{nothing}
 use Rattle.tsd_run.proofs.Entering.{IsQuiet, PutNothing, put_nothing, unmerged_follow}
 use Rattle.tsd_run.proofs.Follows.{Went, follow, went}
-use Rattle.tsd_run.proofs.LastPoints.{same_bytes}
 use Rattle.tsd_run.proofs.Lower.{deeds_each, entry_at-more, here, in_filter, in_map, map_in, there, to_filter}
 
 -- ---- the steps of a query
@@ -134,28 +131,31 @@ accepted_put h n r base either = ⊎_elim
     (λ (put : ReadingWasPut (first n h) r). put)
     either
 
--- ---- what is chosen of the last points
-module _ (start end : ℕ) (metric : List ℕ) (points : List DataPoint) where
-  abbrev chosen_points : List DataPoint
-  chosen_points = kept start end metric points
+-- ---- what is wanted of the last points
+abbrev pub wanted_points : (Reading → Bool) → List DataPoint → List DataPoint
+wanted_points want points = filter (λ p. want (reading_of p)) (last_points points)
+
+module _ (want : Reading → Bool) (points : List DataPoint) where
+  pub last_of_wanted : (p : DataPoint) → Contains (wanted_points want points) p → Contains (last_points points) p
+  last_of_wanted p has = (in_filter (λ p. want (reading_of p)) (last_points points) p has).0
 
   -- readings of the last points that are wanted
-  pub wanted_kept : (r : Reading) → Contains (map reading_of (last_points points)) r → IsTrue (is_wanted start end metric r) → Contains (map reading_of chosen_points) r
-  wanted_kept r has wanted =
+  pub reading_wanted : (r : Reading) → Contains (map reading_of (last_points points)) r → IsTrue (want r) → Contains (map reading_of (wanted_points want points)) r
+  reading_wanted r has wanted =
       let p = map_in reading_of (last_points points) r has in
-      let passes : is_chosen start end metric p.0 ≡ true = subst (λ (x : Reading). IsTrue (is_wanted start end metric x)) (sym p.2) wanted in
-      subst (Contains (map reading_of chosen_points)) p.2 (in_map reading_of chosen_points p.0 (to_filter (is_chosen start end metric) (last_points points) p.0 p.1 passes))
+      let passes : want (reading_of p.0) ≡ true = subst (λ (x : Reading). IsTrue (want x)) (sym p.2) wanted in
+      subst (Contains (map reading_of (wanted_points want points))) p.2 (in_map reading_of (wanted_points want points) p.0 (to_filter (λ p. want (reading_of p)) (last_points points) p.0 p.1 passes))
 
-  pub kept_wanted : (r : Reading) → Contains (map reading_of chosen_points) r → Contains (map reading_of (last_points points)) r × IsTrue (is_wanted start end metric r)
-  kept_wanted r has =
-      let p = map_in reading_of chosen_points r has in
-      let f = in_filter (is_chosen start end metric) (last_points points) p.0 p.1 in (
+  pub wanted_reading : (r : Reading) → Contains (map reading_of (wanted_points want points)) r → Contains (map reading_of (last_points points)) r × IsTrue (want r)
+  wanted_reading r has =
+      let p = map_in reading_of (wanted_points want points) r has in
+      let f = in_filter (λ p. want (reading_of p)) (last_points points) p.0 p.1 in (
         subst (Contains (map reading_of (last_points points))) p.2 (in_map reading_of (last_points points) p.0 f.0),
-        subst (λ (x : Reading). IsTrue (is_wanted start end metric x)) p.2 f.1,
+        subst (λ (x : Reading). IsTrue (want x)) p.2 f.1,
       )
 
 -- ---- the part of the query
-module _ (ms : Bool) (points : List DataPoint) (old new : Seen) (list : List Placed) (stored : IsStored ms points old) (made : Made old list new) (steps : AreQuerySteps list) (h : History) (lawful : IsLawful h) (fits : Fits new h) where
+module _ (points : List DataPoint) (old new : Seen) (list : List Placed) (stored : IsStored points old) (made : Made old list new) (steps : AreQuerySteps list) (h : History) (lawful : IsLawful h) (fits : Fits new h) where
   w : Went old list new h
   w = went old new list h made stored.by lawful fits
 
@@ -211,50 +211,43 @@ module _ (ms : Bool) (points : List DataPoint) (old new : Seen) (list : List Pla
       let within = d.within in
       omega (arith, within)
 
-  module _ (start end : ℕ) (metric : List ℕ) (part : Part) (own_is : part.own ≡ list)
-      (covers : Covers (Contains part.shown) (Chosen (is_wanted start end metric) (Accepted (first (before_first part.own new.length) h))) (Chosen (is_wanted start end metric) (Accepted (first new.length h)))) where
-    shown_kept : (r : Reading) → Contains part.shown r → Contains (map reading_of (kept start end metric points)) r
-    shown_kept r has =
+  module _ (want : Reading → Bool) (metric : List ℕ) (of_metric : (r : Reading) → IsTrue (want r) → r.metric ≡ metric) (part : Part) (own_is : part.own ≡ list)
+      (covers : Covers (Contains part.shown) (Chosen want (Accepted (first (before_first part.own new.length) h))) (Chosen want (Accepted (first new.length h)))) where
+    shown_wanted : (r : Reading) → Contains part.shown r → Contains (map reading_of (wanted_points want points)) r
+    shown_wanted r has =
         let a = covers.within r has in
-        wanted_kept start end metric points r (accepted_last r a.0) a.1
+        reading_wanted want points r (accepted_last r a.0) a.1
 
-    module _ (single : OneValued (Contains (map reading_of (kept start end metric points)))) where
-      kept_shown : (r : Reading) → Contains (map reading_of (kept start end metric points)) r → Contains part.shown r
-      kept_shown r has =
-          let k = kept_wanted start end metric points r has in
+    module _ (single : OneValued (Contains (map reading_of (wanted_points want points)))) where
+      wanted_shown : (r : Reading) → Contains (map reading_of (wanted_points want points)) r → Contains part.shown r
+      wanted_shown r has =
+          let k = wanted_reading want points r has in
           let put : ReadingWasPut (first (before_first part.own new.length) h) r = last_put (before_first part.own new.length) r (after_old part.own own_is) k.0 in
           let q = covers.each r (inr put, k.1) in
-          let value : r.value ≡ q.0.value = single r q.0 has (shown_kept q.0 q.1) q.2 in
+          let value : r.value ≡ q.0.value = single r q.0 has (shown_wanted q.0 q.1) q.2 in
           let same : q.0 ≡ r = λ i. record { metric = sym q.2.metric i; tags = sym q.2.tags i; time = sym q.2.time i; value = sym value i } in
           subst (Contains part.shown) same q.1
 
       -- so the answer over what was shown is the answer over the points
-      pub answer_is : AnswerIsUnordered → (how : Aggregator) → answer true how metric (map as_point part.shown) ≡ answer true how metric (kept start end metric points)
-      answer_is unordered how =
-          unordered true how metric (map as_point part.shown) (kept start end metric points)
+      pub answer_is : AnswerIsUnordered → (q : Query) (s : Sub) → answer q s (map as_point part.shown) ≡ answer q s (wanted_points want points)
+      answer_is unordered q s =
+          unordered q s (map as_point part.shown) (wanted_points want points)
           (λ r. (
-            λ has. shown_kept r (subst (λ (rs : List Reading). Contains rs r) (back part.shown) has),
-            λ has. subst (λ (rs : List Reading). Contains rs r) (sym (back part.shown)) (kept_shown r has),
+            λ has. shown_wanted r (subst (λ (rs : List Reading). Contains rs r) (back part.shown) has),
+            λ has. subst (λ (rs : List Reading). Contains rs r) (sym (back part.shown)) (wanted_shown r has),
           ))
-          (λ p q x y tags time.
-          let a = map_in as_point part.shown p x in
-          let b = map_in as_point part.shown q y in
-          let ka = kept_wanted start end metric points a.0 (shown_kept a.0 a.1) in
-          let kb = kept_wanted start end metric points b.0 (shown_kept b.0 b.1) in
+          (λ x y xin yin tags time.
+          let a = map_in as_point part.shown x xin in
+          let b = map_in as_point part.shown y yin in
+          let ka = wanted_reading want points a.0 (shown_wanted a.0 a.1) in
+          let kb = wanted_reading want points b.0 (shown_wanted b.0 b.1) in
           let m : Meets a.0 b.0 = record {
-            metric = metric_of a.0 ka.1 ∙ sym (metric_of b.0 kb.1);
+            metric = of_metric a.0 ka.1 ∙ sym (of_metric b.0 kb.1);
             tags = ap (λ (z : DataPoint). z.tags) a.2 ∙ tags ∙ sym (ap (λ (z : DataPoint). z.tags) b.2);
             time = ap (λ (z : DataPoint). z.time) a.2 ∙ time ∙ sym (ap (λ (z : DataPoint). z.time) b.2);
           } in
-          sym (ap (λ (z : DataPoint). z.value) a.2) ∙ single a.0 b.0 (shown_kept a.0 a.1) (shown_kept b.0 b.1) m ∙ ap (λ (z : DataPoint). z.value) b.2)
+          sym (ap (λ (z : DataPoint). z.value) a.2) ∙ single a.0 b.0 (shown_wanted a.0 a.1) (shown_wanted b.0 b.1) m ∙ ap (λ (z : DataPoint). z.value) b.2)
         where
           back : (rs : List Reading) → map reading_of (map as_point rs) ≡ rs
           back [] = refl
           back (r ∷ rs) = ap (λ xs. r ∷ xs) (back rs)
-
-          metric_of : (r : Reading) → IsTrue (is_wanted start end metric r) → r.metric ≡ metric
-          metric_of r t = same_bytes r.metric metric (first_true (is_same r.metric metric) _ t)
-            where
-              first_true : (a b : Bool) → IsTrue (a && b) → a ≡ true
-              first_true true b t = refl
-              first_true false b t = t

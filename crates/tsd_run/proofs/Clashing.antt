@@ -1,6 +1,6 @@
 -- Clashes of stored points, and what a query over them shows.
 use Rattle.std.proofs.Common.{◌≡◌, Equal, ⊎_elim, inl, inr, ℕ, ℤ, ◌+◌, ◌*◌, ◌≤◌, Bool, true, false, List, [], ◌∷◌, ◌++◌, Option, Some, map, refl, sym, ap, subst, ◌∙◌, arith}
-use Rattle.std.specs.Prelude.{◌%◌, ◌&&◌, if◌then◌else◌, None, Contains, IsTrue, filter, find, nat_le, not, option_map, unwrap_or}
+use Rattle.std.specs.Prelude.{◌%◌, if◌then◌else◌, None, Contains, IsTrue, filter, find, not, option_map, unwrap_or}
 use Rattle.std.specs.FinMap.{empty, nat_cmp-IsAntisymmetric, slice_cmp-IsAntisymmetric}
 use Rattle.std.specs.List.{flat_map}
 use Rattle.std.specs.Cmp.{nat_cmp_total, tied_itself}
@@ -20,8 +20,8 @@ use Rattle.qual_codec.specs.Dots.{IsDots}
 use Rattle.qual_codec.specs.Spelling.{dot_of}
 use Rattle.tsd_base.specs.Points.{DataPoint}
 use Rattle.tsd_base.specs.Alphabet.{IsName}
-use Rattle.tsd_base.specs.Readings.{is_chosen, last_points}
-use Rattle.tsd_base.specs.TagList.{IsPair, Pair, bytes_cmp, is_same}
+use Rattle.tsd_base.specs.Readings.{last_points}
+use Rattle.tsd_base.specs.TagList.{IsPair, Pair, bytes_cmp}
 use Rattle.row_key.specs.Key.{hour_bytes, pair_bytes}
 use Rattle.row_key.specs.Order.{pair_cmp}
 use Rattle.cell_model.specs.Order.{bytes_cmp as row_bytes_cmp}
@@ -44,26 +44,24 @@ use Rattle.cell_model.specs.Laws.{IsCompaction}
 use Rattle.cell_model.specs.Readings.{Reading, CellReads, IsNamed, IsStanding, Meets, Named, point_row, reading_of}
 use Rattle.cell_model.specs.Seen.{Seen, Fits}
 use Rattle.cell_model.specs.Store.{Store, value_at}
-use Rattle.query_run.specs.Parts.{AreQuerySteps, FirstClash, HasClash, Part, PartStands}
-use Rattle.query_run.specs.Queries.{is_wanted}
+use Rattle.query_run.specs.Parts.{AreQuerySteps, FirstClash, HasClash, NameOf, Part, PartStands}
 use Rattle.row_scan.specs.Kept as row
 use Rattle.row_scan.specs.Kept.{AreDots, values_at}
 use Rattle.row_scan.specs.Shown.{RowReads}
 use Rattle.tsd_run.specs.Clashes.{Clash, are_clash, clash_cmp, clash_of, clashes, first_clash, ids_of_tag, pairs_of}
 use Rattle.tsd_run.specs.Ids.{Names, id_in}
-use Rattle.tsd_run.specs.Outcomes.{kept, names_after}
-use Rattle.tsd_run.specs.Storing.{IsStored, IsTaken, Puts, WasPut}
-use Rattle.tsd_run.proofs.Asking.{after_old, base_is, base_of_first, before_now, ids_are, kept_wanted, last_point_put, last_put, put_is_last, unmerged_after}
+use Rattle.tsd_run.specs.Outcomes.{names_after}
+use Rattle.tsd_run.specs.Storing.{IsStored, Puts, WasPut}
+use Rattle.tsd_run.proofs.Asking.{after_old, base_is, base_of_first, before_now, ids_are, last_of_wanted, last_point_put, last_put, put_is_last, unmerged_after, wanted_points, wanted_reading}
 use Rattle.tsd_run.proofs.Beginning.{nothing}
-use Rattle.tsd_run.proofs.Clashless.{cell_of_dot, cells_row, cells_stand, differ, found_table, not_true, same_store}
-use Rattle.tsd_run.proofs.LastPoints.{same_bytes}
+use Rattle.tsd_run.proofs.FoundCells.{cell_of_dot, cells_row, cells_stand, differ, found_table, not_true, same_store}
+use Rattle.tsd_run.proofs.LastPoints.{last_hold, same_bytes}
 use Rattle.tsd_run.proofs.Lower.{StoodRow, cell_in, dot_offset, first_lawful, had_cell, here, hour_is, in_filter, in_map, items_once, keys_compare, map_in, dot_value, metric_id, pair_ids, split, to_filter, not_in, one_dots, one_key, one_row, row_stood, same_Some, same_rising, there, value_dot}
 use Rattle.tsd_run.proofs.FirstClashes.{AtOnce, both_equal, first_found, pair_exact}
 use Rattle.tsd_run.proofs.PairsOfTags.{pairs_are}
 use Rattle.tsd_run.proofs.OneValue.{among_clashes, are_two, one_place}
 use Rattle.tsd_run.proofs.PutsStand.{PutReads, had_reads, put_stays_there}
 use Rattle.tsd_run.proofs.RowCells.{Rise, cells_rise, first_coarse, only}
-use Rattle.tsd_run.proofs.Seconds.{kept_last, last_hold}
 
 -- ---- lists
 none_of : {X : Type 0} (xs : List X) → ((x : X) → Contains xs x → ⊥) → xs ≡ []
@@ -221,7 +219,7 @@ same_place g p q row qual v w x y =
 moved_reads : (names : Kind → ℕ → Option (List ℕ)) (row qual value row' qual' value' : List ℕ) (r : Reading) → row ≡ row' → qual ≡ qual' → value ≡ value' → CellReads names row qual value r → CellReads names row' qual' value' r
 moved_reads names row qual value row' qual' value' r a b c reads = subst (λ (x : List ℕ). CellReads names x qual' value' r) a (subst (λ (x : List ℕ). CellReads names row x value' r) b (subst (λ (x : List ℕ). CellReads names row qual x r) c reads))
 
-module _ (ms : Bool) (points : List DataPoint) (old new : Seen) (list : List Placed) (stored : IsStored ms points old) (made : Made old list new) (steps : AreQuerySteps list) (h : History) (lawful : IsLawful h) (fits : Fits new h) where
+module _ (points : List DataPoint) (old new : Seen) (list : List Placed) (stored : IsStored points old) (made : Made old list new) (steps : AreQuerySteps list) (h : History) (lawful : IsLawful h) (fits : Fits new h) where
   abbrev now : History
   now = first new.length h
 
@@ -231,12 +229,12 @@ module _ (ms : Bool) (points : List DataPoint) (old new : Seen) (list : List Pla
   -- the cell of each of the points stands, with its value
   pub stands : (p : DataPoint) → Contains (last_points points) p → IsStanding now (reading_of p)
   stands p has =
-      let put = last_point_put ms points old new list stored made steps h lawful fits new.length p (made.since.extends.length) has in
+      let put = last_point_put points old new list stored made steps h lawful fits new.length p (made.since.extends.length) has in
       let st = put_step put.0.step p put.2 in
       let reads = had_reads now put.0 p st.row st.qual st.value lawful_now put.1 st.is in
-      let stay = put_stays_there now put.0 p st.row st.qual st.value lawful_now (unmerged_after ms points old new list stored made steps h lawful fits) reads.in_points put.1 st.is in
+      let stay = put_stays_there now put.0 p st.row st.qual st.value lawful_now (unmerged_after points old new list stored made steps h lawful fits) reads.in_points put.1 st.is in
       let other = had_reads now stay.entry stay.point st.row st.qual stay.value lawful_now stay.had stay.step_is in
-      let among : Contains (last_points points) stay.point = put_is_last ms points old new list stored made steps h lawful fits stay.point (stay.entry, stay.had, subst (λ s. Puts s stay.point) (sym stay.step_is) refl) in
+      let among : Contains (last_points points) stay.point = put_is_last points old new list stored made steps h lawful fits stay.point (stay.entry, stay.had, subst (λ s. Puts s stay.point) (sym stay.step_is) refl) in
       let place = same_place now stay.point p st.row st.qual stay.value st.value other reads in
       let value = one_place points stay.point p among has (λ i. ((place.metric i, place.tags i), place.fine i)) place.time in
       let same : reading_of stay.point ≡ reading_of p = λ i. record { metric = place.metric i; tags = place.tags i; time = place.time i; value = value i } in
@@ -250,7 +248,7 @@ module _ (ms : Bool) (points : List DataPoint) (old new : Seen) (list : List Pla
       }
 
   base_now : base_of now ≡ empty
-  base_now = base_of_first h new.length ∙ base_is ms points old new list stored made steps h lawful fits
+  base_now = base_of_first h new.length ∙ base_is points old new list stored made steps h lawful fits
 
   -- a cell of a point row is that of one of the points
   record CellPoint (c : Cell) (row : Row) : Type 0 where
@@ -269,10 +267,10 @@ module _ (ms : Bool) (points : List DataPoint) (old new : Seen) (list : List Pla
       let reads = had_reads now e p r q v lawful_now had is in
       record {
         point = p;
-        among = put_is_last ms points old new list stored made steps h lawful fits p put;
+        among = put_is_last points old new list stored made steps h lawful fits p put;
         reads = subst (λ (x : Row). PutReads now p x c.qual c.value) w.0 (subst (λ (x : List ℕ). PutReads now p r x c.value) w.1 (subst (λ (x : List ℕ). PutReads now p r q x) w.2 reads));
       }
-  wrote_point c row e (PutMerged r q v) is had w = absurd (unmerged_after ms points old new list stored made steps h lawful fits e had (subst IsCompaction (sym is) tt))
+  wrote_point c row e (PutMerged r q v) is had w = absurd (unmerged_after points old new list stored made steps h lawful fits e had (subst IsCompaction (sym is) tt))
   wrote_point c row e (DropCells r which) is had w = absurd w
 
   module _ (at : Placed) (among : Contains list at) (found : Found) (reply : at.entry.reply ≡ Next (Some found)) where
@@ -280,8 +278,8 @@ module _ (ms : Bool) (points : List DataPoint) (old new : Seen) (list : List Pla
     same_row : (r : Reading) (reads : RowReads (name_of now) found r) (p : DataPoint) (has : Contains (last_points points) p) → Meets r (reading_of p) → found.row ≡ point_row (stands p has).row
     same_row r reads p has meets =
         let s = stands p has in
-        let table = found_table ms points old new list stored made steps h lawful fits at among found reply r reads in
-        let cell = cells_stand ms points old new list stored made steps h lawful fits at among found reply reads.cell reads.among in
+        let table = found_table points old new list stored made steps h lawful fits at among found reply r reads in
+        let cell = cells_stand points old new list stored made steps h lawful fits at among found reply reads.cell reads.among in
         let row : found.row ≡ point_row found.row.bytes = λ i. record { table = table i; bytes = found.row.bytes } in
         let shown = row_stood h new.length new.length found.row.bytes reads.cell.qual reads.cell.value lawful (omega arith) (ap (λ (x : Row). value_at (store_after now) x reads.cell.qual) (sym row) ∙ cell) in
         let put = row_stood h new.length new.length s.row s.qual s.value lawful (omega arith) s.stands in
@@ -299,7 +297,7 @@ module _ (ms : Bool) (points : List DataPoint) (old new : Seen) (list : List Pla
         let c = cell_in (store_after now) found.row s.qual s.value is in
         record {
           cell = c.cell;
-          among = subst (λ (cs : List Cell). Contains cs c.cell) (sym (cells_row ms points old new list stored made steps h lawful fits at among found reply)) c.among;
+          among = subst (λ (cs : List Cell). Contains cs c.cell) (sym (cells_row points old new list stored made steps h lawful fits at among found reply)) c.among;
           reads = moved_reads (name_of now) s.row s.qual s.value found.row.bytes c.cell.qual c.cell.value (reading_of p) (sym (ap (λ (x : Row). x.bytes) same)) (sym c.qual_is) (sym c.value_is) s.reads;
         }
 
@@ -310,12 +308,12 @@ module _ (ms : Bool) (points : List DataPoint) (old new : Seen) (list : List Pla
     cell_point c has table = ⊎_elim
         (λ (based : value_at (base_of now) found.row c.qual ≡ Some c.value). absurd (nothing found.row c.qual c.value (subst (λ (s : Store). value_at s found.row c.qual ≡ Some c.value) base_now based)))
         (λ (w : (e : Entry) × Had now e × Wrote found.row c.qual c.value e.step). wrote_point c found.row w.0 w.0.step refl w.1 w.2)
-        (had_cell now found.row c.qual c.value lawful_now table (cells_stand ms points old new list stored made steps h lawful fits at among found reply c has))
+        (had_cell now found.row c.qual c.value lawful_now table (cells_stand points old new list stored made steps h lawful fits at among found reply c has))
 
     -- the two points of a clash that is told: its first value is that of the one in seconds
     module _ (wanted : Reading → Bool) (time : ℕ) (a b : ℤ) (clash : HasClash (name_of now) wanted found time a b) where
       table : found.row.table ≡ Points
-      table = found_table ms points old new list stored made steps h lawful fits at among found reply clash.reading clash.reads
+      table = found_table points old new list stored made steps h lawful fits at among found reply clash.reading clash.reads
 
       record DotPoint (d : Dot) : Type 0 where
         pub point : DataPoint
@@ -380,7 +378,7 @@ module _ (ms : Bool) (points : List DataPoint) (old new : Seen) (list : List Pla
           no_later d has at_offset form e value =
               let values = first_is (values_at clash.offset clash.dots) a b clash.values in
               let f = first_coarse found.cells clash.dots clash.offset a values.0
-              (subst Rise (sym (cells_row ms points old new list stored made steps h lawful fits at among found reply)) (cells_rise (store_after now) found.row))
+              (subst Rise (sym (cells_row points old new list stored made steps h lawful fits at among found reply)) (cells_rise (store_after now) found.row))
               (λ c i. let p = cell_point c i table in record { dot = dot_of ((p.point).time % 3600000) (p.point).fine (p.point).value p.reads.len; reads = p.reads.reads })
               clash.are_dots values.1 d has at_offset form in
               let same = same_value f.dot d (dot_point f.dot f.among f.offset_is) (dot_point d has at_offset) (f.coarse_is ∙ sym form) in
@@ -405,31 +403,31 @@ module _ (ms : Bool) (points : List DataPoint) (old new : Seen) (list : List Pla
                 q_value = qv;
               }
 
-  module _ (start end : ℕ) (metric : List ℕ) where
+  module _ (want : Reading → Bool) (by_series : (r t : Reading) → Meets r t → want r ≡ want t) (metric : List ℕ) (of_metric : (r : Reading) → IsTrue (want r) → r.metric ≡ metric) where
     abbrev names : Names
     names = names_after points
 
-    abbrev chosen_points : List DataPoint
-    chosen_points = kept start end metric points
+    abbrev points_wanted : List DataPoint
+    points_wanted = wanted_points want points
 
     -- what is read to its end, and shows no clash
-    pub clean_clashes : (part : Part) → part.own ≡ list → PartStands (is_wanted start end metric) ((Metric, metric) ∷ []) part new.length h → clashes names chosen_points ≡ []
-    clean_clashes part own_is part_stands = none_of (clashes names chosen_points) never
+    pub clean_clashes : (names_asked : List NameOf) (part : Part) → part.own ≡ list → PartStands want names_asked part new.length h → clashes names points_wanted ≡ []
+    clean_clashes names_asked part own_is part_stands = none_of (clashes names points_wanted) never
       where
-        wanted_of : (p : DataPoint) → Contains chosen_points p → Contains (map reading_of (last_points points)) (reading_of p) × IsTrue (is_wanted start end metric (reading_of p))
-        wanted_of p has = kept_wanted start end metric points (reading_of p) (in_map reading_of chosen_points p has)
+        wanted_of : (p : DataPoint) → Contains points_wanted p → Contains (map reading_of (last_points points)) (reading_of p) × IsTrue (want (reading_of p))
+        wanted_of p has = wanted_reading want points (reading_of p) (in_map reading_of points_wanted p has)
 
-        last_of : (p : DataPoint) → Contains chosen_points p → Contains (last_points points) p
-        last_of p has = kept_last start end metric points p has
+        last_of : (p : DataPoint) → Contains points_wanted p → Contains (last_points points) p
+        last_of p has = last_of_wanted want points p has
 
-        never : (c : Clash) → Contains (clashes names chosen_points) c → ⊥
+        never : (c : Clash) → Contains (clashes names points_wanted) c → ⊥
         never c has =
-            let t = two_points names chosen_points c has in
+            let t = two_points names points_wanted c has in
             let k = clashing_of t.p t.q t.clash in
             let wp = wanted_of t.p t.p_in in
             let wq = wanted_of t.q t.q_in in
             let before = before_first part.own new.length in
-            let covered = part_stands.covers.each (reading_of t.p) (inr (last_put ms points old new list stored made steps h lawful fits before (reading_of t.p) (after_old ms points old new list stored made steps h lawful fits part.own own_is) wp.0), wp.1) in
+            let covered = part_stands.covers.each (reading_of t.p) (inr (last_put points old new list stored made steps h lawful fits before (reading_of t.p) (after_old points old new list stored made steps h lawful fits part.own own_is) wp.0), wp.1) in
             let r = covered.0 in
             let meets = covered.2 in
             let shown = ((part_stands.shown r).0 covered.1).0 in
@@ -444,7 +442,7 @@ module _ (ms : Bool) (points : List DataPoint) (old new : Seen) (list : List Pla
 
     -- ---- where the points stand
     point_is : (p : DataPoint) → Contains (last_points points) p → IsPoint p
-    point_is p has = (All-contains (IsTaken ms) (last_points points) p (All-from_recursion (IsTaken ms) (last_points points) (last_hold (IsTaken ms) points stored.taken)) has).is_point
+    point_is p has = All-contains IsPoint (last_points points) p (All-from_recursion IsPoint (last_points points) (last_hold IsPoint points stored.are_points)) has
 
     names_are : names ≡ stored.names
     names_are = rw stored.noted refl
@@ -463,8 +461,8 @@ module _ (ms : Bool) (points : List DataPoint) (old new : Seen) (list : List Pla
 
     ids_same : (i : ℕ × ℕ) (t : Pair) → IsName t.0 → IsName t.1 → (id_of now TagKey t.0 ≡ Some i.0) × (id_of now TagValue t.1 ≡ Some i.1) → ids_of_tag stored.names t ≡ i
     ids_same i t key_name value_name e =
-        let key : unwrap_or (id_in stored.names.keys t.0) 0 ≡ i.0 = ap (λ (o : Option ℕ). unwrap_or o 0) (sym (ids_are ms points old new list stored made steps h lawful fits TagKey t.0 key_name) ∙ e.0) in
-        let value : unwrap_or (id_in stored.names.values t.1) 0 ≡ i.1 = ap (λ (o : Option ℕ). unwrap_or o 0) (sym (ids_are ms points old new list stored made steps h lawful fits TagValue t.1 value_name) ∙ e.1) in
+        let key : unwrap_or (id_in stored.names.keys t.0) 0 ≡ i.0 = ap (λ (o : Option ℕ). unwrap_or o 0) (sym (ids_are points old new list stored made steps h lawful fits TagKey t.0 key_name) ∙ e.0) in
+        let value : unwrap_or (id_in stored.names.values t.1) 0 ≡ i.1 = ap (λ (o : Option ℕ). unwrap_or o 0) (sym (ids_are points old new list stored made steps h lawful fits TagValue t.1 value_name) ∙ e.1) in
         λ k. (key k, value k)
 
     pairs_are_ids : (p : DataPoint) (has : Contains (last_points points) p) → pairs_of names p.tags ≡ (key_of p has).pairs.items
@@ -479,31 +477,32 @@ module _ (ms : Bool) (points : List DataPoint) (old new : Seen) (list : List Pla
         (λ t c. let w = d.tags_are.back t c in subst (Contains d.key.pairs.items) (sym (ids w.0 w.1 t c w.2)) w.1)
         (λ i c. let w = d.tags_are.each i c in (w.0, w.1, ids i c w.0 w.1 w.2))
 
-    metric_of : (p : DataPoint) → Contains chosen_points p → p.metric ≡ metric
-    metric_of p has = same_bytes p.metric metric (and_parts _ _ (in_filter (is_chosen start end metric) (last_points points) p has).1).0
+    metric_of : (p : DataPoint) → Contains points_wanted p → p.metric ≡ metric
+    metric_of p has = of_metric (reading_of p) (wanted_reading want points (reading_of p) (in_map reading_of points_wanted p has)).1
 
     -- ---- the clash that is told
     abbrev began : Store
     began = store_after (first (before_first list new.length) h)
 
-    module _ (time : ℕ) (a b : ℤ) (f : FirstClash began (name_of now) (is_wanted start end metric) list time a b) where
+    module _ (time : ℕ) (a b : ℤ) (f : FirstClash began (name_of now) want list time a b) where
       at_in : Contains list f.at
       at_in = subst (λ (xs : List Placed). Contains xs f.at) (sym f.cut) (Contains-append_right f.earlier (f.at ∷ f.later) f.at (here f.at f.later))
 
-      abbrev told : ToldPoints f.at at_in f.found f.reply (is_wanted start end metric) time a b f.clash
-      told = told_points f.at at_in f.found f.reply (is_wanted start end metric) time a b f.clash
+      abbrev told : ToldPoints f.at at_in f.found f.reply want time a b f.clash
+      told = told_points f.at at_in f.found f.reply want time a b f.clash
 
       two : Clashing told.p told.q
       two = clashing_of told.p told.q told.clash_is
 
-      wanted_at : (x : DataPoint) → x.metric ≡ f.clash.reading.metric → x.time ≡ time → is_chosen start end metric x ≡ true
-      wanted_at x named timed = let t = timed ∙ sym f.clash.at_time in (λ i. is_same (named i) metric && (nat_le start (t i) && nat_le (t i) end)) ∙ f.clash.asked
+      -- a last point of the clash's series and time is wanted
+      point_wanted : (x : DataPoint) → Contains (last_points points) x → Meets (reading_of x) f.clash.reading → Contains points_wanted x
+      point_wanted x last meets = to_filter (λ p. want (reading_of p)) (last_points points) x last (by_series (reading_of x) f.clash.reading meets ∙ f.clash.asked)
 
-      p_in : Contains chosen_points told.p
-      p_in = to_filter (is_chosen start end metric) (last_points points) told.p told.p_last (wanted_at told.p told.metric_is told.time_is)
+      p_in : Contains points_wanted told.p
+      p_in = point_wanted told.p told.p_last (record { metric = told.metric_is; tags = told.tags_are; time = told.time_is ∙ sym f.clash.at_time })
 
-      q_in : Contains chosen_points told.q
-      q_in = to_filter (is_chosen start end metric) (last_points points) told.q told.q_last (wanted_at told.q (sym two.metric ∙ told.metric_is) (sym two.time ∙ told.time_is))
+      q_in : Contains points_wanted told.q
+      q_in = point_wanted told.q told.q_last (record { metric = sym two.metric ∙ told.metric_is; tags = sym two.tags ∙ told.tags_are; time = sym two.time ∙ told.time_is ∙ sym f.clash.at_time })
 
       abbrev c0 : Clash
       c0 = clash_of names told.p told.q
@@ -511,12 +510,12 @@ module _ (ms : Bool) (points : List DataPoint) (old new : Seen) (list : List Pla
       row_is : f.found.row ≡ point_row (stands told.p told.p_last).row
       row_is = same_row f.at at_in f.found f.reply f.clash.reading f.clash.reads told.p told.p_last (record { metric = sym told.metric_is; tags = sym told.tags_are; time = f.clash.at_time ∙ sym told.time_is })
 
-      module _ (d : Clash) (t : TwoPoints names chosen_points d) where
+      module _ (d : Clash) (t : TwoPoints names points_wanted d) where
         p_last : Contains (last_points points) t.p
-        p_last = kept_last start end metric points t.p t.p_in
+        p_last = last_of_wanted want points t.p t.p_in
 
         q_last : Contains (last_points points) t.q
-        q_last = kept_last start end metric points t.q t.q_in
+        q_last = last_of_wanted want points t.q t.q_in
 
         abbrev k0 : RowKey
         k0 = key_of told.p told.p_last
@@ -546,11 +545,11 @@ module _ (ms : Bool) (points : List DataPoint) (old new : Seen) (list : List Pla
         both_told : Clashing t.p t.q
         both_told = clashing_of t.p t.q t.clash
 
-        wanted_p : IsTrue (is_wanted start end metric (reading_of t.p))
-        wanted_p = (kept_wanted start end metric points (reading_of t.p) (in_map reading_of chosen_points t.p t.p_in)).1
+        wanted_p : IsTrue (want (reading_of t.p))
+        wanted_p = (wanted_reading want points (reading_of t.p) (in_map reading_of points_wanted t.p t.p_in)).1
 
-        wanted_q : IsTrue (is_wanted start end metric (reading_of t.q))
-        wanted_q = (kept_wanted start end metric points (reading_of t.q) (in_map reading_of chosen_points t.q t.q_in)).1
+        wanted_q : IsTrue (want (reading_of t.q))
+        wanted_q = (wanted_reading want points (reading_of t.q) (in_map reading_of points_wanted t.q t.q_in)).1
 
         meet : Meets (reading_of t.p) (reading_of t.q)
         meet = record { metric = both_told.metric; tags = both_told.tags; time = both_told.time }
@@ -563,8 +562,8 @@ module _ (ms : Bool) (points : List DataPoint) (old new : Seen) (list : List Pla
         not_before greater =
             let s = stands t.p p_last in
             let less : row_bytes_cmp s.row f.found.row.bytes ≡ Less = ap (λ (x : Row). row_bytes_cmp s.row x.bytes) row_is ∙ nat_list_cmp_total.antisymm s.row (stands told.p told.p_last).row ∙ ap ordering_reverse greater in
-            let same = same_store ms points old new list stored made steps h lawful fits (before_first list new.length) (after_old ms points old new list stored made steps h lawful fits list refl) (before_now ms points old new list stored made steps h lawful fits list refl)
-            ∙ sym (same_store ms points old new list stored made steps h lawful fits new.length made.since.extends.length (omega arith)) in
+            let same = same_store points old new list stored made steps h lawful fits (before_first list new.length) (after_old points old new list stored made steps h lawful fits list refl) (before_now points old new list stored made steps h lawful fits list refl)
+            ∙ sym (same_store points old new list stored made steps h lawful fits new.length made.since.extends.length (omega arith)) in
             let w = f.passed s.row s.qual s.value (reading_of t.p) (ap (λ (x : Store). value_at x (point_row s.row) s.qual) same ∙ s.stands) s.reads wanted_p less in
             let among : Contains list w.1.placed = subst (λ (xs : List Placed). Contains xs w.1.placed) (sym f.cut) (Contains-append_left f.earlier (f.at ∷ f.later) w.1.placed w.1.among) in
             let rp = row_has w.1.placed among w.0 w.1.reply t.p p_last w.2 in
@@ -631,10 +630,10 @@ module _ (ms : Bool) (points : List DataPoint) (old new : Seen) (list : List Pla
             )
 
       -- the clash that is told is the first one
-      pub clash_is_first : first_clash names chosen_points ≡ Some (time, a, b)
+      pub clash_is_first : first_clash names points_wanted ≡ Some (time, a, b)
       clash_is_first =
-          let ff = first_found (clashes names chosen_points) c0 (among_clashes names chosen_points told.p told.q p_in q_in told.clash_is) (λ d has. least d (two_points names chosen_points d has)) in
-          let t = two_points names chosen_points ff.clash ff.among in
+          let ff = first_found (clashes names points_wanted) c0 (among_clashes names points_wanted told.p told.q p_in q_in told.clash_is) (λ d has. least d (two_points names points_wanted d has)) in
+          let t = two_points names points_wanted ff.clash ff.among in
           let values = same_values ff.clash t ff.same in
           let at_time : (ff.clash).time ≡ time = sym ff.same.time ∙ told.time_is in
           let first_ : (ff.clash).a ≡ a = ap (λ (x : Clash). x.a) (sym t.is) ∙ values.0 ∙ told.p_value in

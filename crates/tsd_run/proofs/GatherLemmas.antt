@@ -7,14 +7,14 @@ use Rattle.std.proofs.lemmas.Bool.{and_parts, true≢false}
 use Rattle.tsd_base.specs.Points.{DataPoint}
 use Rattle.tsd_base.specs.TagOrder.{tags_same}
 use Rattle.tsd_base.specs.declared.kinds.Kind.{Kind}
-use Rattle.cell_model.specs.Layout.{names_of}
+use Rattle.cell_model.specs.Layout.{IsPoint, names_of}
 use Rattle.cell_solo.specs.Turns.{Play, sight}
 use Rattle.tsd_run.specs.Storing.{IsNaming, Notes}
 use Rattle.tsd_run.specs.Ids.{Names}
 use Rattle.tsd_run.specs.declared.gathered.Gathered.{Gathered}
 use Rattle.tsd_run.specs.Naming.{no_names, noted_all, names_in, and_then_noted}
 use Rattle.tsd_run.specs.Series.{Series, is_same_series, series_of_point}
-use Rattle.tsd_run.specs.Gathering.{values_of, unless_empty, IsTaken, Gathers}
+use Rattle.tsd_run.specs.Gathering.{values_of, unless_empty, Gathers}
 use Rattle.tsd_run.proofs.LastPoints.{beq_same, same_bytes}
 use Rattle.tsd_run.specs.Known.{IsKnown, AreKnown}
 use Rattle.tsd_run.proofs.KnownLemmas.{notes_all, noted_all-known}
@@ -105,20 +105,20 @@ one_more points p s true e = unless_empty-last (values_of points (series_of_poin
 one_more points p s false e = refl
 
 -- one more point of a series: what is gathered but for the store
-record OneMore (ms : Bool) (points : List DataPoint) (p : DataPoint) (new : Gathered) : Type 0 where
+record OneMore (points : List DataPoint) (p : DataPoint) (new : Gathered) : Type 0 where
   pub series : (s : Series) → get is_same_series new.series s ≡ unless_empty (values_of (points ++ p ∷ []) s)
-  pub taken : AllByRecursion (IsTaken ms) (points ++ p ∷ [])
+  pub are_points : AllByRecursion IsPoint (points ++ p ∷ [])
 
-more_of : (ms : Bool) (points : List DataPoint) (old new : Gathered) (p : DataPoint) → Gathers ms points old → IsTaken ms p
+more_of : (points : List DataPoint) (old new : Gathered) (p : DataPoint) → Gathers points old → IsPoint p
     → ((s : Series) → get is_same_series new.series s ≡ cond (is_same_series (series_of_point p) s) (Some (or_nil (get is_same_series old.series (series_of_point p)) ++ dot p ∷ [])) (get is_same_series old.series s))
-    → OneMore ms points p new
-more_of ms points old new p h taken step = record {
+    → OneMore points p new
+more_of points old new p h is_point step = record {
   series = λ s.
       step s ∙ ap (λ o. cond (is_same_series (series_of_point p) s) (Some (or_nil o ++ dot p ∷ [])) (get is_same_series old.series s)) (h.series (series_of_point p))
       ∙ ap (λ xs. cond (is_same_series (series_of_point p) s) (Some (xs ++ dot p ∷ [])) (get is_same_series old.series s)) (or_nil-unless (values_of points (series_of_point p)))
       ∙ ap (λ o. cond (is_same_series (series_of_point p) s) (Some (values_of points (series_of_point p) ++ dot p ∷ [])) o) (h.series s)
       ∙ one_more points p s (is_same_series (series_of_point p) s) refl ∙ sym (ap unless_empty (values_last points p s));
-  taken = all_last (IsTaken ms) points p h.taken taken;
+  are_points = all_last IsPoint points p h.are_points is_point;
 }
 
 noted_more : (points : List DataPoint) (p : DataPoint) (names more : Names) → noted_all no_names (flat_map names_of points) ≡ Ok names → noted_all names (names_of p) ≡ Ok more
@@ -127,24 +127,24 @@ noted_more points p names more before one =
     ap (noted_all no_names) (names_last points p) ∙ noted_all-append (flat_map names_of points) (names_of p) no_names ∙ ap (λ r. and_then_noted r (λ more. noted_all more (names_of p))) before ∙ one
 
 -- a point was read behind those of its series
-pub reads_point : (ms : Bool) (points : List DataPoint) (old new : Gathered) (p : DataPoint) (h : Gathers ms points old) → IsTaken ms p → Notes (sight old.store) (names_of p) None (sight new.store)
+pub reads_point : (points : List DataPoint) (old new : Gathered) (p : DataPoint) (h : Gathers points old) → IsPoint p → Notes (sight old.store) (names_of p) None (sight new.store)
     → ((s : Series) → get is_same_series new.series s ≡ cond (is_same_series (series_of_point p) s) (Some (or_nil (get is_same_series old.series (series_of_point p)) ++ dot p ∷ [])) (get is_same_series old.series s))
-    → (more : Gathers ms (points ++ p ∷ []) new) × (noted_all h.names (names_of p) ≡ Ok more.names)
-reads_point ms points old new p h taken notes step =
+    → (more : Gathers (points ++ p ∷ []) new) × (noted_all h.names (names_of p) ≡ Ok more.names)
+reads_point points old new p h is_point notes step =
     let noted = notes h.names h.naming in
-    let m = more_of ms points old new p h taken step in
-    (record { names = noted.0; noted = noted_more points p h.names noted.0 h.noted noted.1; naming = noted.2; series = m.series; taken = m.taken }, noted.1)
+    let m = more_of points old new p h is_point step in
+    (record { names = noted.0; noted = noted_more points p h.names noted.0 h.noted noted.1; naming = noted.2; series = m.series; are_points = m.are_points }, noted.1)
 
 -- a point of a series that was read
-pub reads_known : (ms : Bool) (points : List DataPoint) (old new : Gathered) (p : DataPoint) (list : List (ℕ × ℤ)) (h : Gathers ms points old) → IsTaken ms p → get is_same_series old.series (series_of_point p) ≡ Some list → new.store ≡ old.store
+pub reads_known : (points : List DataPoint) (old new : Gathered) (p : DataPoint) (list : List (ℕ × ℤ)) (h : Gathers points old) → IsPoint p → get is_same_series old.series (series_of_point p) ≡ Some list → new.store ≡ old.store
     → ((s : Series) → get is_same_series new.series s ≡ cond (is_same_series (series_of_point p) s) (Some (list ++ dot p ∷ [])) (get is_same_series old.series s))
-    → (more : Gathers ms (points ++ p ∷ []) new) × (noted_all h.names (names_of p) ≡ Ok more.names)
-reads_known ms points old new p list h taken found same step =
+    → (more : Gathers (points ++ p ∷ []) new) × (noted_all h.names (names_of p) ≡ Ok more.names)
+reads_known points old new p list h is_point found same step =
     let known = known_series h.names points (series_of_point p) list (notes_all no_names (flat_map names_of points) h.names h.noted).known (sym (h.series (series_of_point p)) ∙ found) in
     let noted = noted_all-known h.names (names_of p) known in
-    let m = more_of ms points old new p h taken (λ s. step s ∙ ap (λ o. cond (is_same_series (series_of_point p) s) (Some (or_nil o ++ dot p ∷ [])) (get is_same_series old.series s)) (sym found)) in
-    (record { names = h.names; noted = noted_more points p h.names h.names h.noted noted; naming = subst (λ (x : Play). IsNaming h.names (sight x)) (sym same) h.naming; series = m.series; taken = m.taken }, noted)
+    let m = more_of points old new p h is_point (λ s. step s ∙ ap (λ o. cond (is_same_series (series_of_point p) s) (Some (or_nil o ++ dot p ∷ [])) (get is_same_series old.series s)) (sym found)) in
+    (record { names = h.names; noted = noted_more points p h.names h.names h.noted noted; naming = subst (λ (x : Play). IsNaming h.names (sight x)) (sym same) h.naming; series = m.series; are_points = m.are_points }, noted)
 
 -- for one of the names of a point there is no id
-pub reads_full : (ms : Bool) (points : List DataPoint) (old new : Gathered) (p : DataPoint) (kind : Kind) (h : Gathers ms points old) → Notes (sight old.store) (names_of p) (Some kind) (sight new.store) → noted_all h.names (names_of p) ≡ Err kind
-reads_full ms points old new p kind h notes = notes h.names h.naming
+pub reads_full : (points : List DataPoint) (old new : Gathered) (p : DataPoint) (kind : Kind) (h : Gathers points old) → Notes (sight old.store) (names_of p) (Some kind) (sight new.store) → noted_all h.names (names_of p) ≡ Err kind
+reads_full points old new p kind h notes = notes h.names h.naming

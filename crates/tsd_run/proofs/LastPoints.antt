@@ -19,9 +19,6 @@ use Rattle.tsd_run.specs.Series.{Series, is_same_series, series_of_point}
 use Rattle.tsd_run.specs.Settling.{last_at}
 use Rattle.tsd_run.proofs.Lower.{here, there, split, not_in}
 
-abbrev pub AreCoarse : List DataPoint → Type 0
-AreCoarse points = AllByRecursion (λ p. p.fine ≡ false) points
-
 -- two tests that follow from each other
 pub both_ways : {a b : Bool} → (a ≡ true → b ≡ true) → (b ≡ true → a ≡ true) → a ≡ b
 both_ways {a} {b} to from =
@@ -209,3 +206,11 @@ last_points_are ps p = (to, from)
         let a = is_at s p.time l.point l.passes in
         let same : l.point ≡ p = λ i. record { metric = a.named i; tags = a.tagged i; time = a.timed i; fine = a.formed i; value = l.value_is i } in
         subst (Contains (last_points ps)) same l.among
+
+-- what holds of points holds of the last of them
+pub last_hold : (P : DataPoint → Type 0) (points : List DataPoint) → AllByRecursion P points → AllByRecursion P (last_points points)
+last_hold P [] all = tt
+last_hold P (p ∷ points) all = elim (list_any (is_same_place p) points) as (λ b. AllByRecursion P (cond b (last_points points) (p ∷ last_points points))) [
+  | true ↦ last_hold P points all.1
+  | false ↦ (all.0, last_hold P points all.1)
+]

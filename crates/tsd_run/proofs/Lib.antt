@@ -3,10 +3,10 @@ pub mod Asking
 pub mod Beginning
 pub mod BufferLemmas
 pub mod Clashing
-pub mod Clashless
 pub mod CommandLemmas
 pub mod Entering
 pub mod FirstClashes
+pub mod FoundCells
 pub mod Follows
 pub mod GatherLemmas
 pub mod InputEnds
@@ -16,8 +16,8 @@ pub mod LastPoints
 pub mod LineLemmas
 pub mod Lower
 pub mod MapLemmas
-pub mod MetricLemmas
 pub mod NameLemmas
+pub mod NamedPoints
 pub mod Noting
 pub mod NotedLemmas
 pub mod OneValue
@@ -26,11 +26,10 @@ pub mod PointRows
 pub mod Puts
 pub mod PutsStand
 pub mod QueryLemmas
-pub mod ReplyLemmas
 pub mod RowCells
 pub mod RunLemmas
-pub mod Seconds
 pub mod SeriesLemmas
 pub mod SettleLemmas
 pub mod StoredPoints
+pub mod TextLemmas
 pub mod ValueLemmas

@@ -1,5 +1,5 @@
 -- Points of which no two clash have one value at each time of a series.
-use Rattle.std.proofs.Common.{◌≡◌, ⊎_elim, ℤ, Bool, true, false, cond, ◌&&◌, List, [], ◌∷◌, ◌++◌, Some, map, refl, sym, ap, subst, ◌∙◌}
+use Rattle.std.proofs.Common.{◌≡◌, ⊎_elim, ℤ, Bool, true, false, List, [], ◌∷◌, Some, map, refl, sym, ap, subst, ◌∙◌}
 use Rattle.std.specs.Prelude.{Contains, filter, nat_eq, not}
 use Rattle.std.specs.Cmp.{nat_eq_equiv}
 use Rattle.std.specs.Cmp.Lexicographic.{nat_list_eq_equiv}
@@ -18,7 +18,7 @@ use Rattle.tsd_run.specs.Gathering.{values_of}
 use Rattle.tsd_run.specs.Ids.{Names}
 use Rattle.tsd_run.specs.Series.{series_of_point}
 use Rattle.tsd_run.specs.Settling.{last_at}
-use Rattle.tsd_run.proofs.LastPoints.{AreCoarse, last_points_are}
+use Rattle.tsd_run.proofs.LastPoints.{last_points_are}
 use Rattle.tsd_run.proofs.Lower.{in_map, map_in, not_in, split, to_filter}
 
 -- ---- lists of lists
@@ -71,21 +71,3 @@ module _ (points ps : List DataPoint) (last : (p : DataPoint) → Contains ps p 
       let tags : (p.0).tags ≡ (q.0).tags = ap (λ (r : Reading). r.tags) p.2 ∙ m.tags ∙ sym (ap (λ (r : Reading). r.tags) q.2) in
       let time : (p.0).time ≡ (q.0).time = ap (λ (r : Reading). r.time) p.2 ∙ m.time ∙ sym (ap (λ (r : Reading). r.time) q.2) in
       sym (ap (λ (r : Reading). r.value) p.2) ∙ by_form p.0 q.0 p.1 q.1 metric tags time (p.0).fine (q.0).fine refl refl ∙ ap (λ (r : Reading). r.value) q.2
-
--- ---- points in seconds don't clash
-and_none : (a : Bool) → (a && false) ≡ false
-and_none true = refl
-and_none false = refl
-
-no_clash_with : (p : DataPoint) (ps : List DataPoint) → AreCoarse ps → filter (are_clash p) ps ≡ []
-no_clash_with p [] coarse = refl
-no_clash_with p (q ∷ ps) coarse =
-    let apart : are_clash p q ≡ false = ap (λ b. not p.fine && (b && (is_same p.metric q.metric && (is_same_tags p.tags q.tags && (nat_eq p.time q.time && not (int_eq p.value q.value)))))) coarse.0 ∙ and_none (not p.fine) in
-    ap (λ b. cond b (q ∷ filter (are_clash p) ps) (filter (are_clash p) ps)) apart ∙ no_clash_with p ps coarse.1
-
-pub coarse_clashes : (names : Names) (ps : List DataPoint) → AreCoarse ps → clashes names ps ≡ []
-coarse_clashes names ps coarse = each ps
-  where
-    each : (xs : List DataPoint) → flat_map (λ p. map (clash_of names p) (filter (are_clash p) ps)) xs ≡ []
-    each [] = refl
-    each (p ∷ xs) = ap (λ qs. map (clash_of names p) qs ++ flat_map (λ r. map (clash_of names r) (filter (are_clash r) ps)) xs) (no_clash_with p ps coarse) ∙ each xs

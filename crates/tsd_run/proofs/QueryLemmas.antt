@@ -1,21 +1,32 @@
--- What is told of a text that is no query.
-use Rattle.std.proofs.Common.{◌≡◌, ℕ, false, cond, List, ap, ◌∙◌}
-use Rattle.std.specs.Prelude.{Result, Err, codes}
-use Rattle.query_text.specs.PlainSubs.{GivesM, asks_more, m_of}
+-- The query of a batch.
+use Rattle.std.proofs.Common.{◌≡◌, ◌*◌, ◌≤◌, Bool, List, [], ◌∷◌, refl, sym, ap, subst, ◌∙◌, arith}
+use Rattle.std.specs.Prelude.{Result, Ok, Err}
+use Rattle.query_text.specs.Subs.{GivesSub, sub_of}
+use Rattle.query_text.specs.declared.queries.Query.{Query}
 use Rattle.query_text.specs.declared.queries.QueryFault.{QueryFault}
 use Rattle.query_text.specs.declared.queries.QueryFault.TheVariants.{BadM, UnknownAggregator, RateRefused, BadDownsample, BadFilter, OutOfMemory}
+use Rattle.query_text.specs.declared.queries.Sub.{Sub}
+use Rattle.query_run.specs.Queries.{CanDown}
 use Rattle.tsd_run.specs.Commands.{Batch}
-use Rattle.tsd_run.specs.Queries.{Asked, asked_of, or_text}
-use Rattle.tsd_run.specs.declared.query.NoQuery.TheVariants.{Refused}
-use Rattle.tsd_run.specs.QueriesRead.{GivesQuery}
+use Rattle.tsd_run.specs.Queries.{CanAsk, GivesQuery, IsQueryOf}
 
-pub asked_is : (text : List ℕ) (asked : Result Asked QueryFault) → asks_more text ≡ false → m_of text ≡ asked → asked_of text ≡ or_text asked
-asked_is text asked built is = ap (λ b. cond b (Err (codes "not built")) (or_text (m_of text))) built ∙ ap or_text is
+module _ (query : Query) (batch : Batch) (s : Sub) (start : query.start ≡ batch.start * 1000) (end : query.end ≡ batch.end * 1000) (ms : query.ms ≡ batch.ms) (subs : query.subs ≡ s ∷ []) (is : sub_of batch.ms batch.query ≡ Ok s) where
+  pub is_query_of : IsQueryOf query batch
+  is_query_of = record { sub = s; sub_is = is; query_is = λ i. record { start = start i; end = end i; ms = ms i; subs = subs i } }
 
-pub told_fault : (fault : QueryFault) (batch : Batch) → asks_more batch.query ≡ false → GivesM (Err fault) (m_of batch.query) → GivesQuery (Err (Refused fault)) batch
-told_fault (BadM at) batch built is = asked_is batch.query (Err (BadM at)) built is
-told_fault UnknownAggregator batch built is = asked_is batch.query (Err UnknownAggregator) built is
-told_fault RateRefused batch built is = asked_is batch.query (Err RateRefused) built is
-told_fault BadDownsample batch built is = asked_is batch.query (Err BadDownsample) built is
-told_fault (BadFilter index) batch built is = asked_is batch.query (Err (BadFilter index)) built is
-told_fault OutOfMemory batch built is = tt
+  pub can_ask : CanDown batch.ms s → batch.start ≤ batch.end → batch.end ≤ 4294967295 → CanAsk query
+  can_ask can range last = record {
+    sub = s;
+    subs_are = subs;
+    order = omega (arith, start, end, range);
+    most = omega (arith, end, last);
+    down = subst (λ (b : Bool). CanDown b s) (sym ms) can;
+  }
+
+pub told_fault : (fault : QueryFault) (batch : Batch) → GivesSub (Err fault) (sub_of batch.ms batch.query) → GivesQuery (Err fault) batch
+told_fault (BadM at) batch is = is
+told_fault UnknownAggregator batch is = is
+told_fault RateRefused batch is = is
+told_fault BadDownsample batch is = is
+told_fault (BadFilter index) batch is = is
+told_fault OutOfMemory batch is = tt

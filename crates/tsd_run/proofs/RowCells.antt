@@ -23,7 +23,7 @@ use Rattle.cell_model.specs.declared.events.Place.{Place}
 use Rattle.cell_model.specs.Order.{bytes_cmp, place_cmp, row_cmp}
 use Rattle.cell_model.specs.Store.{Store, cell_of, cells_of}
 use Rattle.row_scan.specs.Kept.{AreDots, values_at}
-use Rattle.tsd_run.proofs.Clashless.{cell_of_dot}
+use Rattle.tsd_run.proofs.FoundCells.{cell_of_dot}
 use Rattle.tsd_run.proofs.MapLemmas.{first, second, less}
 use Rattle.tsd_run.proofs.SettleLemmas.{below_from_Less}
 use Rattle.tsd_run.proofs.Lower.{are_fields, coarse, coarse_high, exact_rows, fine_high, fine_number, here, is_equal, not_in, one_dots, rows_total, split, there}

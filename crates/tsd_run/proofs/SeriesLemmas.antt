@@ -1,22 +1,23 @@
 -- The series that were read.
-use Rattle.std.proofs.Common.{◌≡◌, ℕ, ℤ, Bool, true, false, cond, List, [], ◌∷◌, Option, Some, None, map, refl, sym, ap, subst, inl, inr, ⊎_elim, arith}
-use Rattle.std.specs.Prelude.{◌%◌, filter, Contains}
-use Rattle.std.specs.List.{AllByRecursion}
+use Rattle.std.proofs.Common.{◌≡◌, ℕ, ℤ, Bool, true, false, cond, ◌||◌, List, [], ◌∷◌, Option, Some, None, map, refl, sym, ap, subst, inl, inr, ⊎_elim, arith}
+use Rattle.std.specs.Prelude.{filter, Contains}
+use Rattle.std.specs.List.{AllByRecursion, list_any}
 use Rattle.std.specs.Map.{lookup}
-use Rattle.std.proofs.lemmas.Bool.{cases_Bool}
+use Rattle.std.proofs.lemmas.Bool.{cases_Bool, true≢false}
 use Rattle.std.proofs.lemmas.List.Elements.{Contains-append_right}
 use Rattle.tsd_base.specs.Moments.{IsTime}
 use Rattle.tsd_base.specs.Points.{DataPoint}
 use Rattle.tsd_base.specs.Alphabet.{IsName}
-use Rattle.tsd_base.specs.TagList.{IsPair, Pair}
+use Rattle.tsd_base.specs.TagList.{IsPair, Pair, is_same}
 use Rattle.tsd_base.specs.declared.kinds.Kind.{Kind}
 use Rattle.tsd_base.specs.declared.kinds.Kind.TheVariants.{Metric, TagKey, TagValue}
 use Rattle.cell_model.specs.Layout.{IsPoint, names_of}
 use Rattle.tsd_run.specs.Naming.{names_in}
 use Rattle.tsd_run.specs.Numbered.{tag_names}
-use Rattle.tsd_run.proofs.LastPoints.{AreCoarse}
+use Rattle.tsd_run.specs.Outcomes.{has_name}
+use Rattle.tsd_run.proofs.LastPoints.{same_bytes}
 use Rattle.tsd_run.proofs.Lower.{not_in, split}
-use Rattle.tsd_run.specs.Gathering.{values_of, unless_empty, IsTaken}
+use Rattle.tsd_run.specs.Gathering.{values_of, unless_empty}
 use Rattle.tsd_run.specs.Putting.{AreTimes}
 use Rattle.tsd_run.specs.Series.{Series, is_same_series, series_of_point}
 use Rattle.tsd_run.proofs.GatherLemmas.{dot, same_series, none_not_some}
@@ -32,9 +33,23 @@ unless_is (x ∷ xs) ys is = ap (list_or (x ∷ xs)) (sym is)
 pub values_are : (ps : List DataPoint) (s : Series) (values : List (ℕ × ℤ)) → unless_empty (values_of ps s) ≡ Some values → values ≡ values_of ps s
 values_are ps s values is = unless_is (values_of ps s) values is
 
--- the names of a series are names
-names_are : (p : DataPoint) → IsPoint p → (n : Kind × List ℕ) → Contains (names_of p) n → IsName n.1
-names_are p is n has = ⊎_elim
+-- a name that a point has
+tag_named : (tags : List Pair) (part : Pair → List ℕ) (name : List ℕ) → AllByRecursion IsPair tags → ((t : Pair) → IsPair t → IsName (part t)) → list_any (λ t. is_same (part t) name) tags ≡ true → IsName name
+tag_named [] part name are each e = absurd (true≢false (sym e))
+tag_named (t ∷ tags) part name are each e = at (is_same (part t) name) refl e (tag_named tags part name are.1 each)
+  where
+    at : (b : Bool) → is_same (part t) name ≡ b → (b || list_any (λ u. is_same (part u) name) tags) ≡ true → (list_any (λ u. is_same (part u) name) tags ≡ true → IsName name) → IsName name
+    at true same e rest = subst IsName (same_bytes (part t) name same) (each t are.0)
+    at false same e rest = rest e
+
+named_so : (p : DataPoint) → IsPoint p → (kind : Kind) (name : List ℕ) → has_name (kind, name) p ≡ true → IsName name
+named_so p is Metric name e = subst IsName (same_bytes p.metric name e) is.metric
+named_so p is TagKey name e = tag_named p.tags (λ t. t.0) name is.tags.names (λ t pair. pair.0) e
+named_so p is TagValue name e = tag_named p.tags (λ t. t.1) name is.tags.names (λ t pair. pair.1) e
+
+-- the names of a point are names
+pub point_names : (p : DataPoint) → IsPoint p → (n : Kind × List ℕ) → Contains (names_of p) n → IsName n.1
+point_names p is n has = ⊎_elim
     (λ (first : (Metric, p.metric) ≡ n). subst (λ (m : Kind × List ℕ). IsName m.1) first is.metric)
     (λ (later : Contains (tag_names p.tags) n). tags_are p.tags is.tags.names n later)
     (split (Metric, p.metric) n (tag_names p.tags) has)
@@ -49,33 +64,33 @@ names_are p is n has = ⊎_elim
         (split (TagValue, t.1) n (tag_names tags) rest))
         (split (TagKey, t.0) n ((TagValue, t.1) ∷ tag_names tags) has)
 
-pub named_series : (ms : Bool) (ps : List DataPoint) (s : Series) (values : List (ℕ × ℤ)) → AllByRecursion (IsTaken ms) ps → unless_empty (values_of ps s) ≡ Some values → (n : Kind × List ℕ) → Contains (names_in s.0.0 s.0.1) n → IsName n.1
-named_series ms [] s values taken is = absurd (none_not_some is)
-named_series ms (p ∷ ps) s values taken is =
+-- and so is one that a point has
+pub name_of_points : (ps : List DataPoint) → AllByRecursion IsPoint ps → (n : Kind × List ℕ) → list_any (has_name n) ps ≡ true → IsName n.1
+name_of_points [] are n e = absurd (true≢false (sym e))
+name_of_points (p ∷ ps) are n e = at (has_name n p) refl e (name_of_points ps are.1 n)
+  where
+    at : (b : Bool) → has_name n p ≡ b → (b || list_any (has_name n) ps) ≡ true → (list_any (has_name n) ps ≡ true → IsName n.1) → IsName n.1
+    at true has e rest = named_so p are.0 n.0 n.1 has
+    at false has e rest = rest e
+
+pub named_series : (ps : List DataPoint) (s : Series) (values : List (ℕ × ℤ)) → AllByRecursion IsPoint ps → unless_empty (values_of ps s) ≡ Some values → (n : Kind × List ℕ) → Contains (names_in s.0.0 s.0.1) n → IsName n.1
+named_series [] s values are is = absurd (none_not_some is)
+named_series (p ∷ ps) s values are is =
     elim (is_same_series (series_of_point p) s) as (λ b. is_same_series (series_of_point p) s ≡ b → unless_empty (map dot (cond b (p ∷ filter (λ q. is_same_series (series_of_point q) s) ps) (filter (λ q. is_same_series (series_of_point q) s) ps))) ≡ Some values → (n : Kind × List ℕ) → Contains (names_in s.0.0 s.0.1) n → IsName n.1) [
-      | true ↦ λ e _. subst (λ (t : Series). (n : Kind × List ℕ) → Contains (names_in t.0.0 t.0.1) n → IsName n.1) (same_series (series_of_point p) s e) (names_are p taken.0.is_point)
-      | false ↦ λ _ found. named_series ms ps s values taken.1 found
+      | true ↦ λ e _. subst (λ (t : Series). (n : Kind × List ℕ) → Contains (names_in t.0.0 t.0.1) n → IsName n.1) (same_series (series_of_point p) s e) (point_names p are.0)
+      | false ↦ λ _ found. named_series ps s values are.1 found
     ] refl is
 
--- points in seconds
-pub coarse_points : (ps : List DataPoint) → AllByRecursion (IsTaken false) ps → AreCoarse ps
-coarse_points [] taken = tt
-coarse_points (p ∷ ps) taken = (taken.0.form refl, coarse_points ps taken.1)
-
-pub whole_points : (ps : List DataPoint) → AllByRecursion (IsTaken false) ps → AllByRecursion (λ p. p.time % 1000 ≡ 0) ps
-whole_points [] taken = tt
-whole_points (p ∷ ps) taken = (taken.0.is_point.timed.whole (taken.0.form refl), whole_points ps taken.1)
-
 -- the times of points
-time_of : (ms : Bool) (p : DataPoint) (s : Series) → IsTaken ms p → series_of_point p ≡ s → IsTime p.time s.1
-time_of ms p s taken same = subst (IsTime p.time) (ap (λ (t : Series). t.1) same) taken.is_point.timed
+time_of : (p : DataPoint) (s : Series) → IsPoint p → series_of_point p ≡ s → IsTime p.time s.1
+time_of p s is_point same = subst (IsTime p.time) (ap (λ (t : Series). t.1) same) is_point.timed
 
-pub times_of_values : (ms : Bool) (ps : List DataPoint) (s : Series) → AllByRecursion (IsTaken ms) ps → AreTimes s.1 (values_of ps s)
-times_of_values ms [] s taken = tt
-times_of_values ms (p ∷ ps) s taken =
+pub times_of_values : (ps : List DataPoint) (s : Series) → AllByRecursion IsPoint ps → AreTimes s.1 (values_of ps s)
+times_of_values [] s are = tt
+times_of_values (p ∷ ps) s are =
     elim (is_same_series (series_of_point p) s) as (λ b. is_same_series (series_of_point p) s ≡ b → AllByRecursion (λ (d : ℕ × ℤ). IsTime d.0 s.1) (map dot (cond b (p ∷ filter (λ q. is_same_series (series_of_point q) s) ps) (filter (λ q. is_same_series (series_of_point q) s) ps)))) [
-      | true ↦ λ e. (time_of ms p s taken.0 (same_series (series_of_point p) s e), times_of_values ms ps s taken.1)
-      | false ↦ λ _. times_of_values ms ps s taken.1
+      | true ↦ λ e. (time_of p s are.0 (same_series (series_of_point p) s e), times_of_values ps s are.1)
+      | false ↦ λ _. times_of_values ps s are.1
     ] refl
 
 -- ---- what a look-up finds

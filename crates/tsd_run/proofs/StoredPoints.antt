@@ -141,7 +141,7 @@ module _ (a b : Seen) (entries rest more : List Entry) (e : Entry) (are : rest �
   }
 
 -- ---- the series that were gathered
-module _ (ms : Bool) (points : List DataPoint) (g : Gathered) (h : Gathers ms points g) (found : All (λ e. get is_same_series g.series e.0 ≡ Some e.1) g.series.entries) where
+module _ (points : List DataPoint) (g : Gathered) (h : Gathers points g) (found : All (λ e. get is_same_series g.series e.0 ≡ Some e.1) g.series.entries) where
   known_all : AreKnown h.names (flat_map names_of points)
   known_all = (notes_all _ (flat_map names_of points) h.names h.noted).known
 
@@ -166,8 +166,8 @@ module _ (ms : Bool) (points : List DataPoint) (g : Gathered) (h : Gathers ms po
       (λ e is.
       let there : unless_empty (values_of points e.0) ≡ Some e.1 = sym (h.series e.0) ∙ is in
       record {
-        resolved = have_ids (names_in e.0.0.0 e.0.0.1) (known_series h.names points e.0 e.1 known_all there) (named_series ms points e.0 e.1 h.taken there);
-        times = subst (AreTimes e.0.1) (sym (values_are points e.0 e.1 there)) (times_of_values ms points e.0 h.taken);
+        resolved = have_ids (names_in e.0.0.0 e.0.0.1) (known_series h.names points e.0 e.1 known_all there) (named_series points e.0 e.1 h.are_points there);
+        times = subst (AreTimes e.0.1) (sym (values_are points e.0 e.1 there)) (times_of_values points e.0 h.are_points);
       })
       g.series.entries found
 
@@ -189,9 +189,9 @@ module _ (ms : Bool) (points : List DataPoint) (g : Gathered) (h : Gathers ms po
           record { entry = (at.key, x ∷ xs); among = at.among; series_is = sym (same_series s at.key at.passes); last = sym (ap (λ ys. last_at ys r.time) told) ∙ is }
 
   -- all points are stored
-  pub stored : (s : Seen) → PutsAll (sight g.store) g.series.entries s → IsStored ms points s
+  pub stored : (s : Seen) → PutsAll (sight g.store) g.series.entries s → IsStored points s
   stored s puts = record {
-    taken = h.taken;
+    are_points = h.are_points;
     names = h.names;
     noted = h.noted;
     by = puts.by;

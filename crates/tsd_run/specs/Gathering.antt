@@ -1,14 +1,13 @@
 -- What was gathered of the points read so far.
-use Rattle.std.specs.Prelude.{◌≡◌, ℕ, ℤ, Bool, List, [], ◌∷◌, ◌++◌, map, filter, Option, None, Some, Ok, Err}
+use Rattle.std.specs.Prelude.{◌≡◌, ℕ, ℤ, List, [], ◌∷◌, ◌++◌, map, filter, Option, None, Some, Ok, Err}
 use Rattle.std.specs.List.{AllByRecursion, flat_map}
 use Rattle.std.specs.HashMap.{get}
 use Rattle.tsd_base.specs.declared.kinds.Kind.{Kind}
 use Rattle.tsd_base.specs.Points.{DataPoint}
-use Rattle.cell_model.specs.Layout.{names_of}
+use Rattle.cell_model.specs.Layout.{IsPoint, names_of}
 pub use Rattle.tsd_run.specs.Series.{Series, is_same_series, series_of_point}
 use Rattle.tsd_run.specs.declared.gathered.Gathered.{Gathered}
 use Rattle.tsd_run.specs.Naming.{Names, no_names, noted_all}
-pub use Rattle.tsd_run.specs.Storing.{IsTaken}
 use Rattle.tsd_run.specs.Storing.{IsNaming}
 use Rattle.cell_solo.specs.Turns.{sight}
 
@@ -21,16 +20,15 @@ abbrev pub unless_empty : List (ℕ × ℤ) → Option (List (ℕ × ℤ))
 unless_empty [] = None
 unless_empty (x ∷ xs) = Some (x ∷ xs)
 
--- The store has given their ids to the names of the points and has no point yet, and each series has its values. All points are in seconds,
--- unless ms tells that those in milliseconds are taken too.
-pub record Gathers (ms : Bool) (points : List DataPoint) (g : Gathered) : Type 0 where
+-- The store has given their ids to the names of the points and has no point yet, and each series has its values.
+pub record Gathers (points : List DataPoint) (g : Gathered) : Type 0 where
   pub names : Names
   pub noted : noted_all no_names (flat_map names_of points) ≡ Ok names
   pub naming : IsNaming names (sight g.store)
   pub series : (s : Series) → get is_same_series g.series s ≡ unless_empty (values_of points s)
-  pub taken : AllByRecursion (IsTaken ms) points
+  pub are_points : AllByRecursion IsPoint points
 
 -- one more point was read behind others; or for one of its names there is no id
-abbrev pub AddsPoint : Bool → Gathered → DataPoint → Option Kind → Gathered → Type 0
-AddsPoint ms old p None new = (points : List DataPoint) → (g : Gathers ms points old) → (more : Gathers ms (points ++ p ∷ []) new) × (noted_all g.names (names_of p) ≡ Ok more.names)
-AddsPoint ms old p (Some kind) new = (points : List DataPoint) → (g : Gathers ms points old) → noted_all g.names (names_of p) ≡ Err kind
+abbrev pub AddsPoint : Gathered → DataPoint → Option Kind → Gathered → Type 0
+AddsPoint old p None new = (points : List DataPoint) → (g : Gathers points old) → (more : Gathers (points ++ p ∷ []) new) × (noted_all g.names (names_of p) ≡ Ok more.names)
+AddsPoint old p (Some kind) new = (points : List DataPoint) → (g : Gathers points old) → noted_all g.names (names_of p) ≡ Err kind

@@ -15,11 +15,11 @@ use Rattle.tsd_run.specs.Naming.{no_names, noted_all, exhausted_text}
 use Rattle.cell_model.specs.Layout.{names_of}
 use Rattle.tsd_base.specs.declared.kinds.Kind.{Kind}
 
--- None of the lines is refused, where ms tells whether points in milliseconds are taken, and their points were gathered. Whatever lines come behind them, these points come first.
-pub record IsRead (ms : Bool) (lines : List Line) (g : Gathered) : Type 0 where
+-- None of the lines is refused, and their points were gathered. Whatever lines come behind them, these points come first.
+pub record IsRead (lines : List Line) (g : Gathered) : Type 0 where
   pub points : List DataPoint
-  pub gathers : Gathers ms points g
-  pub first : (number : ℕ) (more : List Line) → points_from ms number no_names (lines ++ more) ≡ with_points points (points_from ms (number + length lines) gathers.names more)
+  pub gathers : Gathers points g
+  pub first : (number : ℕ) (more : List Line) → points_from number no_names (lines ++ more) ≡ with_points points (points_from (number + length lines) gathers.names more)
 
 -- the text with which a line is refused, where these names have ids before it
 abbrev pub full_text : Result Names Kind → Option (List ℕ)
@@ -32,50 +32,50 @@ refusal names (Taken point) = full_text (noted_all names (names_of point))
 refusal names (Refused text) = Some text
 
 -- the line is refused with this text, under this number
-abbrev pub IsBad : Bool → Names → Line → ℕ → BadLine → Type 0
-IsBad ms names line number bad = (refusal names (judged ms line) ≡ Some bad.text.items) × (bad.number ≡ number)
+abbrev pub IsBad : Names → Line → ℕ → BadLine → Type 0
+IsBad names line number bad = (refusal names (judged line) ≡ Some bad.text.items) × (bad.number ≡ number)
 
 -- behind lines that were read one more was read, or it is refused
-abbrev pub ReadsLine : Bool → Line → ℕ → Gathered → Gathered → Option BadLine → Type 0
-ReadsLine ms line number old new None = (lines : List Line) → IsRead ms lines old → IsRead ms (lines ++ line ∷ []) new
-ReadsLine ms line number old new (Some bad) = (lines : List Line) → (read : IsRead ms lines old) → IsBad ms read.gathers.names line number bad
+abbrev pub ReadsLine : Line → ℕ → Gathered → Gathered → Option BadLine → Type 0
+ReadsLine line number old new None = (lines : List Line) → IsRead lines old → IsRead (lines ++ line ∷ []) new
+ReadsLine line number old new (Some bad) = (lines : List Line) → (read : IsRead lines old) → IsBad read.gathers.names line number bad
 
 -- The bytes begin with these lines, and the rest is what stands behind their last LF.
 abbrev pub Splits : List ℕ → List Line → List ℕ → Type 0
 Splits bytes lines rest = (more : List ℕ) → lines_of (bytes ++ more) ≡ lines ++ lines_of (rest ++ more)
 
 -- Behind lines that were read, all lines of the bytes that an LF ends were read; or one of them is refused.
-abbrev pub ReadsLines : Bool → List ℕ → List ℕ → ℕ → ℕ → Gathered → Gathered → Option BadLine → Type 0
-ReadsLines ms bytes rest count count' old new None =
-    (has_line_end rest ≡ false) × ((lines : List Line) → length lines ≡ count → IsRead ms lines old
-    → (more : List Line) × Splits bytes more rest × IsRead ms (lines ++ more) new × (length (lines ++ more) ≡ count'))
-ReadsLines ms bytes rest count count' old new (Some bad) =
-    (lines : List Line) → length lines ≡ count → IsRead ms lines old → (more : List ℕ) → points_from ms 1 no_names (lines ++ lines_of (bytes ++ more)) ≡ Err (bad.number, bad.text.items)
+abbrev pub ReadsLines : List ℕ → List ℕ → ℕ → ℕ → Gathered → Gathered → Option BadLine → Type 0
+ReadsLines bytes rest count count' old new None =
+    (has_line_end rest ≡ false) × ((lines : List Line) → length lines ≡ count → IsRead lines old
+    → (more : List Line) × Splits bytes more rest × IsRead (lines ++ more) new × (length (lines ++ more) ≡ count'))
+ReadsLines bytes rest count count' old new (Some bad) =
+    (lines : List Line) → length lines ≡ count → IsRead lines old → (more : List ℕ) → points_from 1 no_names (lines ++ lines_of (bytes ++ more)) ≡ Err (bad.number, bad.text.items)
 
 -- The input so far is these whole lines, none of them refused, and the rest is the front of a line that may be short enough.
-pub record IsUnrefused (ms : Bool) (input : List ℕ) : Type 0 where
+pub record IsUnrefused (input : List ℕ) : Type 0 where
   pub lines : List Line
   pub rest : List ℕ
   pub splits : Splits input lines rest
-  pub read : (points : List DataPoint) × (points_from ms 1 no_names lines ≡ Ok points)
+  pub read : (points : List DataPoint) × (points_from 1 no_names lines ≡ Ok points)
   pub short : length rest ≤ 8192
   pub whole : has_line_end rest ≡ false
 
 -- the points of an input, as far as it is known: all of it, or whatever comes
-abbrev pub IsPointsOf : Bool → List ℕ → Bool → Result (List DataPoint) (ℕ × List ℕ) → Type 0
-IsPointsOf ms input true points = points_of ms input ≡ points
-IsPointsOf ms input false points = (more : List ℕ) → points_of ms (input ++ more) ≡ points
+abbrev pub IsPointsOf : List ℕ → Bool → Result (List DataPoint) (ℕ × List ℕ) → Type 0
+IsPointsOf input true points = points_of input ≡ points
+IsPointsOf input false points = (more : List ℕ) → points_of (input ++ more) ≡ points
 
 -- what was read of an input: all its points, or the first line that is refused; or why neither
-abbrev pub ReadsTo : Bool → List ℕ → Bool → Gathered → Result (Option BadLine) InputFault → Type 0
-ReadsTo ms input ended g (Ok None) = (ended ≡ true) × ((points : List DataPoint) × (points_of ms input ≡ Ok points) × Gathers ms points g)
-ReadsTo ms input ended g (Ok (Some bad)) = IsPointsOf ms input ended (Err (bad.number, bad.text.items))
-ReadsTo ms input ended g (Err Failed) = IsUnrefused ms input × (length input < 2 ^ 40)
-ReadsTo ms input ended g (Err Full) = IsUnrefused ms input × (length input ≡ 2 ^ 40)
-ReadsTo ms input ended g (Err OutOfMemory) = Unit {0}
+abbrev pub ReadsTo : List ℕ → Bool → Gathered → Result (Option BadLine) InputFault → Type 0
+ReadsTo input ended g (Ok None) = (ended ≡ true) × ((points : List DataPoint) × (points_of input ≡ Ok points) × Gathers points g)
+ReadsTo input ended g (Ok (Some bad)) = IsPointsOf input ended (Err (bad.number, bad.text.items))
+ReadsTo input ended g (Err Failed) = IsUnrefused input × (length input < 2 ^ 40)
+ReadsTo input ended g (Err Full) = IsUnrefused input × (length input ≡ 2 ^ 40)
+ReadsTo input ended g (Err OutOfMemory) = Unit {0}
 
 -- these bytes were taken of the source, and they are read so
-pub record ReadsInputTo (ms : Bool) (taken taken' left left' : Option (List ℕ)) (g : Gathered) (result : Result (Option BadLine) InputFault) : Type 0 where
+pub record ReadsInputTo (taken taken' left left' : Option (List ℕ)) (g : Gathered) (result : Result (Option BadLine) InputFault) : Type 0 where
   pub input : List ℕ
   pub ended : Bool
   pub takes : Appends taken taken' input
@@ -83,4 +83,4 @@ pub record ReadsInputTo (ms : Bool) (taken taken' left left' : Option (List ℕ)
   pub end : ended ≡ true → IsAtEnd left'
   pub most : length input ≤ 2 ^ 40
   pub early : ended ≡ true → length input < 2 ^ 40
-  pub reads : ReadsTo ms input ended g result
+  pub reads : ReadsTo input ended g result

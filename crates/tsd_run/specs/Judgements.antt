@@ -1,5 +1,4 @@
 -- What a judgement of a line says.
-use Rattle.std.specs.Prelude.{◌≡◌, Bool, false}
 use Rattle.tsd_base.specs.Points.{data_point}
 use Rattle.tsd_run.specs.declared.judging.Judgement.{Judgement}
 use Rattle.tsd_run.specs.declared.judging.Judgement.TheVariants as judgement
@@ -10,9 +9,3 @@ abbrev pub judged_of : Judgement → Judged
 judged_of judgement.Blank = Blank
 judged_of (judgement.Taken point) = Taken (data_point point)
 judged_of (judgement.Refused text) = Refused text.items
-
--- a point that is taken is in seconds, unless those in milliseconds are taken too
-abbrev pub IsInForm : Bool → Judgement → Type 0
-IsInForm ms judgement.Blank = Unit {0}
-IsInForm ms (judgement.Taken point) = ms ≡ false → point.fine ≡ false
-IsInForm ms (judgement.Refused text) = Unit {0}

@@ -16,10 +16,8 @@ pub mod Clashes
 pub mod Outcomes
 pub mod Printing
 pub mod Queries
-pub mod QueriesRead
+pub mod QueryFaults
 pub mod Runs
 pub mod Statuses
-pub mod Working
 pub mod Storing
 pub mod Putting
-pub mod Replying

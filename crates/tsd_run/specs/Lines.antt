@@ -1,5 +1,5 @@
 -- Lines of input, and the points that they are.
-use Rattle.std.specs.Prelude.{ℕ, ◌+◌, ◌-◌, Bool, true, false, ◌&&◌, not, nat_eq, nat_lt, List, [], ◌∷◌, ◌++◌, length, take, slice_index_or, codes, Result, Ok, Err, if◌then◌else◌}
+use Rattle.std.specs.Prelude.{ℕ, ◌+◌, ◌-◌, Bool, true, false, nat_eq, nat_lt, List, [], ◌∷◌, ◌++◌, length, take, slice_index_or, codes, Result, Ok, Err, if◌then◌else◌}
 use Rattle.std.specs.List.{list_all}
 use Rattle.tsd_base.specs.declared.points.PointFault.{PointFault}
 use Rattle.tsd_base.specs.Faults.{point_fault_text}
@@ -42,17 +42,16 @@ pub data Judged : Type 0 where
   Taken : DataPoint → Judged
   Refused : List ℕ → Judged
 
--- whether points in milliseconds are taken: ms
-abbrev pub judged_point : Bool → Result DataPoint PointFault → Judged
-judged_point ms (Ok point) = if point.fine && not ms then Refused (codes "not built") else Taken point
-judged_point ms (Err fault) = Refused (point_fault_text fault)
+abbrev pub judged_point : Result DataPoint PointFault → Judged
+judged_point (Ok point) = Taken point
+judged_point (Err fault) = Refused (point_fault_text fault)
 
-abbrev pub judged_text : Bool → List ℕ → Judged
-judged_text ms text = if is_blank text then Blank else judged_point ms (point_of text)
+abbrev pub judged_text : List ℕ → Judged
+judged_text text = if is_blank text then Blank else judged_point (point_of text)
 
 -- a line has at most 8,192 bytes, its CR among them
-unfoldable pub judged : Bool → Line → Judged
-judged ms line = if nat_lt 8192 (length line.bytes) then Refused (codes "line too long") else judged_text ms (text_of line)
+unfoldable pub judged : Line → Judged
+judged line = if nat_lt 8192 (length line.bytes) then Refused (codes "line too long") else judged_text (text_of line)
 
 -- points that come before what was read
 abbrev pub with_points : List DataPoint → Result (List DataPoint) (ℕ × List ℕ) → Result (List DataPoint) (ℕ × List ℕ)
@@ -72,10 +71,10 @@ with_line (Refused text) number names rest = Err (number, text)
 
 -- the points of lines that are numbered from here, where these names have ids before them; or the number and text of the first line
 -- that is refused
-abbrev pub points_from : Bool → ℕ → Names → List Line → Result (List DataPoint) (ℕ × List ℕ)
-points_from ms number names [] = Ok []
-points_from ms number names (line ∷ lines) = with_line (judged ms line) number names (λ more. points_from ms (number + 1) more lines)
+abbrev pub points_from : ℕ → Names → List Line → Result (List DataPoint) (ℕ × List ℕ)
+points_from number names [] = Ok []
+points_from number names (line ∷ lines) = with_line (judged line) number names (λ more. points_from (number + 1) more lines)
 
 -- the points of an input, whose lines count from 1
-abbrev pub points_of : Bool → List ℕ → Result (List DataPoint) (ℕ × List ℕ)
-points_of ms input = points_from ms 1 no_names (lines_of input)
+abbrev pub points_of : List ℕ → Result (List DataPoint) (ℕ × List ℕ)
+points_of input = points_from 1 no_names (lines_of input)

@@ -1,27 +1,33 @@
--- The text of a query, as far as it is built.
-use Rattle.std.specs.Prelude.{ℕ, List, [], ◌++◌, codes, decimal, Result, Ok, Err, if◌then◌else◌}
-use Rattle.tsd_base.specs.declared.kinds.Aggregator.{Aggregator}
-use Rattle.query_text.specs.PlainSubs.{asks_more, m_of}
+-- The query of a command.
+use Rattle.std.specs.Prelude.{◌≡◌, ◌*◌, ◌≤◌, List, [], ◌∷◌, Result, Ok, Err}
+use Rattle.query_text.specs.Subs.{sub_of}
+use Rattle.query_text.specs.declared.queries.Query.{Query}
 use Rattle.query_text.specs.declared.queries.QueryFault.{QueryFault}
-use Rattle.query_text.specs.declared.queries.QueryFault.TheVariants.{BadM, UnknownAggregator, RateRefused, BadDownsample, BadFilter, OutOfMemory}
+use Rattle.query_text.specs.declared.queries.QueryFault.TheVariants.{OutOfMemory}
+use Rattle.query_text.specs.declared.queries.Sub.{Sub}
+use Rattle.query_run.specs.Queries.{CanDown}
+use Rattle.tsd_run.specs.Commands.{Batch}
 
--- an aggregator, and the metric whose series it makes one
-abbrev pub Asked : Type 0
-Asked = Aggregator × List ℕ
+-- one sub query over the range, with its times in milliseconds; those of the answer are told so with ms, and else in seconds
+abbrev pub query_of : Batch → Sub → Query
+query_of batch s = record { start = batch.start * 1000; end = batch.end * 1000; ms = batch.ms; subs = s ∷ [] }
 
--- what is told of a text that is no query; none wants memory
-abbrev pub fault_text : QueryFault → List ℕ
-fault_text (BadM at) = codes "bad query at byte " ++ decimal at
-fault_text UnknownAggregator = codes "unknown aggregator"
-fault_text RateRefused = codes "rate is not supported"
-fault_text BadDownsample = codes "bad downsample"
-fault_text (BadFilter index) = codes "bad filter " ++ decimal index
-fault_text OutOfMemory = []
+-- the query of a batch, whose text is a sub query
+pub record IsQueryOf (query : Query) (batch : Batch) : Type 0 where
+  pub sub : Sub
+  pub sub_is : sub_of batch.ms batch.query ≡ Ok sub
+  pub query_is : query ≡ query_of batch sub
 
-abbrev pub or_text : Result Asked QueryFault → Result Asked (List ℕ)
-or_text (Ok asked) = Ok asked
-or_text (Err fault) = Err (fault_text fault)
+-- the query of the batch, or why there is none; want of memory may always be told
+abbrev pub GivesQuery : Result Query QueryFault → Batch → Type 0
+GivesQuery (Ok query) batch = IsQueryOf query batch
+GivesQuery (Err OutOfMemory) batch = Unit {0}
+GivesQuery (Err fault) batch = sub_of batch.ms batch.query ≡ Err fault
 
--- what a text asks, or the text of its refusal
-abbrev pub asked_of : List ℕ → Result Asked (List ℕ)
-asked_of text = if asks_more text then Err (codes "not built") else or_text (m_of text)
+-- a query of one sub query that may be asked
+pub record CanAsk (query : Query) : Type 0 where
+  pub sub : Sub
+  pub subs_are : query.subs ≡ sub ∷ []
+  pub order : query.start ≤ query.end
+  pub most : query.end ≤ 4294967295000
+  pub down : CanDown query.ms sub

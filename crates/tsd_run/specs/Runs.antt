@@ -7,7 +7,8 @@ use Rattle.tsd_run.specs.declared.input.InputFault.{InputFault}
 use Rattle.tsd_run.specs.declared.input.InputFault.TheVariants.{Failed, Full, OutOfMemory}
 use Rattle.tsd_run.specs.declared.printed.Printed.{Printed}
 use Rattle.tsd_run.specs.Commands.{Batch}
-use Rattle.tsd_run.specs.Queries.{Asked, asked_of}
+use Rattle.query_text.specs.Subs.{sub_of}
+use Rattle.query_text.specs.declared.queries.Sub.{Sub}
 use Rattle.tsd_run.specs.Inputs.{IsUnrefused}
 use Rattle.tsd_run.specs.Outcomes.{Outcome, outcome}
 use Rattle.tsd_run.specs.Printing.{outcome_of}
@@ -21,12 +22,12 @@ Decides command input false o = (more : List ℕ) → outcome command (input ++ 
 pub record ReadsInput (command : Option Batch) : Type 0 where
   pub batch : Batch
   pub command_is : command ≡ Some batch
-  pub asked : Asked
-  pub query : asked_of batch.query ≡ Ok asked
+  pub sub : Sub
+  pub query : sub_of batch.ms batch.query ≡ Ok sub
 
 -- The input so far decides nothing: more of it is asked.
 abbrev pub AsksOn : Option Batch → List ℕ → Type 0
-AsksOn command input = (reads : ReadsInput command) × IsUnrefused reads.batch.ms input
+AsksOn command input = ReadsInput command × IsUnrefused input
 
 -- What was taken of the input, and whether its end came.
 pub record Taken (command : Option Batch) (taken taken' left left' : Option (List ℕ)) (input : List ℕ) (ended : Bool) : Type 0 where

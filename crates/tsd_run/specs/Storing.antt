@@ -1,5 +1,5 @@
 -- What one caller that steps alone did in a store that began empty.
-use Rattle.std.specs.Prelude.{◌≡◌, ◌↔◌, ℕ, Bool, true, false, List, length, Contains, Option, None, Some, Ok, Err}
+use Rattle.std.specs.Prelude.{◌≡◌, ◌↔◌, ℕ, true, List, length, Contains, Option, None, Some, Ok, Err}
 use Rattle.std.specs.List.{AllByRecursion, flat_map}
 use Rattle.std.specs.FinMap.{empty}
 use Rattle.tsd_base.specs.Alphabet.{IsName}
@@ -61,14 +61,9 @@ abbrev pub Notes : Seen → List (Kind × List ℕ) → Option Kind → Seen →
 Notes old ns None new = (names : Names) → IsNaming names old → (more : Names) × (noted_all names ns ≡ Ok more) × IsNaming more new
 Notes old ns (Some kind) new = (names : Names) → IsNaming names old → noted_all names ns ≡ Err kind
 
--- a point of names, in seconds unless ms tells that those in milliseconds are taken too
-pub record IsTaken (ms : Bool) (p : DataPoint) : Type 0 where
-  pub form : ms ≡ false → p.fine ≡ false
-  pub is_point : IsPoint p
-
 -- the names of the points have their ids, exactly the last points were put, and no cells were merged or dropped
-pub record IsStored (ms : Bool) (points : List DataPoint) (s : Seen) : Type 0 where
-  pub taken : AllByRecursion (IsTaken ms) points
+pub record IsStored (points : List DataPoint) (s : Seen) : Type 0 where
+  pub are_points : AllByRecursion IsPoint points
   pub names : Names
   pub noted : noted_all no_names (flat_map names_of points) ≡ Ok names
   pub by : IsAlone s

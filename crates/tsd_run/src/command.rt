@@ -11,8 +11,8 @@ use tsd_base::times::LAST_SECOND;
 pub const USAGE: &[u8] =
     b"usage: tsd batch START END M | stdio | serve PORT | import | dump | fsck | fix | weave SEED N\n";
 
-/// What `batch` is asked: a range of seconds, both ends included, the text of a query, and whether times are in
-/// milliseconds: those that are told, and those that points may have.
+/// What `batch` is asked: a range of seconds, both ends included, the text of a query, and whether times are told in
+/// milliseconds.
 #[derive(Clone, Copy, Drop)]
 pub struct Batch<'a> {
     pub start: u64,
@@ -50,7 +50,7 @@ pub fn read_command(words: &[String]) -> Option<Batch<'_>>
     }
 }
 
-/// Whether a word is the option by which times are in milliseconds.
+/// Whether a word is the option by which times are told in milliseconds.
 fn is_ms(word: &[u8]) -> bool
     ensures { result ≡ is_ms word.now }
 {

@@ -1,5 +1,5 @@
 //! The points of all lines, series by series and form by form, and the store that has their names.
-ghost use Rattle.std.specs.Prelude.{◌≡◌, [], ◌∷◌, Bool, false, Some, IfOk, OnOk, if◌then◌else◌};
+ghost use Rattle.std.specs.Prelude.{◌≡◌, [], ◌∷◌, Some, IfOk, OnOk, if◌then◌else◌};
 ghost use Rattle.std.specs.HashMap.{get};
 ghost use Rattle.tsd_base.specs.Points.{data_point};
 ghost use Rattle.tsd_run.specs.Gathering.{Gathers, AddsPoint};
@@ -27,7 +27,7 @@ pub struct Gathered {
 impl Gathered {
     /// Nothing was read. It fails only for want of memory.
     pub fn make(alloc: Global) -> Result<Gathered, AllocError>
-        ensures { IfOk result (λ gathered. (ms : Bool) → Gathers ms [] gathered) }
+        ensures { IfOk result (Gathers []) }
     {
         Ok(Gathered {
             store: empty(alloc)?,
@@ -38,7 +38,7 @@ impl Gathered {
     /// Reads one more point. The answer is a kind that has no id left for one of the point's names: that of the
     /// first such name. It fails only for want of memory.
     pub fn add(&mut self, alloc: Global, point: Point) -> Result<Option<Kind>, AllocError>
-        ensures { IfOk result (λ full. (ms : Bool) → (ms ≡ false → point.fine ≡ false) → AddsPoint ms self.old (data_point point) full self.new) }
+        ensures { IfOk result (λ full. AddsPoint self.old (data_point point) full self.new) }
     {
         let Point {
             metric,

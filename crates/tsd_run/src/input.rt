@@ -50,16 +50,14 @@ impl From<Failed> for InputFault {
     }
 }
 
-/// Reads lines to the end of the input, or to the first line that is refused, which is the answer. `ms` tells whether
-/// points in milliseconds are taken.
+/// Reads lines to the end of the input, or to the first line that is refused, which is the answer.
 pub fn read_points<S: Source>(
     alloc: Global,
     source: &mut S,
     gathered: &mut Gathered,
-    ms: bool,
 ) -> Result<Option<BadLine>, InputFault>
-    requires empty { Gathers ms [] gathered.old }
-    ensures reads { ReadsInputTo ms (S.taken source.old) (S.taken source.new) (S.left source.old) (S.left source.new) gathered.new result }
+    requires empty { Gathers [] gathered.old }
+    ensures reads { ReadsInputTo (S.taken source.old) (S.taken source.new) (S.left source.old) (S.left source.new) gathered.new result }
     ensures later { S.faults source.old ≤ S.faults source.new }
     ensures failed { result ≡ Err InputFault.Failed → Rose (S.faults source.old) (S.faults source.new) }
 {
@@ -67,7 +65,7 @@ pub fn read_points<S: Source>(
     let mut lines: u64 = 0;
     let mut taken: u64 = 0;
     loop {
-        if let Some(bad) = read_lines(alloc, &mut buffer, gathered, &mut lines, ms)? {
+        if let Some(bad) = read_lines(alloc, &mut buffer, gathered, &mut lines)? {
             return Ok(Some(bad));
         }
         if buffer.bytes().len() > LONGEST_LINE {
@@ -78,7 +76,7 @@ pub fn read_points<S: Source>(
         }
         let count = buffer.fill(source, LONGEST_INPUT - taken)?;
         if count == 0 {
-            return Ok(read_line(alloc, buffer.bytes(), false, lines + 1, gathered, ms)?);
+            return Ok(read_line(alloc, buffer.bytes(), false, lines + 1, gathered)?);
         }
         taken += count as u64;
     }
@@ -98,15 +96,14 @@ fn read_lines(
     buffer: &mut Buffer,
     gathered: &mut Gathered,
     lines: &mut u64,
-    ms: bool,
 ) -> Result<Option<BadLine>, AllocError>
     requires { lines.old + length buffer.old < 2 ^ 64 }
-    ensures reads { IfOk result (ReadsLines ms buffer.old buffer.new lines.old lines.new gathered.old gathered.new) }
+    ensures reads { IfOk result (ReadsLines buffer.old buffer.new lines.old lines.new gathered.old gathered.new) }
     ensures count { lines.new + length buffer.new ≤ lines.old + length buffer.old }
 {
     while let Some(end) = buffer.line_end() {
         let line = &buffer.bytes()[..end];
-        if let Some(bad) = read_line(alloc, line, true, *lines + 1, gathered, ms)? {
+        if let Some(bad) = read_line(alloc, line, true, *lines + 1, gathered)? {
             return Ok(Some(bad));
         }
         buffer.skip(end + 1);
@@ -122,11 +119,10 @@ fn read_line(
     ended: bool,
     number: u64,
     gathered: &mut Gathered,
-    ms: bool,
 ) -> Result<Option<BadLine>, AllocError>
-    ensures { IfOk result (ReadsLine ms (record { bytes = bytes.now; ended = ended }) number gathered.old gathered.new) }
+    ensures { IfOk result (ReadsLine (record { bytes = bytes.now; ended = ended }) number gathered.old gathered.new) }
 {
-    match judge(alloc, bytes, ended, ms)? {
+    match judge(alloc, bytes, ended)? {
         Judgement::Blank => Ok(None),
         Judgement::Taken { point } => match gathered.add(alloc, point)? {
             None => Ok(None),

@@ -2,7 +2,7 @@
 ghost use Rattle.std.specs.Prelude.{◌≡◌, IfOk};
 ghost use Rattle.tsd_run.specs.Lines.{judged, without_cr, is_blank};
 ghost use Rattle.tsd_run.specs.Lines.Judged.{Refused};
-ghost use Rattle.tsd_run.specs.Judgements.{judged_of, IsInForm};
+ghost use Rattle.tsd_run.specs.Judgements.{judged_of};
 
 use std::alloc::{AllocError, Global};
 use tsd_base::points::{Point, PointFault};
@@ -22,12 +22,10 @@ pub enum Judgement {
     Refused { text: Vec<u8> },
 }
 
-/// Judges a line of these bytes, of which an LF followed or not; `ms` tells whether points in milliseconds are taken.
-/// It fails only for want of memory.
+/// Judges a line of these bytes, of which an LF followed or not. It fails only for want of memory.
 #[tactic(auto, unfolding(crate::specs::Lines::judged))]
-pub fn judge(alloc: Global, bytes: &[u8], ended: bool, ms: bool) -> Result<Judgement, AllocError>
-    ensures judged { IfOk result (λ judgement. judged_of judgement ≡ judged ms (record { bytes = bytes.now; ended = ended })) }
-    ensures form { IfOk result (IsInForm ms) }
+pub fn judge(alloc: Global, bytes: &[u8], ended: bool) -> Result<Judgement, AllocError>
+    ensures { IfOk result (λ judgement. judged_of judgement ≡ judged (record { bytes = bytes.now; ended = ended })) }
 {
     if bytes.len() > LONGEST_LINE {
         return refused(alloc, b"line too long");
@@ -37,7 +35,6 @@ pub fn judge(alloc: Global, bytes: &[u8], ended: bool, ms: bool) -> Result<Judge
         return Ok(Judgement::Blank);
     }
     match read_point(alloc, text) {
-        Ok(point) if point.fine && !ms => refused(alloc, b"not built"),
         Ok(point) => Ok(Judgement::Taken { point }),
         Err(PointFault::OutOfMemory) => Err(AllocError),
         Err(fault) => {

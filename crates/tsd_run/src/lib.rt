@@ -11,6 +11,7 @@ mod naming;
 mod printed;
 mod putting;
 mod query;
+mod refusal;
 mod reply;
 pub mod run;
 mod settling;

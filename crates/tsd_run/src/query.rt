@@ -1,60 +1,41 @@
 //! The query of a batch.
-ghost use Rattle.std.specs.Prelude.{◌≡◌, ◌≤◌, ◌*◌};
+ghost use Rattle.std.specs.Prelude.{◌≡◌, ◌≤◌, ◌*◌, [], ◌∷◌, IfOk};
 ghost use Rattle.tsd_run.specs.Batches.{plain_batch};
-ghost use Rattle.tsd_run.specs.QueriesRead.{GivesQuery};
+ghost use Rattle.tsd_run.specs.Queries.{CanAsk, GivesQuery};
 
 use crate::command::Batch;
-use query_text::queries::{QueryFault, Sub};
-use query_text::subs::{asks_more, read_m};
-use std::alloc::Global;
+use query_text::queries::{Query, QueryFault, Sub, SubList};
+use query_text::subs::read_m;
+use std::alloc::{AllocError, Global};
 
-/// A sub query over a range of times, in milliseconds, both ends included. Its answer tells times in milliseconds or in
-/// seconds.
-#[derive(Drop)]
-pub struct Query {
-    pub sub: Sub,
-    pub start: u64,
-    pub end: u64,
-    pub ms: bool,
-}
-
-/// Why there is no query.
-#[derive(Clone, Copy, Debug, PartialEq, Eq)]
-pub enum NoQuery {
-    /// The text asks for what isn't built yet.
-    NotBuilt,
-    /// The text is no query, or there was no memory for it.
-    Refused { fault: QueryFault },
-}
-
-/// Reads the query of a batch.
-pub fn read_query(alloc: Global, batch: &Batch<'_>) -> Result<Query, NoQuery>
-    requires start { batch.now.start ≤ 4294967295 }
+/// Reads the query of a batch: one sub query over its range. It answers why its text is none.
+pub fn read_query(alloc: Global, batch: &Batch<'_>) -> Result<Query, QueryFault>
+    requires range { batch.now.start ≤ batch.now.end }
     requires end { batch.now.end ≤ 4294967295 }
-    ensures { GivesQuery result (plain_batch batch.now) }
+    ensures gives { GivesQuery result (plain_batch batch.now) }
+    ensures can { IfOk result CanAsk }
 {
-    if asks_more(batch.query) {
-        return Err(NoQuery::NotBuilt);
-    }
-    match read_m(alloc, batch.query, false) {
-        Ok(sub) => Ok(query_of(sub, batch)),
-        Err(fault) => Err(NoQuery::Refused { fault }),
+    match read_m(alloc, batch.query, batch.ms) {
+        Ok(sub) => Ok(query_of(alloc, sub, batch)?),
+        Err(fault) => Err(fault),
     }
 }
 
-/// The sub query over the range of a batch.
-fn query_of(sub: Sub, batch: &Batch<'_>) -> Query
+/// The query of this sub query over the range of a batch.
+fn query_of(alloc: Global, sub: Sub, batch: &Batch<'_>) -> Result<Query, AllocError>
     requires start { batch.now.start ≤ 4294967295 }
     requires end { batch.now.end ≤ 4294967295 }
-    ensures sub { result.sub ≡ sub }
-    ensures start { result.start ≡ batch.now.start * 1000 }
-    ensures end { result.end ≡ batch.now.end * 1000 }
-    ensures ms { result.ms ≡ batch.now.ms }
+    ensures start { IfOk result (λ query. query.start ≡ batch.now.start * 1000) }
+    ensures end { IfOk result (λ query. query.end ≡ batch.now.end * 1000) }
+    ensures ms { IfOk result (λ query. query.ms ≡ batch.now.ms) }
+    ensures subs { IfOk result (λ query. query.subs ≡ sub ∷ []) }
 {
-    Query {
-        sub,
+    let mut subs = Vec::new(alloc);
+    subs.push(sub)?;
+    Ok(Query {
         start: batch.start * 1000,
         end: batch.end * 1000,
         ms: batch.ms,
-    }
+        subs: SubList::of(subs),
+    })
 }

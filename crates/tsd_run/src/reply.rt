@@ -3,11 +3,10 @@ ghost use Rattle.std.specs.Prelude.{◌≡◌, map, All, IfOk, Ok};
 ghost use Rattle.json_reply.specs.Replies.{IsReady, plain};
 ghost use Rattle.tsd_run.specs.Outcomes.{replied};
 ghost use Rattle.tsd_run.specs.Printing.{outcome_of};
-ghost use Rattle.tsd_run.specs.Replying.{told_in};
 
 use crate::printed::Printed;
 use crate::status::Status;
-use json_reply::reply::{Group, Reply, reply_text};
+use json_reply::reply::{Reply, reply_text};
 use std::alloc::{AllocError, Global};
 
 /// The array of a reply's groups, as a line. It fails only for want of memory.
@@ -21,13 +20,4 @@ pub fn printed_reply(alloc: Global, reply: &Reply) -> Result<Printed, AllocError
         status: Status::Done,
         text,
     })
-}
-
-/// Has the times of all groups told in milliseconds or in seconds.
-pub fn tell_in(groups: &mut Vec<Group>, ms: bool)
-    ensures { groups.new.items ≡ map (told_in ms) groups.old.items }
-{
-    for group in groups.iter_mut() {
-        group.ms = ms;
-    }
 }

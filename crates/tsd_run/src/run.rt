@@ -1,33 +1,34 @@
 //! The top call: everything that the program does.
-ghost use Rattle.std.specs.Prelude.{◌≡◌, ◌≢◌, ◌≤◌, ◌++◌, map, string_bytes, Some, Err, IfOk, IsOk, OnOk};
-ghost use Rattle.query_run.specs.Queries.{IsPlain};
+ghost use Rattle.std.specs.Prelude.{◌≡◌, ◌≤◌, map, string_bytes, Some, Err, IfOk};
 ghost use Rattle.tsd_io.specs.Causes.{Rose};
 ghost use Rattle.tsd_run.specs.Batches.{plain_batch};
+ghost use Rattle.tsd_run.specs.Commands as plain;
 ghost use Rattle.tsd_run.specs.Commands.{command_of, usage_line};
 ghost use Rattle.tsd_run.specs.Outcomes.{refused_line};
 ghost use Rattle.tsd_run.specs.Printing.{outcome_of};
-ghost use Rattle.tsd_run.specs.Queries.{fault_text};
+ghost use Rattle.tsd_run.specs.Queries.{CanAsk, IsQueryOf};
 ghost use Rattle.tsd_run.specs.Runs.{Runs, Works};
-ghost use Rattle.tsd_run.specs.Working.{RefusesQuery, WorksQuery};
 
 use crate::answer::answer;
 use crate::command::{Batch, USAGE, read_command};
 use crate::gathered::Gathered;
 use crate::input::{BadLine, InputFault, read_points};
 use crate::printed::{Printed, push_number};
-use crate::query::{NoQuery, Query, read_query};
+use crate::query::read_query;
+use crate::refusal::bad_query;
 use crate::status::Status;
-use query_text::queries::QueryFault;
+use query_text::queries::Query;
 use std::alloc::{AllocError, Global};
 use tsd_io::give_all::give_all;
 use tsd_io::ports::{Failed, Sink, Source};
 
 /// Runs the command that the words ask for, over an input and an output.
 ///
-/// `batch START END M [--ms]` reads points, one a line, to the end of the input, and prints the answer of the query M
+/// `batch START END M [--ms]` reads points, one a line, to the end of the input, and prints the answer of the sub query M
 /// over the seconds from START to END as one JSON array, with times in seconds, or in milliseconds with `--ms`. Words
 /// that are no command print the usage line. The first thing that is wrong is told: the words, then the query, then the
-/// first line that is refused, then an unknown metric, two values of one series at one time, or a sum outside `i64`.
+/// first line that is refused, then too many buckets, a name that no point has, two values of one series at one time, or
+/// a sum outside `i64`.
 pub fn run<S: Source, K: Sink>(
     alloc: Global,
     words: &[String],
@@ -89,57 +90,22 @@ fn run_batch<S: Source>(
     ensures failed { result ≡ Err InputFault.Failed → Rose (S.faults input.old) (S.faults input.new) }
 {
     match read_query(alloc, batch) {
-        Ok(query) => run_query(alloc, query, input),
+        Ok(query) => run_query(alloc, &query, input),
         Err(fault) => Ok(bad_query(alloc, fault)?),
     }
 }
 
-/// Reads the points of the input, and answers the query.
-fn run_query<S: Source>(alloc: Global, query: Query, input: &mut S) -> Result<Printed, InputFault>
-    requires plain { IsPlain query.sub }
-    requires range { query.start ≤ query.end }
-    requires end { query.end ≤ 4294967295000 }
-    ensures works { WorksQuery query (S.taken input.old) (S.taken input.new) (S.left input.old) (S.left input.new) result }
+/// Reads the points of the input, and answers the query of a batch.
+fn run_query<S: Source>(alloc: Global, query: &Query, input: &mut S) -> Result<Printed, InputFault>
+    requires can { CanAsk query.now }
+    ensures works { (batch : plain.Batch) → IsQueryOf query.now batch → Works (Some batch) (S.taken input.old) (S.taken input.new) (S.left input.old) (S.left input.new) result }
     ensures later { S.faults input.old ≤ S.faults input.new }
     ensures failed { result ≡ Err InputFault.Failed → Rose (S.faults input.old) (S.faults input.new) }
 {
     let mut gathered = Gathered::make(alloc)?;
-    match read_points(alloc, input, &mut gathered, query.ms)? {
+    match read_points(alloc, input, &mut gathered)? {
         Some(bad) => Ok(bad_line(alloc, &bad)?),
         None => Ok(answer(alloc, query, gathered)?),
-    }
-}
-
-/// The refusal of a query.
-fn bad_query(alloc: Global, fault: NoQuery) -> Result<Printed, AllocError>
-    ensures { IfOk result (RefusesQuery fault) }
-{
-    let mut text = Vec::from_slice(alloc, b"query: ")?;
-    match fault {
-        NoQuery::NotBuilt => text.extend_from_slice(b"not built")?,
-        NoQuery::Refused { fault } => push_fault(&mut text, fault)?,
-    }
-    Printed::refused(text)
-}
-
-/// Adds the text of a fault. Want of memory has none, and fails.
-fn push_fault(text: &mut Vec<u8>, fault: QueryFault) -> Result<(), AllocError>
-    ensures text { OnOk result (text.new.items ≡ text.old.items ++ fault_text fault) }
-    ensures told { IsOk result → fault ≢ QueryFault.OutOfMemory }
-{
-    match fault {
-        QueryFault::BadM { at } => {
-            text.extend_from_slice(b"bad query at byte ")?;
-            push_number(text, at as u64)
-        }
-        QueryFault::UnknownAggregator => text.extend_from_slice(b"unknown aggregator"),
-        QueryFault::RateRefused => text.extend_from_slice(b"rate is not supported"),
-        QueryFault::BadDownsample => text.extend_from_slice(b"bad downsample"),
-        QueryFault::BadFilter { index } => {
-            text.extend_from_slice(b"bad filter ")?;
-            push_number(text, index as u64)
-        }
-        QueryFault::OutOfMemory => Err(AllocError),
     }
 }
 

@@ -72,12 +72,14 @@ fn other_words_print_the_usage(rt: HostRuntime) -> Result<(), Fail> {
 
 #[test]
 fn queries_are_refused_before_lines(rt: HostRuntime) -> Result<(), Fail> {
-    let cases: [(&str, &[u8]); 11] = [
+    let cases: [(&str, &[u8]); 13] = [
         ("batch;1;10;foo:m", b"query: unknown aggregator\n"),
         ("batch;1;10;foo:rate:m", b"query: unknown aggregator\n"),
         ("batch;1;10;Sum:m", b"query: unknown aggregator\n"),
-        ("batch;1;10;sum:rate:m", b"query: not built\n"),
-        ("batch;1;10;zimsum:m{h=a}", b"query: not built\n"),
+        ("batch;1;10;sum:rate:m", b"query: rate is not supported\n"),
+        ("batch;1;10;sum:10ms-avg:m", b"query: bad downsample\n"),
+        ("batch;1;10;sum:m{h=a,k}", b"query: bad filter 1\n"),
+        ("batch;1;10;sum:m{h=a", b"query: bad query at byte 9\n"),
         ("batch;1;10;zimsum", b"query: bad query at byte 6\n"),
         ("batch;1;10;foo{a=b}", b"query: bad query at byte 3\n"),
         ("batch;1;10;zimsum:", b"query: bad query at byte 7\n"),
@@ -100,7 +102,7 @@ fn queries_are_refused_before_lines(rt: HostRuntime) -> Result<(), Fail> {
 
 #[test]
 fn the_first_bad_line_is_told(rt: HostRuntime) -> Result<(), Fail> {
-    let cases: [(&[u8], &[u8]); 14] = [
+    let cases: [(&[u8], &[u8]); 12] = [
         (
             b"m 1356998400 1 h=a h=b\n",
             b"line 1: two values for tagk h\n",
@@ -114,8 +116,6 @@ fn the_first_bad_line_is_told(rt: HostRuntime) -> Result<(), Fail> {
             b"m 1356998400 1 =a\n",
             b"line 1: tag 1: tagk name is empty\n",
         ),
-        (b"m 1356998400000 1 h=a\n", b"line 1: not built\n"),
-        (b"m 1356998400.250 1 h=a\n", b"line 1: not built\n"),
         (
             b"\n  \n\r\nm 1\n",
             b"line 4: not enough words (4 needed, 2 found)\n",
@@ -329,7 +329,7 @@ fn two_values_at_one_time_are_told(rt: HostRuntime) -> Result<(), Fail> {
         (
             "batch;100;100;sum:m",
             b"m 100 1 h=a\nm 0000000100.000 2 h=a\n",
-            b"line 2: not built\n",
+            b"query: two values at 100000: 1 and 2\n",
         ),
     ];
     for (words, input, output) in cases {
@@ -395,6 +395,222 @@ fn queries_are_refused_over_their_points(rt: HostRuntime) -> Result<(), Fail> {
         b"query: overflow at 1356998400000\n",
         Status::Refused,
     )
+}
+
+#[test]
+fn sub_queries_are_answered_whole(rt: HostRuntime) -> Result<(), Fail> {
+    let input: &[u8] = b"m 60 1 h=a\nm 0000000060.500 4 h=a\nm 119 3 h=b\n";
+    let cases: [(&str, &[u8]); 6] = [
+        // Times in both forms, told in seconds.
+        (
+            "batch;60;119;zimsum:m",
+            b"[{\"aggregateTags\":[\"h\"],\"dps\":{\"119\":3,\"60\":5},\"metric\":\"m\",\"tags\":{}}]\n",
+        ),
+        (
+            "batch;60;119;sum:1m-max:m",
+            b"[{\"aggregateTags\":[\"h\"],\"dps\":{\"60\":7},\"metric\":\"m\",\"tags\":{}}]\n",
+        ),
+        (
+            "batch;60;119;sum:1m-avg:m{h=*}",
+            b"[{\"aggregateTags\":[],\"dps\":{\"60\":2},\"metric\":\"m\",\"tags\":{\"h\":\"a\"}},{\"aggregateTags\":[],\"dps\":{\"60\":3},\"metric\":\"m\",\"tags\":{\"h\":\"b\"}}]\n",
+        ),
+        (
+            "batch;60;180;sum:1m-count-zero:m{}{h=not_literal_or(a)}",
+            b"[{\"aggregateTags\":[],\"dps\":{\"120\":0,\"180\":0,\"60\":1},\"metric\":\"m\",\"tags\":{\"h\":\"b\"}}]\n",
+        ),
+        (
+            "batch;60;60;sum:10ms-sum:m;--ms",
+            b"[{\"aggregateTags\":[],\"dps\":{\"60000\":1},\"metric\":\"m\",\"tags\":{\"h\":\"a\"}}]\n",
+        ),
+        ("batch;61;62;sum:m{h=a|b}", b"[]\n"),
+    ];
+    for (words, output) in cases {
+        expect(&rt, rt.alloc(), words, input, output, Status::Done)?;
+    }
+    Ok(())
+}
+
+#[test]
+fn the_first_cause_is_told(rt: HostRuntime) -> Result<(), Fail> {
+    let input: &[u8] = b"m 1 1 h=a\nm 0000000001.000 2 h=a\nm 2 1 h=b\n";
+    let cases: [(&str, &[u8]); 5] = [
+        (
+            "batch;0;1000000;sum:1s-sum-zero:n",
+            b"query: 1000001 buckets (1000000 at most)\n",
+        ),
+        (
+            "batch;0;999999;sum:1s-sum-zero:n",
+            b"query: unknown metric n\n",
+        ),
+        ("batch;0;9;sum:m{k=b}", b"query: unknown tagk k\n"),
+        ("batch;0;9;sum:m{h=a|m}", b"query: unknown tagv m\n"),
+        (
+            "batch;0;9;sum:m{h=a}",
+            b"query: two values at 1000: 1 and 2\n",
+        ),
+    ];
+    for (words, output) in cases {
+        expect(&rt, rt.alloc(), words, input, output, Status::Refused)?;
+    }
+    // A clash is told of the series that pass alone.
+    expect(
+        &rt,
+        rt.alloc(),
+        "batch;0;9;sum:m{h=b}",
+        input,
+        b"[{\"aggregateTags\":[],\"dps\":{\"2\":1},\"metric\":\"m\",\"tags\":{\"h\":\"b\"}}]\n",
+        Status::Done,
+    )
+}
+
+#[test]
+fn worked_queries_are_answered(rt: HostRuntime) -> Result<(), Fail> {
+    let cases: [(&str, &[u8], &[u8]); 17] = [
+        (
+            "batch;1356998400;1356998410;sum:m",
+            b"m 1356998400 10 h=a\nm 1356998405 7 h=b\nm 1356998410 20 h=a\n",
+            b"[{\"aggregateTags\":[\"h\"],\"dps\":{\"1356998400\":10,\"1356998405\":22,\"1356998410\":20},\"metric\":\"m\",\"tags\":{}}]\n",
+        ),
+        (
+            "batch;1356998400;1356998410;count:m",
+            b"m 1356998400 10 h=a\nm 1356998405 7 h=b\nm 1356998410 20 h=a\n",
+            b"[{\"aggregateTags\":[\"h\"],\"dps\":{\"1356998400\":1,\"1356998405\":1,\"1356998410\":1},\"metric\":\"m\",\"tags\":{}}]\n",
+        ),
+        (
+            "batch;1356998400;1356998410;none:m",
+            b"m 1356998400 10 h=a\nm 1356998405 7 h=b\nm 1356998410 20 h=a\n",
+            b"[{\"aggregateTags\":[],\"dps\":{\"1356998400\":10,\"1356998410\":20},\"metric\":\"m\",\"tags\":{\"h\":\"a\"}},{\"aggregateTags\":[],\"dps\":{\"1356998405\":7},\"metric\":\"m\",\"tags\":{\"h\":\"b\"}}]\n",
+        ),
+        (
+            "batch;1356998400;1356998403;sum:m",
+            b"m 1356998400 0 h=a\nm 1356998403 -1 h=a\nm 1356998401 0 h=b\nm 1356998402 0 h=b\nn 1356998400 -3 h=a\nn 1356998400 0 h=b\n",
+            b"[{\"aggregateTags\":[\"h\"],\"dps\":{\"1356998400\":0,\"1356998401\":0,\"1356998402\":0,\"1356998403\":-1},\"metric\":\"m\",\"tags\":{}}]\n",
+        ),
+        (
+            "batch;1356998400;1356998400;avg:n",
+            b"m 1356998400 0 h=a\nm 1356998403 -1 h=a\nm 1356998401 0 h=b\nm 1356998402 0 h=b\nn 1356998400 -3 h=a\nn 1356998400 0 h=b\n",
+            b"[{\"aggregateTags\":[\"h\"],\"dps\":{\"1356998400\":-1},\"metric\":\"n\",\"tags\":{}}]\n",
+        ),
+        (
+            "batch;1356998400;1356998400;max:m",
+            b"m 1356998400 9223372036854775807 h=a\nm 1356998400 9223372036854775807 h=b\n",
+            b"[{\"aggregateTags\":[\"h\"],\"dps\":{\"1356998400\":9223372036854775807},\"metric\":\"m\",\"tags\":{}}]\n",
+        ),
+        (
+            "batch;1357002000;1357002000;sum:m",
+            b"m 1356998400 5 h=a\nm 1356998400000 6 h=a\nm 1357002000 9 h=a\n",
+            b"[{\"aggregateTags\":[],\"dps\":{\"1357002000\":9},\"metric\":\"m\",\"tags\":{\"h\":\"a\"}}]\n",
+        ),
+        (
+            "batch;1356998405;1356998420;sum:m",
+            b"m 1356998400 5 h=a\nm 1356998400000 6 h=a\nm 1356998410 9 h=a\n",
+            b"[{\"aggregateTags\":[],\"dps\":{\"1356998410\":9},\"metric\":\"m\",\"tags\":{\"h\":\"a\"}}]\n",
+        ),
+        (
+            "batch;1356998400;1356998400;sum:m",
+            b"m 1356998400 5 h=a\nm 1356998400000 5 h=a\n",
+            b"[{\"aggregateTags\":[],\"dps\":{\"1356998400\":5},\"metric\":\"m\",\"tags\":{\"h\":\"a\"}}]\n",
+        ),
+        (
+            "batch;1356998402;1356998435;sum:10s-sum-zero:m",
+            b"m 1356998403 5 h=a\nm 1356998427 6 h=a\n",
+            b"[{\"aggregateTags\":[],\"dps\":{\"1356998400\":5,\"1356998410\":0,\"1356998420\":6,\"1356998430\":0},\"metric\":\"m\",\"tags\":{\"h\":\"a\"}}]\n",
+        ),
+        (
+            "batch;1356998400;1356998401;sum:m",
+            b"m 1356998400.100 3 h=a\nm 1356998400.900 4 h=a\n",
+            b"[{\"aggregateTags\":[],\"dps\":{\"1356998400\":7},\"metric\":\"m\",\"tags\":{\"h\":\"a\"}}]\n",
+        ),
+        (
+            "batch;1356998400;1356998401;max:m",
+            b"m 1356998400.100 3 h=a\nm 1356998400.900 4 h=a\n",
+            b"[{\"aggregateTags\":[],\"dps\":{\"1356998400\":4},\"metric\":\"m\",\"tags\":{\"h\":\"a\"}}]\n",
+        ),
+        (
+            "batch;1356998400;1356998401;none:m",
+            b"m 1356998400.100 3 h=a\nm 1356998400.900 4 h=a\n",
+            b"[{\"aggregateTags\":[],\"dps\":{\"1356998400\":4},\"metric\":\"m\",\"tags\":{\"h\":\"a\"}}]\n",
+        ),
+        (
+            "batch;1356998400;1356998401;sum:m;--ms",
+            b"m 1356998400.100 3 h=a\nm 1356998400.900 4 h=a\n",
+            b"[{\"aggregateTags\":[],\"dps\":{\"1356998400100\":3,\"1356998400900\":4},\"metric\":\"m\",\"tags\":{\"h\":\"a\"}}]\n",
+        ),
+        (
+            "batch;1356998400;1356998400;sum:m",
+            b"m 1356998400 1 dc=x host=a\nm 1356998400 2 dc=x host=b\n",
+            b"[{\"aggregateTags\":[\"host\"],\"dps\":{\"1356998400\":3},\"metric\":\"m\",\"tags\":{\"dc\":\"x\"}}]\n",
+        ),
+        (
+            "batch;1356998400;1356998400;sum:m{host=*}",
+            b"m 1356998400 1 dc=x host=a\nm 1356998400 2 dc=x host=b\n",
+            b"[{\"aggregateTags\":[],\"dps\":{\"1356998400\":1},\"metric\":\"m\",\"tags\":{\"dc\":\"x\",\"host\":\"a\"}},{\"aggregateTags\":[],\"dps\":{\"1356998400\":2},\"metric\":\"m\",\"tags\":{\"dc\":\"x\",\"host\":\"b\"}}]\n",
+        ),
+        (
+            "batch;1356998400;1356998400;zimsum:m",
+            b"m 1356998400 5 h=a\nm 1356998400 300 h=a\n",
+            b"[{\"aggregateTags\":[],\"dps\":{\"1356998400\":300},\"metric\":\"m\",\"tags\":{\"h\":\"a\"}}]\n",
+        ),
+    ];
+    for (words, input, output) in cases {
+        expect(&rt, rt.alloc(), words, input, output, Status::Done)?;
+    }
+    Ok(())
+}
+
+#[test]
+fn worked_queries_are_refused(rt: HostRuntime) -> Result<(), Fail> {
+    let cases: [(&str, &[u8], &[u8]); 9] = [
+        (
+            "batch;1356998400;1356998400;sum:m",
+            b"m 1356998400 9223372036854775807 h=a\nm 1356998400 9223372036854775807 h=b\n",
+            b"query: overflow at 1356998400000\n",
+        ),
+        (
+            "batch;1356998400;1356998400;sum:m",
+            b"m 1356998400 5 h=a\nm 1356998400000 6 h=a\n",
+            b"query: two values at 1356998400000: 5 and 6\n",
+        ),
+        (
+            "batch;1356998400;1357998400;sum:1s-sum-zero:m",
+            b"m 1356998403 5 h=a\nm 1356998427 6 h=a\n",
+            b"query: 1000001 buckets (1000000 at most)\n",
+        ),
+        (
+            "batch;1356998400;1356998400;sum:m{rack=1}",
+            b"m 1356998400 1 dc=x host=a\nm 1356998400 2 dc=x host=b\n",
+            b"query: unknown tagk rack\n",
+        ),
+        (
+            "batch;1356998400;1356998400;sum:rate:m",
+            b"",
+            b"query: rate is not supported\n",
+        ),
+        (
+            "batch;1356998400;1356998400;sum:10x-avg:m",
+            b"",
+            b"query: bad downsample\n",
+        ),
+        (
+            "batch;1356998400;1356998400;sum:m{host}",
+            b"",
+            b"query: bad filter 0\n",
+        ),
+        (
+            "batch;1356998400;1356998400;sum",
+            b"",
+            b"query: bad query at byte 3\n",
+        ),
+        (
+            "batch;1356998400;1356998400;sum:m{a=b}x",
+            b"",
+            b"query: bad query at byte 10\n",
+        ),
+    ];
+    for (words, input, output) in cases {
+        expect(&rt, rt.alloc(), words, input, output, Status::Refused)?;
+    }
+    Ok(())
 }
 
 #[test]

@@ -7,7 +7,7 @@ use Rattle.query_text.specs.declared.queries.Sub.{Sub}
 use Rattle.query_run.specs.declared.fault.AskFault.TheVariants.{OutOfMemory}
 use Rattle.query_run.specs.Queries.{QuerySays}
 use Rattle.query_run.proofs.NameReads.{passed_on}
-use Rattle.query_run.proofs.AllSubs.{progress_none, all_done, done_more, one_refused, refused_short, no_room, cut_at, at_subs, all_answered, all_short}
+use Rattle.query_run.proofs.AllSubs.{progress_none, all_done, done_more, one_refused, no_room, cut_at, at_subs, all_answered}
 use Rattle.query_run.proofs.asking.ask.Goals as goal
 
 pub loop-sub-init : goal.loop-sub-init
@@ -25,13 +25,6 @@ returns-in_err-more-clause-says g c =
     passed_on (λ r. QuerySays c.args.query.now (g.R.Rows.seen c.args.names.now) r (g.R.Rows.seen c.work.new.names)) c.in_err-more.field-0.0 c.from_residual.result c.from_residual.ensures.1
     (one_refused c.args.query.now c.sub-item.result _ _ _ (take i subs) (drop (suc i) subs) _ c.in_err-more.field-0.0 (cut_at c.args.query.now subs i c.sub-item.result refl w.0 w.1) c.loop-sub.invariant.progress c.in_err-more.ensures.says)
 
-pub returns-in_err-more-clause-few : goal.returns-in_err-more-clause-few
-returns-in_err-more-clause-few g c =
-    let subs = c.args.query.now.subs in
-    let i = c.loop-sub.sub-index in
-    let w = at_subs subs c.list-sub-items.result.now i c.sub-item.result c.list-sub-items.ensures c.loop-sub-test.true c.sub-item.is in
-    refused_short c.args.query.now c.sub-item.result _ _ _ (take i subs) (drop (suc i) subs) _ c.in_err-more.field-0.0 (cut_at c.args.query.now subs i c.sub-item.result refl w.0 w.1) c.loop-sub.invariant.progress c.in_err-more.ensures.says
-
 pub returns-in_err-add-clause-says : goal.returns-in_err-add-clause-says
 returns-in_err-add-clause-says g c =
     let subs = c.args.query.now.subs in
@@ -39,13 +32,6 @@ returns-in_err-add-clause-says g c =
     let w = at_subs subs c.list-sub-items.result.now i c.sub-item.result c.list-sub-items.ensures c.loop-sub-test.true c.sub-item.is in
     passed_on (λ r. QuerySays c.args.query.now (g.R.Rows.seen c.args.names.now) r (g.R.Rows.seen c.work.new.names)) OutOfMemory c.from_residual-in_err-add.result c.from_residual-in_err-add.ensures.1
     (one_refused c.args.query.now c.sub-item.result _ _ _ (take i subs) (drop (suc i) subs) _ OutOfMemory (cut_at c.args.query.now subs i c.sub-item.result refl w.0 w.1) c.loop-sub.invariant.progress (no_room c.args.query.now c.sub-item.result _ _ _ c.in_ok-more.ensures.says))
-
-pub returns-in_err-add-clause-few : goal.returns-in_err-add-clause-few
-returns-in_err-add-clause-few g c =
-    let subs = c.args.query.now.subs in
-    let i = c.loop-sub.sub-index in
-    let w = at_subs subs c.list-sub-items.result.now i c.sub-item.result c.list-sub-items.ensures c.loop-sub-test.true c.sub-item.is in
-    refused_short c.args.query.now c.sub-item.result _ _ _ (take i subs) (drop (suc i) subs) _ OutOfMemory (cut_at c.args.query.now subs i c.sub-item.result refl w.0 w.1) c.loop-sub.invariant.progress (no_room c.args.query.now c.sub-item.result _ _ _ c.in_ok-more.ensures.says)
 
 pub loop-sub-preserved : goal.loop-sub-preserved
 loop-sub-preserved g c =
@@ -60,6 +46,3 @@ loop-sub-preserved g c =
 
 pub returns-clause-says : goal.returns-clause-says
 returns-clause-says g c = all_answered c.args.query.now _ _ _ (all_done c.args.query.now _ _ c.args.query.now.subs c.loop-sub.sub-index _ refl (subst (λ (l : List Sub). length l ≤ c.loop-sub.sub-index) c.list-sub-items.ensures c.loop-sub-test.false) c.loop-sub.invariant.progress)
-
-pub returns-clause-few : goal.returns-clause-few
-returns-clause-few g c = all_short c.args.query.now _ _ _ (all_done c.args.query.now _ _ c.args.query.now.subs c.loop-sub.sub-index _ refl (subst (λ (l : List Sub). length l ≤ c.loop-sub.sub-index) c.list-sub-items.ensures c.loop-sub-test.false) c.loop-sub.invariant.progress)

@@ -1,25 +1,49 @@
-use Rattle.std.proofs.Common.{◌≡◌, ◌≢◌, ◌≤◌, true, length, sym, subst, rules}
-use Rattle.tsd_base.specs.declared.kinds.Aggregator.TheVariants.{NoneOf}
+use Rattle.std.proofs.Common.{Err, length, map, All, sym, ap, subst, ◌∙◌}
+use Rattle.std.proofs.lemmas.List.Elements.{All-push}
+use Rattle.json_reply.specs.Replies.{IsReady}
+use Rattle.query_run.specs.Grouping.{GivesGroups, group_with, members_in}
 use Rattle.query_run.specs.Answers.{answer}
-use Rattle.query_run.specs.Grouping.{GivesGroups}
 use Rattle.query_run.specs.Series.{points_in}
-use Rattle.query_run.proofs.SeriesLemmas.{answer_none, answer_alone, answer_together, no_series}
+use Rattle.query_run.proofs.GroupLemmas.{done, goes_on, fails, values, value_here, value_later}
+use Rattle.query_run.proofs.NameReads.{passed_on}
+use Rattle.query_run.proofs.SeriesLemmas.{answer_groups, members_early, members_alone}
 use Rattle.query_run.proofs.grouping.groups_of.Goals as goal
 
-pub returns-then-is_empty-clause-answers : goal.returns-then-is_empty-clause-answers
-returns-then-is_empty-clause-answers c =
-    let none : length c.args.series.items ≡ 0 = search rules in
-    rw c.new.ensures.items
-    (answer_none c.args.metric.now c.args.series.items c.requires.rising c.requires.some c.args.how (no_series c.args.series.items none))
+pub group_with-requires-clause-times : goal.group_with-requires-clause-times
+group_with-requires-clause-times c =
+    members_early c.args.sub.now c.args.series.items c.requires.times c.in-Some.members.items
+    (c.loop-members.invariant.within c.in-Some.members.items (value_here c.loop-members.members-iterator (c.in-Some.field-0-0, c.in-Some.members) c.next.new.self c.in-Some.ensures.steps))
 
-pub returns-then-eq-clause-answers : goal.returns-then-eq-clause-answers
-returns-then-eq-clause-answers c =
-    let how : c.args.how ≡ NoneOf = search rules in
-    subst (λ h. GivesGroups c.each_alone.result (answer true h c.args.metric.now (points_in c.args.metric.now c.args.series.items))) (sym how)
-    (subst (GivesGroups c.each_alone.result) (sym (answer_alone c.args.metric.now c.args.series.items c.requires.rising c.requires.some)) c.each_alone.ensures.answers)
+pub group_with-requires-clause-alone : goal.group_with-requires-clause-alone
+group_with-requires-clause-alone c = λ none.
+    members_alone c.args.sub.now c.args.series.items c.requires.rising none c.in-Some.members.items
+    (c.loop-members.invariant.within c.in-Some.members.items (value_here c.loop-members.members-iterator (c.in-Some.field-0-0, c.in-Some.members) c.next.new.self c.in-Some.ensures.steps))
 
-pub returns-else-eq-clause-answers : goal.returns-else-eq-clause-answers
-returns-else-eq-clause-answers c =
-    let many : c.args.how ≢ NoneOf = search rules in
-    let some : 1 ≤ length c.args.series.items = search rules in
-    subst (GivesGroups c.all_together.result) (sym (answer_together c.args.metric.now c.args.series.items c.requires.rising c.requires.some c.args.how many some)) c.all_together.ensures.answers
+pub returns-in_err-group_with-clause-answers : goal.returns-in_err-group_with-clause-answers
+returns-in_err-group_with-clause-answers c =
+    let q = c.args.query.now in
+    let s = c.args.sub.now in
+    let all = map (group_with q s) (members_in s c.args.series.items) in
+    passed_on (λ r. GivesGroups r (answer q s (points_in s.metric c.args.series.items))) c.in_err-group_with.field-0.0 c.from_residual-in_err-group_with.result c.from_residual-in_err-group_with.ensures.1
+    (subst (GivesGroups (Err c.in_err-group_with.field-0.0)) (sym (answer_groups q s c.args.series.items c.requires.rising c.requires.some))
+    (fails (group_with q s) c.loop-members.groups.items (values c.loop-members.members-iterator) all c.loop-members.invariant.groups c.in-Some.members.items (values c.next.new.self) (ap values c.in-Some.ensures.steps) c.in_err-group_with.field-0.0 c.in_err-group_with.ensures.answers))
+
+pub loop-members-preserved : goal.loop-members-preserved
+loop-members-preserved c =
+    let q = c.args.query.now in
+    let s = c.args.sub.now in
+    let all = map (group_with q s) (members_in s c.args.series.items) in
+    record {
+      groups = goes_on (group_with q s) c.loop-members.groups.items (values c.loop-members.members-iterator) all c.loop-members.invariant.groups c.in-Some.members.items (values c.next.new.self) (ap values c.in-Some.ensures.steps) c.in_ok-group_with.field-0 c.push.new.list.items
+          c.in_ok-push.ensures c.in_ok-group_with.ensures.answers;
+      within = λ m i. c.loop-members.invariant.within m (value_later c.loop-members.members-iterator (c.in-Some.field-0-0, c.in-Some.members) c.next.new.self c.in-Some.ensures.steps m i);
+      ready = subst (All IsReady) (sym c.in_ok-push.ensures) (All-push IsReady c.loop-members.groups.items c.in_ok-group_with.field-0 c.loop-members.invariant.ready c.in_ok-group_with.ensures.ready);
+    }
+
+pub returns-clause-answers : goal.returns-clause-answers
+returns-clause-answers c =
+    let q = c.args.query.now in
+    let s = c.args.sub.now in
+    let all = map (group_with q s) (members_in s c.args.series.items) in
+    answer_groups q s c.args.series.items c.requires.rising c.requires.some
+    ∙ done (group_with q s) c.loop-members.groups.items (values c.loop-members.members-iterator) all c.loop-members.invariant.groups (ap (λ l. length (values l)) c.in-None.ensures.steps.0)

@@ -7,7 +7,7 @@ use Rattle.tsd_run.proofs.input.read_lines.Given as goal
 abbrev pub invariant-loop-end : goal.invariant-loop-end
 invariant-loop-end l = record {
   count : l.lines + length l.buffer ≤ l.fn.lines + length l.fn.buffer;
-  reads : (lines : List Line) → length lines ≡ l.fn.lines → IsRead l.fn.ms lines l.fn.gathered → ReadsFurther l.fn.ms l.fn.buffer l.buffer lines l.gathered l.lines;
+  reads : (lines : List Line) → length lines ≡ l.fn.lines → IsRead lines l.fn.gathered → ReadsFurther l.fn.buffer l.buffer lines l.gathered l.lines;
 }
 
 abbrev pub decreases-loop-end : goal.decreases-loop-end

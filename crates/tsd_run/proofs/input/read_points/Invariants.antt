@@ -6,7 +6,7 @@ abbrev pub invariant-loop-buffer : goal.invariant-loop-buffer
 invariant-loop-buffer g l =
     let s = g.S.Source in
     record {
-      read : HasRead l.fn.ms (s.taken l.fn.source) (s.taken l.source) (s.left l.fn.source) (s.left l.source) l.gathered l.buffer l.lines l.taken;
+      read : HasRead (s.taken l.fn.source) (s.taken l.source) (s.left l.fn.source) (s.left l.source) l.gathered l.buffer l.lines l.taken;
       count : l.lines + length l.buffer ≤ l.taken;
       most : l.taken ≤ 2 ^ 40;
       later : s.faults l.fn.source ≤ s.faults l.source;

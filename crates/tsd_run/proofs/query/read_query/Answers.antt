@@ -1,24 +1,16 @@
-use Rattle.std.proofs.Common.{◌∙◌, ap, sym, subst}
-use Rattle.std.specs.Prelude.{Ok}
-use Rattle.query_text.specs.declared.queries.Sub.{Sub}
-use Rattle.query_run.specs.Queries.{IsPlain}
-use Rattle.tsd_run.proofs.QueryLemmas.{asked_is, told_fault}
 use Rattle.tsd_run.specs.Batches.{plain_batch}
+use Rattle.tsd_run.proofs.QueryLemmas.{can_ask, is_query_of, told_fault}
 use Rattle.tsd_run.proofs.query.read_query.Goals as goal
 
-pub returns-in-Ok : goal.returns-in-Ok
-returns-in-Ok c =
-    let ok = c.in-Ok.ensures.plain (sym c.if-asks_more.ensures) in
-    let q = c.query_of.ensures in
-    record {
-      asked = asked_is c.args.batch.now.query.now _ (sym c.if-asks_more.ensures) ok.asked_is ∙ ap (λ (s : Sub). Ok (s.how, s.metric)) (sym q.sub);
-      plain = subst IsPlain (sym q.sub) (record { down = ok.down; filters = ok.filters });
-      start = q.start;
-      end = q.end;
-      ms = q.ms;
-    }
+pub returns-in_ok-query_of-in-Ok-clause-gives : goal.returns-in_ok-query_of-in-Ok-clause-gives
+returns-in_ok-query_of-in-Ok-clause-gives c =
+    let q = c.in_ok-query_of-in-Ok.ensures in
+    is_query_of c.in_ok-query_of-in-Ok.field-0 (plain_batch c.args.batch.now) c.in-Ok.sub q.start q.end q.ms q.subs c.in-Ok.ensures.sub
 
-pub returns-in-Err : goal.returns-in-Err
-returns-in-Err c =
-    let less = sym c.if-asks_more.ensures in
-    told_fault c.in-Err.fault (plain_batch c.args.batch.now) less (c.in-Err.ensures.plain less)
+pub returns-in_ok-query_of-in-Ok-clause-can : goal.returns-in_ok-query_of-in-Ok-clause-can
+returns-in_ok-query_of-in-Ok-clause-can c =
+    let q = c.in_ok-query_of-in-Ok.ensures in
+    can_ask c.in_ok-query_of-in-Ok.field-0 (plain_batch c.args.batch.now) c.in-Ok.sub q.start q.end q.ms q.subs c.in-Ok.ensures.sub c.in-Ok.ensures.interval c.requires.range c.requires.end
+
+pub returns-in-Err-clause-gives : goal.returns-in-Err-clause-gives
+returns-in-Err-clause-gives c = told_fault c.in-Err.fault (plain_batch c.args.batch.now) c.in-Err.ensures.sub

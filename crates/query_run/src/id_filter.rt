@@ -1,0 +1,44 @@
+//! Filters by the ids of their names.
+ghost use Rattle.std.specs.Prelude.{◌≡◌};
+ghost use Rattle.query_run.specs.IdFilters.{passes, passes_filter, passes_test};
+
+/// What a filter asks of the id of its key's value.
+#[derive(Drop)]
+pub(crate) enum IdTest {
+    /// Any.
+    Any,
+    /// One of these.
+    OneOf { ids: Vec<u32> },
+    /// None of these.
+    NotOneOf { ids: Vec<u32> },
+}
+
+/// A filter: the series that have this key with a value that passes the test.
+#[derive(Drop)]
+pub(crate) struct IdFilter {
+    pub(crate) key: u32,
+    pub(crate) test: IdTest,
+}
+
+/// Whether a series with these pairs of ids passes each of the filters.
+pub(crate) fn passes(filters: &[IdFilter], pairs: &[(u32, u32)]) -> bool
+    ensures { result ≡ passes filters.now pairs.now }
+{
+    filters.iter().all(|filter| passes_filter(filter, pairs))
+}
+
+fn passes_filter(filter: &IdFilter, pairs: &[(u32, u32)]) -> bool
+    ensures { result ≡ passes_filter filter.now pairs.now }
+{
+    pairs.iter().any(|pair| filter.key == pair.0 && passes_test(&filter.test, pair.1))
+}
+
+fn passes_test(test: &IdTest, id: u32) -> bool
+    ensures { result ≡ passes_test test.now id }
+{
+    match test {
+        IdTest::Any => true,
+        IdTest::OneOf { ids } => ids.contains(&id),
+        IdTest::NotOneOf { ids } => !ids.contains(&id),
+    }
+}
