@@ -1,6 +1,5 @@
 #!/usr/bin/env bash
-# Times `tsd batch` against plain.rs, the same job in plain Rust, and prints a Markdown table. A query's own part is the time of its
-# run less that of a run over the same lines that asks for a second before them all.
+# Times `tsd batch` against plain.rs, the same job in plain Rust, and prints a Markdown table.
 #
 #     bench/run.sh PROGRAM [RUNS]
 #
@@ -38,14 +37,14 @@ sys.exit(status)' "$folder/peak" "$@"
     fi
 }
 
-# measure PROGRAM START END OUTPUT: sets `micros`, of the fastest run, and `peak`, the greatest, in KiB.
+# measure PROGRAM LAST_TIME OUTPUT: sets `micros`, of the fastest run, and `peak`, the greatest, in KiB.
 measure() {
     micros=
     peak=0
     local run begin end
     for ((run = 0; run < runs; run++)); do
         begin=${EPOCHREALTIME/[.,]/}
-        with_peak "$1" batch "$2" "$3" "$query" <"$folder/lines" >"$4"
+        with_peak "$1" batch 1356998400 "$2" "$query" <"$folder/lines" >"$3"
         end=${EPOCHREALTIME/[.,]/}
         if [ -z "$micros" ] || [ $((end - begin)) -lt "$micros" ]; then
             micros=$((end - begin))
@@ -56,8 +55,8 @@ measure() {
     done
 }
 
-echo '| series | points each | tags | order | query | lines | tsd, lines/s | plain, lines/s | time, tsd / plain | own part, tsd, ms | own part, plain, ms | tsd, peak MB | plain, peak MB | memory, tsd / plain |'
-echo '|---|---|---|---|---|---|---|---|---|---|---|---|---|---|'
+echo '| series | points each | tags | order | query | lines | tsd, lines/s | plain, lines/s | time, tsd / plain | tsd, peak MB | plain, peak MB | memory, tsd / plain |'
+echo '|---|---|---|---|---|---|---|---|---|---|---|---|'
 for set in "${sets[@]}"; do
     read -r series points tags order query <<<"$set"
     shuffle=()
@@ -65,25 +64,20 @@ for set in "${sets[@]}"; do
         shuffle=(--shuffle)
     fi
     python3 "$here/generate.py" "$series" "$points" --tags "$tags" "${shuffle[@]}" >"$folder/lines"
-    first=1356998400
-    last=$((first + (points - 1) * 10))
-    measure "$folder/plain" 1 1 "$folder/plain.json"
-    plain_lines=$micros
-    measure "$folder/plain" "$first" "$last" "$folder/plain.json"
+    last=$((1356998400 + (points - 1) * 10))
+    measure "$folder/plain" "$last" "$folder/plain.json"
     plain_micros=$micros
     plain_peak=$peak
-    measure "$program" 1 1 "$folder/tsd.json"
-    our_lines=$micros
-    measure "$program" "$first" "$last" "$folder/tsd.json"
+    measure "$program" "$last" "$folder/tsd.json"
     if ! cmp "$folder/tsd.json" "$folder/plain.json"; then
         echo "$0: the outputs differ at $series series of $points points with $tags tags" >&2
         exit 1
     fi
     awk -v series="$series" -v points="$points" -v tags="$tags" -v order="$order" -v query="$query" -v ours="$micros" -v theirs="$plain_micros" \
-        -v our_lines="$our_lines" -v their_lines="$plain_lines" -v our_peak="$peak" -v their_peak="$plain_peak" 'BEGIN {
+        -v our_peak="$peak" -v their_peak="$plain_peak" 'BEGIN {
         lines = series * points
-        printf "| %d | %d | %d | %s | `%s` | %d | %.0f | %.0f | %.2f | %.0f | %.0f | %.1f | %.1f | %.2f |\n", series, points, tags, order, query, lines,
-            lines * 1e6 / ours, lines * 1e6 / theirs, ours / theirs, (ours - our_lines) / 1000, (theirs - their_lines) / 1000,
+        printf "| %d | %d | %d | %s | `%s` | %d | %.0f | %.0f | %.2f | %.1f | %.1f | %.2f |\n", series, points, tags, order, query, lines,
+            lines * 1e6 / ours, lines * 1e6 / theirs, ours / theirs,
             our_peak / 1024, their_peak / 1024, our_peak / their_peak
     }'
 done
