@@ -4,6 +4,8 @@ use Rattle.cell_model.specs.declared.events.Entry.{Entry}
 use Rattle.cell_model.specs.History.{History, len, entry_at}
 use Rattle.cell_model.specs.History.History.{Base, Then}
 use Rattle.cell_model.specs.declared.events.Placed.{Placed}
+use Rattle.cell_model.specs.declared.events.Step.{Step}
+use Rattle.cell_model.specs.declared.events.Reply.{Reply}
 use Rattle.cell_model.specs.Seen.{Seen, Saw, Fits, IsPossible}
 
 -- the entry at its place
@@ -35,6 +37,14 @@ pub record Since (old new : Seen) : Type 0 where
 pub record Made (old : Seen) (list : List Placed) (new : Seen) : Type 0 where
   pub since : Since old new
   pub made : (h : History) → Fits new h → deeds h old.caller old.length new.length ≡ list
+
+-- the call made entries of which this holds, and no other
+abbrev pub MadeSo : Seen → (List Placed → Type 0) → Seen → Type 0
+MadeSo old P new = (list : List Placed) × Made old list new × P list
+
+-- the entry is this step with this reply
+abbrev pub Did : Placed → Step → Reply → Type 0
+Did d step reply = (d.entry.step ≡ step) × (d.entry.reply ≡ reply)
 
 -- these entries stand in the history up to this length, in order of place
 pub record InOrder (h : History) (end : ℕ) (own : List Placed) : Type 0 where

@@ -1,10 +1,12 @@
 //! Rows and cells, as callers see them.
-ghost use Rattle.std.specs.Prelude.{◌≡◌, true, [], ◌∷◌, ◌++◌, IfOk, OnOk, OnErr};
+ghost use Rattle.std.specs.Prelude.{◌≡◌, ◌<◌, true, [], ◌∷◌, ◌++◌, length, slice_index_or, IfOk, OnOk, OnErr};
+ghost use Rattle.qual_codec.specs.declared.cells.Cell.{Cell};
 ghost use Rattle.std.specs.Ordering.{is_lt};
 ghost use Rattle.cell_model.specs.Order.{place_cmp, table_number};
 ghost use Rattle.cell_model.specs.Rising.{RiseByQual, IsAboveCells, LinesRise, Adds, is_above, may_follow, place_of_line};
 
-use qual_codec::{Bytes, Cell};
+use packed_cells::block::Block;
+use qual_codec::{Bytes, CellRef};
 use row_key::Table;
 use std::alloc::{AllocError, Global};
 use std::marker::Model;
@@ -28,12 +30,12 @@ impl Row {
     }
 }
 
-/// The cells of a row, in byte order of their qualifiers.
+/// The cells of a row, in byte order of their qualifiers, packed as the store keeps them.
 ///
 /// Contracts see it as the list of the cells.
 #[derive(Drop)]
 pub struct Cells {
-    list: Vec<Cell>,
+    block: Block,
 }
 
 impl Model for Cells {
@@ -43,9 +45,9 @@ impl Model for Cells {
 
     ghost Value = { List Cell };
 
-    ghost view = { λ c. c.list.items };
+    ghost view = { λ c. c.block };
 
-    ghost invariant = { λ c. RiseByQual c.list.items };
+    ghost invariant = { λ c. RiseByQual c.block };
 }
 
 impl Cells {
@@ -54,28 +56,44 @@ impl Cells {
         ensures { result ≡ [] }
     {
         Cells {
-            list: Vec::new(alloc),
+            block: Block::make(alloc),
         }
     }
 
-    /// Adds a cell behind the last one. It fails only for want of memory, and then nothing changes.
-    #[inline]
-    pub fn push(&mut self, cell: Cell) -> Result<(), AllocError>
-        requires { IsAboveCells cell.qual self.old }
-        ensures ok { OnOk result (self.new ≡ self.old ++ cell ∷ []) }
-        ensures err { OnErr result (self.new ≡ self.old) }
+    /// The cells of a block that rise by qualifier.
+    pub fn of(block: Block) -> Cells
+        requires { RiseByQual block }
+        ensures { result ≡ block }
     {
-        self.list.push(cell)?;
-        Ok(())
+        Cells { block }
     }
 
-    /// The cells, rising by qualifier.
+    /// Adds a cell behind the last one. It fails only for want of memory, or where the cells have 4 GiB, and then nothing changes.
     #[inline]
-    pub fn list(&self) -> &[Cell]
-        ensures list { result.now ≡ self.now }
+    pub fn push(&mut self, qual: &[u8], value: &[u8], version: u64) -> Result<(), AllocError>
+        requires { IsAboveCells qual.now self.old }
+        ensures ok { OnOk result (self.new ≡ self.old ++ (record { qual = qual.now; value = value.now; version = version }) ∷ []) }
+        ensures err { OnErr result (self.new ≡ self.old) }
+    {
+        self.block.push(qual, value, version)
+    }
+
+    /// How many cells there are.
+    #[inline]
+    pub fn len(&self) -> usize
+        ensures { result ≡ length self.now }
+    {
+        self.block.len()
+    }
+
+    /// The cell at `i`, from the least qualifier.
+    #[inline]
+    pub fn cell(&self, i: usize) -> CellRef<'_>
+        requires { i < length self.now }
+        ensures cell { (d : Cell) → result ≡ slice_index_or self.now i d }
         ensures rising { RiseByQual self.now }
     {
-        self.list.as_slice()
+        self.block.cell(i)
     }
 }
 

@@ -1,6 +1,6 @@
 use crate::cells::{Cells, Drops, Listing, Row};
 use crate::events::PlainPoint;
-use qual_codec::{Bytes, Cell};
+use qual_codec::Bytes;
 use row_key::Table;
 use std::test::Fail;
 use tsd_base::reading::read_point;
@@ -9,20 +9,16 @@ use tsd_base::reading::read_point;
 fn lists_keep_what_is_pushed(rt: HostRuntime) -> Result<(), Fail> {
     let mut cells = Cells::make(rt.alloc());
     let mut drops = Drops::make(rt.alloc());
-    assert!(rt; cells.list().is_empty());
+    assert_eq!(rt; cells.len(), 0);
     assert!(rt; drops.list().is_empty());
     let qual = Bytes::of(rt.alloc(), b"\x00\x00")?;
-    let value = Bytes::of(rt.alloc(), b"\x2a")?;
-    drops.push(qual.again(rt.alloc())?, 7)?;
-    cells.push(Cell {
-        qual,
-        value,
-        version: 7,
-    })?;
-    assert_eq!(rt; cells.list().len(), 1);
-    assert_eq!(rt; cells.list()[0].qual.list(), &b"\x00\x00"[..]);
-    assert_eq!(rt; cells.list()[0].value.list(), &b"\x2a"[..]);
-    assert_eq!(rt; cells.list()[0].version, 7);
+    cells.push(qual.list(), b"\x2a", 7)?;
+    drops.push(qual, 7)?;
+    assert_eq!(rt; cells.len(), 1);
+    let cell = cells.cell(0);
+    assert_eq!(rt; cell.qual, &b"\x00\x00"[..]);
+    assert_eq!(rt; cell.value, &b"\x2a"[..]);
+    assert_eq!(rt; cell.version, 7);
     assert_eq!(rt; drops.list().len(), 1);
     assert_eq!(rt; drops.list()[0].0.list(), &b"\x00\x00"[..]);
     assert_eq!(rt; drops.list()[0].1, 7);

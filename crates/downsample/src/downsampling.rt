@@ -107,6 +107,3 @@ fn of_all(
     }
     Ok(dots)
 }
-
-#[cfg(test)]
-mod tests;

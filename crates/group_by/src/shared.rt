@@ -69,6 +69,3 @@ fn has_key(pairs: &[(Name, Name)], key: &Name) -> bool
 {
     pairs.iter().any(|pair| *key == pair.0)
 }
-
-#[cfg(test)]
-mod tests;

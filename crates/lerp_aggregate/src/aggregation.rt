@@ -79,6 +79,3 @@ fn walk_on(alloc: Global, list: &[Dots], how: Aggregator, mut walk: Walk) -> Res
     }
     Ok(dots)
 }
-
-#[cfg(test)]
-mod tests;

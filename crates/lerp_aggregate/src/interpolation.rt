@@ -26,6 +26,3 @@ fn part_of(rise: i128, run: u64, span: u64) -> i128
 {
     i128::from(run) * rise / i128::from(span)
 }
-
-#[cfg(test)]
-mod tests;

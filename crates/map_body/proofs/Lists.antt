@@ -37,13 +37,6 @@ take_whole [] (suc i) le = refl
 take_whole (x ∷ xs) zero le = absurd (omega (arith, le))
 take_whole {A = A} (x ∷ xs) (suc i) le = ap (λ (l : List A). x ∷ l) (take_whole xs i (omega (arith, le)))
 
--- a cell is above those before it
-pub above_taken : (cells : List Cell) (i : ℕ) (d : Cell) → Rises cells → i < length cells → IsAboveCells (slice_index_or cells i d).qual (take i cells)
-above_taken [] i d up lt = absurd (omega (arith, lt))
-above_taken (c ∷ cells) zero d up lt = tt
-above_taken (c ∷ cells) (suc i) d up lt =
-    (up 0 (suc i) (omega arith) (omega (arith, lt)) d, above_taken cells i d (λ a b less within e. up (suc a) (suc b) (omega arith) (omega arith) e) (omega (arith, lt)))
-
 -- a cell's line
 abbrev pub line_at : Table → List ℕ → Cell → ListLine
 line_at table row c = record { table = table; row = row; qual = c.qual; value = c.value }

@@ -12,7 +12,6 @@ ghost use Rattle.cell_model.specs.Rising.{IsAboveCells, LinesRise};
 
 use crate::lines::add_line;
 use cell_model::{Cells, Listing};
-use qual_codec::{Bytes, Cell};
 use row_key::Table;
 use std::alloc::{AllocError, Global};
 use std::marker::Model;
@@ -151,11 +150,8 @@ fn push(cells: &mut Cells, kind: Kind, counter: Counter) -> Result<(), AllocErro
     if counter.number == 0 {
         return Ok(());
     }
-    cells.push(Cell {
-        qual: Bytes::short(name(kind)),
-        value: Bytes::short(&(counter.number as u64).to_be_bytes()),
-        version: counter.version,
-    })?;
+    let value = (counter.number as u64).to_be_bytes();
+    cells.push(name(kind), &value, counter.version)?;
     Ok(())
 }
 

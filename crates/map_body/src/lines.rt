@@ -8,25 +8,17 @@ ghost use Rattle.map_body.specs.Whole.{placed, lines_in};
 
 use cell_model::{Cells, ListLine, Listing};
 use packed_cells::rows::RowCells;
-use qual_codec::{Bytes, Cell};
+use qual_codec::Bytes;
 use row_key::Table;
 use std::alloc::{AllocError, Global};
 use std::collections::btree_map::Range;
 
-/// The cells of a row as a list.
+/// The cells of a row once more.
 pub fn copy_cells(alloc: Global, row: &RowCells) -> Result<Cells, AllocError>
     ensures { IfOk result (λ cells. cells ≡ cells_in row.now) }
 {
-    let packed = row.cells();
-    let mut cells = Cells::make(alloc);
-    for i in 0..packed.len() {
-        cells.push(Cell {
-            qual: Bytes::of(alloc, packed.qual(i))?,
-            value: Bytes::of(alloc, packed.value(i))?,
-            version: packed.version(i),
-        })?;
-    }
-    Ok(cells)
+    let block = row.cells().again(alloc)?;
+    Ok(Cells::of(block))
 }
 
 /// Adds a line that is above each. It fails only for want of memory.

@@ -61,8 +61,9 @@ fn dropped(
 fn versions(body: &MapBody, alloc: Global) -> Result<Vec<u64>, AllocError> {
     let row = point_row(alloc)?;
     let mut versions = Vec::new(alloc);
-    for cell in body.read(alloc, &row)?.list() {
-        versions.push(cell.version)?;
+    let cells = body.read(alloc, &row)?;
+    for i in 0..cells.len() {
+        versions.push(cells.cell(i).version)?;
     }
     Ok(versions)
 }
@@ -72,7 +73,7 @@ fn found(body: &MapBody, alloc: Global) -> Result<Option<usize>, AllocError> {
     let from = Bytes::short(b"\x00\x00\x01");
     let to = Bytes::short(b"\x00\x00\x01\xff");
     match body.next_row(alloc, Table::Points, &from, &to)? {
-        Some(found) => Ok(Some(found.cells.list().len())),
+        Some(found) => Ok(Some(found.cells.len())),
         None => Ok(None),
     }
 }

@@ -4,6 +4,7 @@ ghost use Rattle.std.specs.List.{remove as without};
 ghost use Rattle.packed_cells.specs.Packed.{stamped_at, overwritten, span_at, Extends, Tells};
 ghost use Rattle.qual_codec.specs.declared.cells.Cell.{Cell};
 
+use qual_codec::CellRef;
 use std::alloc::{AllocError, Global};
 use std::marker::Model;
 
@@ -253,6 +254,28 @@ impl Block {
         self.heads[i].version
     }
 
+    /// The cell at `i`.
+    #[inline]
+    pub fn cell(&self, i: usize) -> CellRef<'_>
+        requires { i < length self.now }
+        ensures { (d : Cell) → result ≡ slice_index_or self.now i d }
+    {
+        CellRef {
+            qual: self.qual(i),
+            value: self.value(i),
+            version: self.version(i),
+        }
+    }
+
+    /// Adds a cell behind the last one. It fails as [`Block::insert`] does.
+    #[inline]
+    pub fn push(&mut self, qual: &[u8], value: &[u8], version: u64) -> Result<(), AllocError>
+        ensures ok { OnOk result (self.new ≡ self.old ++ (record { qual = qual.now; value = value.now; version = version }) ∷ []) }
+        ensures err { OnErr result (self.new ≡ self.old) }
+    {
+        self.insert_behind(self.len(), qual, value, version)
+    }
+
     /// Puts a cell before the one at `i`, or behind the last one. It fails for want of memory, or where the
     /// block, the qualifier or the value has 4 GiB.
     pub fn insert(
@@ -317,9 +340,22 @@ impl Block {
         self.waste = wasted(self.waste, spread(&self.longs, head));
     }
 
-    /// The same cells once more, in a block without waste.
-    #[tactic(auto, using(crate::proofs::Packed::copied, crate::proofs::Packed::taken_length, std::proofs::lemmas::List::take_all))]
+    /// The same cells once more.
     pub fn again(&self, alloc: Global) -> Result<Block, AllocError>
+        ensures { IfOk result (λ made. made ≡ self.now) }
+    {
+        Ok(Block {
+            heads: Vec::from_slice(alloc, self.heads.as_slice())?,
+            bytes: Vec::from_slice(alloc, self.bytes.as_slice())?,
+            longs: Vec::from_slice(alloc, self.longs.as_slice())?,
+            waste: self.waste,
+            alloc,
+        })
+    }
+
+    // The same cells in a block without waste.
+    #[tactic(auto, using(crate::proofs::Packed::copied, crate::proofs::Packed::taken_length, std::proofs::lemmas::List::take_all))]
+    fn rebuilt(&self, alloc: Global) -> Result<Block, AllocError>
         ensures { IfOk result (λ made. made ≡ self.now) }
     {
         let mut made = Block::make(alloc);
@@ -334,7 +370,7 @@ impl Block {
         ensures { self.new ≡ self.old }
     {
         if self.waste > self.bytes.len() / 2 {
-            let made = self.again(self.alloc)?;
+            let made = self.rebuilt(self.alloc)?;
             *self = made;
         }
         Ok(())

@@ -143,3 +143,10 @@ list_once (i ∷ a) (j ∷ b) p q e =
 -- a qualifier is one list of items
 pub items_once : (qual : List ℕ) (a b : List Item) → IsItems qual a → IsItems qual b → a ≡ b
 items_once qual a b p q = list_once a b p.each q.each (sym p.qual_is ∙ q.qual_is)
+
+-- a length that is none of the lesser ones
+pub eight_left : (n : ℕ) → IsLength n → n ≢ 1 → n ≢ 2 → n ≢ 4 → n ≡ 8
+eight_left _ one a b c = absurd (a refl)
+eight_left _ two a b c = absurd (b refl)
+eight_left _ four a b c = absurd (c refl)
+eight_left _ eight a b c = refl

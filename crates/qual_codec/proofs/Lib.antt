@@ -1,6 +1,14 @@
+pub mod Members
 pub mod Bits
 pub mod NextItem
 pub mod Progress
 pub mod OneReading
 pub mod WholeCell
 pub mod Ordering
+pub mod Lists
+pub mod Values
+pub mod Best
+pub mod Ranges
+pub mod Gathered
+pub mod Written
+pub mod Merges

@@ -1,35 +1,12 @@
 -- The order of qualifiers is reflexive, transitive and antisymmetric.
-use Rattle.std.proofs.Common.{◌≡◌, ◌⊎◌, inl, inr, ℕ, zero, suc, ◌≤◌, ◌<◌, Bool, true, false, List, [], ◌∷◌, length, refl, sym, ap, subst, ◌∙◌, arith}
-use Rattle.std.specs.Prelude.{AllPairs, Contains, slice_index_or}
+use Rattle.std.proofs.Common.{◌≡◌, ◌⊎◌, inl, inr, ℕ, ◌≤◌, ◌<◌, Bool, true, false, List, [], ◌∷◌, refl, sym, ap, subst, ◌∙◌, arith}
+use Rattle.std.specs.Prelude.{Contains}
 use Rattle.std.specs.List.{flat_map}
 use Rattle.qual_codec.specs.declared.cells.Item.{Item}
 use Rattle.qual_codec.specs.Items.{Rises, item_bytes}
 use Rattle.qual_codec.specs.Order.{IsAsGood, IsAtMost, IsBelow}
 use Rattle.qual_codec.proofs.Bits.{items_once}
-
--- ---- members of lists
-
-here : {X : Type 0} (x : X) (xs : List X) → Contains (x ∷ xs) x
-here x xs = (0, omega arith, refl)
-
-there : {X : Type 0} (x y : X) (xs : List X) → Contains xs y → Contains (x ∷ xs) y
-there x y xs c = (suc c.0, omega (arith, c.1), c.2)
-
-split : {X : Type 0} (x y : X) (xs : List X) → Contains (x ∷ xs) y → (x ≡ y) ⊎ Contains xs y
-split x y xs c = at c.0 c.1 c.2
-  where
-    at : (k : ℕ) → k < length (x ∷ xs) → slice_index_or (x ∷ xs) k y ≡ y → (x ≡ y) ⊎ Contains xs y
-    at zero lt is = inl is
-    at (suc k) lt is = inr (k, omega (arith, lt), is)
-
-not_in : {X : Type 0} (y : X) → Contains [] y → ⊥
-not_in y c = omega (arith, c.1)
-
-pairs_in : {X : Type 0} (R : X → X → Type 0) (x y : X) (xs : List X) → AllPairs R (x ∷ xs) → Contains xs y → R x y
-pairs_in R x y xs pairs c = subst (R x) c.2 (pairs 0 (suc c.0) y (omega arith) (omega (arith, c.1)))
-
-pairs_tail : {X : Type 0} (R : X → X → Type 0) (x : X) (xs : List X) → AllPairs R (x ∷ xs) → AllPairs R xs
-pairs_tail R x xs pairs i j d lt in_range = pairs (suc i) (suc j) d (omega (arith, lt)) (omega (arith, in_range))
+use Rattle.qual_codec.proofs.Members.{here, there, split, not_in, pairs_in, pairs_tail}
 
 -- ---- items
 
@@ -71,7 +48,10 @@ same_members (x ∷ xs) (y ∷ ys) rx ry f g =
 opposite : (b : Bool) → b ≡ true → b ≡ false → ⊥
 opposite b t f = let e : true ≡ false = sym t ∙ f in cc
 
-good_trans : (i j k : Item) → IsAsGood i j → IsAsGood j k → IsAsGood i k
+pub good_refl : (i : Item) → IsAsGood i i
+good_refl i = record { offset = refl; better = inr (refl, omega arith) }
+
+pub good_trans : (i j k : Item) → IsAsGood i j → IsAsGood j k → IsAsGood i k
 good_trans i j k a b = record { offset = a.offset ∙ b.offset; better = at a.better b.better }
   where
     at : ((i.fine ≡ true) × (j.fine ≡ false)) ⊎ ((i.fine ≡ j.fine) × (i.len ≤ j.len)) → ((j.fine ≡ true) × (k.fine ≡ false)) ⊎ ((j.fine ≡ k.fine) × (j.len ≤ k.len))

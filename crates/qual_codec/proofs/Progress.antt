@@ -104,7 +104,7 @@ alone : (b : Bool) → (b || false) ≡ b
 alone true = refl
 alone false = refl
 
-any_push : (p : Item → Bool) (items : List Item) (i : Item) → list_any p (items ++ i ∷ []) ≡ (list_any p items || p i)
+pub any_push : (p : Item → Bool) (items : List Item) (i : Item) → list_any p (items ++ i ∷ []) ≡ (list_any p items || p i)
 any_push p items i = list_any-append p items (i ∷ []) ∙ ap (λ b. list_any p items || b) (alone (p i))
 
 -- each item before stands lower
@@ -178,3 +178,19 @@ come_on qual value rest left after behind dots new least len l fine coarse i v h
         let is = h.left_is e.0 in
         let less = w.less e.1 in
         omega (arith, is, less, l_is)
+
+-- ---- behind the dots of other cells
+
+-- what has come stands behind the old dots
+pub record HasAdded (qual value rest left : List ℕ) (old now : List Dot) (least len : ℕ) (fine coarse : Bool) : Type 0 where
+  pub points : List Dot
+  pub parts : now ≡ old ++ points
+  pub come : HasCome qual value rest left points least len fine coarse
+
+pub add_on : (qual value rest left after behind : List ℕ) (old now new : List Dot) (least len l : ℕ) (fine coarse : Bool) (i : Item) (v : ℤ) → HasAdded qual value rest left old now least len fine coarse → IsNextItem least rest i after
+    → IsNextValue i.len left v behind → l ≡ i.len → new ≡ now ++ record { item = i; value = v } ∷ [] → HasAdded qual value after behind old new (i.offset + 1) (len + l) (fine || i.fine) (coarse || not i.fine)
+add_on qual value rest left after behind old now new least len l fine coarse i v h n w l_is new_is = record {
+  points = h.points ++ record { item = i; value = v } ∷ [];
+  parts = new_is ∙ ap (λ (ds : List Dot). ds ++ record { item = i; value = v } ∷ []) h.parts ∙ append_assoc old h.points (record { item = i; value = v } ∷ []);
+  come = come_on qual value rest left after behind h.points (h.points ++ record { item = i; value = v } ∷ []) least len l fine coarse i v h.come n w l_is refl;
+}

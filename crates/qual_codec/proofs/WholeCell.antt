@@ -1,8 +1,8 @@
 -- The cell as a whole, from its items and its values.
-use Rattle.std.proofs.Common.{◌≡◌, ◌⊎◌, inl, inr, ℕ, ◌+◌, Bool, true, false, List, [], ◌∷◌, ◌++◌, length, drop, Option, None, Some, Result, Ok, Err, refl, sym, ap, ◌∙◌, arith}
+use Rattle.std.proofs.Common.{◌≡◌, ◌⊎◌, inl, inr, ℕ, ◌+◌, ◌-◌, Bool, true, false, List, [], ◌∷◌, ◌++◌, length, drop, Option, None, Some, Result, Ok, Err, refl, sym, ap, ◌∙◌, arith}
 use Rattle.std.proofs.lemmas.Bool.{ltb-false, eqb-true}
 use Rattle.std.proofs.lemmas.List.{drop_at, length-append, length-map}
-use Rattle.std.specs.Prelude.{nat_lt, nat_eq, if◌then◌else◌}
+use Rattle.std.specs.Prelude.{nat_lt, nat_eq, if◌then◌else◌, IfErr, OnOk}
 use Rattle.std.specs.List.{flat_map}
 use Rattle.qual_codec.specs.declared.cells.Dot.{Dot}
 use Rattle.qual_codec.specs.declared.cells.CellFault.{CellFault}
@@ -10,7 +10,8 @@ use Rattle.qual_codec.specs.declared.cells.CellFault.TheVariants.{BadTail, OutOf
 use Rattle.qual_codec.specs.Dots.{IsDots, items_of, value_bytes, tail_for, tail_of, has_both}
 use Rattle.qual_codec.specs.Faults.{value_fault, tail_fault, IsFirstFault, ReadsAs}
 use Rattle.qual_codec.specs.Faults.IsFirstFault.{values}
-use Rattle.qual_codec.specs.Steps.{HasPoints, fine_unless}
+use Rattle.qual_codec.specs.Steps.{AddsPoints, HasPoints, fine_unless}
+use Rattle.qual_codec.specs.MergeSteps.{AddsDots}
 use Rattle.qual_codec.proofs.OneReading.{reads_once}
 
 unless_ok : (o : Option CellFault) (u : Unit {0}) → Ok u ≡ fine_unless o → o ≡ None
@@ -77,3 +78,30 @@ alone_ok qual value dots is answer r = reads_once qual value answer (Ok dots) r 
 pub alone_err : (qual value : List ℕ) (e : CellFault) → (e ≡ OutOfMemory) ⊎ IsFirstFault qual value e → (answer : Result (List Dot) CellFault) → ReadsAs qual value answer → (e ≡ OutOfMemory) ⊎ (answer ≡ Err e)
 alone_err qual value e (inl memory) answer r = inl memory
 alone_err qual value e (inr first) answer r = inr (reads_once qual value answer (Err e) r first)
+
+-- ---- behind the dots of other cells
+
+-- a value that doesn't read is at fault
+pub value_at_fault : (qual value : List ℕ) (old new : List Dot) (len count : ℕ) (both : Bool) (tail : List ℕ) (r : Result (Unit {0}) CellFault) → AddsPoints qual value old len both new → count ≡ length new - length old → tail ≡ tail_for count both
+    → r ≡ fine_unless (value_fault len tail value) → IfErr r (λ e. (e ≡ OutOfMemory) ⊎ IsFirstFault qual value e)
+value_at_fault qual value old new len count both tail (Ok u) a n t e = tt
+value_at_fault qual value old new len count both tail (Err fault) a n t e =
+    let sum = ap (λ (ds : List Dot). length ds) a.parts ∙ length-append old a.points in
+    inr (value_fails qual value a.points len count both tail fault a.has (omega (arith, n, sum)) a.both_is t e)
+
+-- one that isn't ends a cell that reads
+pub value_in_place : (qual value : List ℕ) (old new : List Dot) (len count : ℕ) (both : Bool) (tail : List ℕ) (r : Result (Unit {0}) CellFault) → AddsPoints qual value old len both new → count ≡ length new - length old → tail ≡ tail_for count both
+    → r ≡ fine_unless (value_fault len tail value) → OnOk r (AddsDots qual value old new)
+value_in_place qual value old new len count both tail (Err fault) a n t e = tt
+value_in_place qual value old new len count both tail (Ok u) a n t e =
+    let sum = ap (λ (ds : List Dot). length ds) a.parts ∙ length-append old a.points in
+    (a.points, a.parts, value_reads qual value a.points len count both tail u a.has (omega (arith, n, sum)) a.both_is t e)
+
+-- ---- one cell alone
+
+same_dots : (dots points : List Dot) → dots ≡ [] ++ points → points ≡ dots
+same_dots dots points e = sym e
+
+pub alone_added : (qual value : List ℕ) (old new : List Dot) → old ≡ [] → AddsDots qual value old new → (answer : Result (List Dot) CellFault) → ReadsAs qual value answer → answer ≡ Ok new
+alone_added qual value old new none (points, parts, is) answer r =
+    alone_ok qual value points is answer r ∙ ap Ok (same_dots new points (parts ∙ ap (λ (ds : List Dot). ds ++ points) none))

@@ -4,3 +4,5 @@ pub mod Faults
 pub mod Order
 pub mod Spelling
 pub mod Steps
+pub mod Merge
+pub mod MergeSteps

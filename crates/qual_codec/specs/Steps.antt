@@ -1,12 +1,12 @@
 -- What one step of reading finds.
-use Rattle.std.specs.Prelude.{◌≡◌, ℕ, ◌+◌, ◌≤◌, ◌⊎◌, List, [], ◌∷◌, ◌++◌, length, All, FitsSigned, Option, None, Some, Result, Ok, Err, nat_lt}
+use Rattle.std.specs.Prelude.{◌≡◌, ℕ, ◌+◌, ◌≤◌, ◌⊎◌, Bool, List, [], ◌∷◌, ◌++◌, length, All, FitsSigned, Option, None, Some, Result, Ok, Err, nat_lt}
 use Rattle.std.specs.List.{flat_map}
 use Rattle.qual_codec.specs.declared.cells.Item.{Item}
 use Rattle.qual_codec.specs.declared.cells.Dot.{Dot}
 use Rattle.qual_codec.specs.declared.cells.CellFault.{CellFault}
 use Rattle.qual_codec.specs.declared.cells.CellFault.TheVariants.{CutItem}
 use Rattle.qual_codec.specs.Items.{IsItem, IsItems, Fields, AreFields, field_bytes, item_bytes}
-use Rattle.qual_codec.specs.Dots.{items_of, value_bytes, width_of}
+use Rattle.qual_codec.specs.Dots.{has_both, items_of, value_bytes, width_of}
 use Rattle.qual_codec.specs.Faults.{IsCut, bits_fault, values_length}
 
 -- the item whose bits say this
@@ -41,6 +41,13 @@ pub record HasPoints (qual value : List ℕ) (dots : List Dot) (len : ℕ) : Typ
   pub len_is : len ≡ values_length (items_of dots)
   pub few : len ≤ 28800000
   pub values : len ≤ length value → (left : List ℕ) × (value ≡ flat_map value_bytes dots ++ left) × (len + length left ≡ length value)
+
+-- the points of the qualifier are added behind the old ones; their values have `len` bytes, and `both` tells whether both forms occur
+pub record AddsPoints (qual value : List ℕ) (old : List Dot) (len : ℕ) (both : Bool) (new : List Dot) : Type 0 where
+  pub points : List Dot
+  pub parts : new ≡ old ++ points
+  pub has : HasPoints qual value points len
+  pub both_is : both ≡ has_both (items_of points)
 
 -- none or one byte
 abbrev pub bytes_in : Option ℕ → List ℕ

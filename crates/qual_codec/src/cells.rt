@@ -1,9 +1,11 @@
 //! What a cell of a point row is made of.
 ghost use Rattle.std.specs.Prelude.{◌≡◌};
 ghost use Rattle.qual_codec.specs.declared.cells.CellFault.TheVariants.{OutOfMemory};
+ghost use Rattle.qual_codec.specs.declared.cells.MergeFault.TheVariants as merging;
 
 use short_bytes::short::Bytes;
 use std::alloc::{AllocError, AllocFailed};
+use std::marker::Model;
 
 /// What a qualifier says of one data point.
 #[derive(Clone, Copy, Debug, PartialEq, Eq)]
@@ -34,6 +36,27 @@ pub struct Cell {
     pub value: Bytes,
     /// The place of the write in the history of the store.
     pub version: u64,
+}
+
+/// A cell of a row whose parts are borrowed.
+///
+/// Contracts see it as the cell.
+#[derive(Drop)]
+pub struct CellRef<'a> {
+    /// The qualifier.
+    pub qual: &'a [u8],
+    /// The values of its items.
+    pub value: &'a [u8],
+    /// The place of the write in the history of the store.
+    pub version: u64,
+}
+
+impl<'a> Model for CellRef<'a> {
+    ghost use Rattle.qual_codec.specs.declared.cells.Cell.{Cell};
+
+    ghost Value = { Cell };
+
+    ghost view = { λ c. record { qual = c.qual.now; value = c.value.now; version = c.version } };
 }
 
 /// The first thing that is wrong with a cell. In the order in which they are looked for: the length of the qualifier; of each
@@ -81,7 +104,7 @@ impl<T: Drop> From<AllocFailed<T>> for CellFault {
     }
 }
 
-/// What several cells of a row become when they are merged.
+/// What cells of a row become when they are merged.
 #[derive(Debug, PartialEq, Eq, Drop)]
 pub struct Merged {
     /// The qualifier of the one cell.
@@ -97,4 +120,12 @@ pub enum MergeFault {
     Conflict { offset: u32, a: i64, b: i64 },
     /// There is no memory for the answer.
     OutOfMemory,
+}
+
+impl From<AllocError> for MergeFault {
+    ghost from_gives = { λ _ e. e ≡ merging.OutOfMemory };
+
+    fn from(_e: AllocError) -> MergeFault {
+        MergeFault::OutOfMemory
+    }
 }

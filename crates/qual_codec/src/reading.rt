@@ -1,10 +1,11 @@
 //! Reading a cell.
-ghost use Rattle.std.specs.Prelude.{◌≡◌, ◌⊎◌, ◌+◌, ◌%◌, ◌<◌, ◌≤◌, ◌++◌, List, length, IfOk, IfErr, Result, Ok, Err, MatchResult, FitsSigned, nat_lt};
+ghost use Rattle.std.specs.Prelude.{◌≡◌, ◌⊎◌, ◌+◌, ◌%◌, ◌<◌, ◌≤◌, ◌++◌, List, length, IfOk, IfErr, OnOk, Result, Ok, Err, MatchResult, FitsSigned, nat_lt};
 ghost use Rattle.qual_codec.specs.declared.cells.CellFault.TheVariants.{OutOfMemory};
 ghost use Rattle.qual_codec.specs.Items.{IsLength, Fields};
-ghost use Rattle.qual_codec.specs.Dots.{IsDots, has_both, items_of, number_bytes, tail_for, width_of};
+ghost use Rattle.qual_codec.specs.Dots.{IsDots, number_bytes, tail_for, width_of};
 ghost use Rattle.qual_codec.specs.Faults.{HasWholePairs, IsFirstFault, ReadsAs, bits_fault, value_fault, is_length as tests_length};
-ghost use Rattle.qual_codec.specs.Steps.{HasPoints, IsNextFault, IsNextItem, bytes_in, fine_unless, item_unless};
+ghost use Rattle.qual_codec.specs.MergeSteps.{AddsDots};
+ghost use Rattle.qual_codec.specs.Steps.{AddsPoints, IsNextFault, IsNextItem, bytes_in, fine_unless, item_unless};
 
 use crate::cells::{CellFault, Dot, Item};
 use std::alloc::Global;
@@ -92,23 +93,20 @@ fn next_value(bytes: &[u8], len: u8) -> (i64, &[u8])
     }
 }
 
-/// What the items of a qualifier and the bytes of a value give, before the value's length is known to be right.
-struct Points {
-    dots: Vec<Dot>,
-    /// How many bytes their values have.
+/// What is left to know of a cell whose items were read, before the value's length is known to be right.
+struct Rest {
+    /// How many bytes the values of the items have.
     len: usize,
     /// Whether both forms occur.
     both: bool,
 }
 
-/// The data points whose items the qualifier has. Where the value is too short for them, some of their values are arbitrary.
-fn read_points(alloc: Global, qual: &[u8], value: &[u8]) -> Result<Points, CellFault>
+/// Adds the data points whose items the qualifier has. Where the value is too short for them, some of their values are arbitrary.
+fn read_points(qual: &[u8], value: &[u8], dots: &mut Vec<Dot>) -> Result<Rest, CellFault>
     requires { HasWholePairs qual.now }
-    ensures points { IfOk result (λ p. HasPoints qual.now value.now p.dots.items p.len) }
-    ensures both { IfOk result (λ p. p.both ≡ has_both (items_of p.dots.items)) }
+    ensures points { IfOk result (λ r. AddsPoints qual.now value.now dots.old.items r.len r.both dots.new.items) }
     ensures fault { IfErr result (λ e. (e ≡ OutOfMemory) ⊎ IsFirstFault qual.now value.now e) }
 {
-    let mut dots = Vec::with_capacity(alloc, qual.len() / 2)?;
     let mut rest = qual;
     let mut left = value;
     let mut least = 0;
@@ -127,15 +125,14 @@ fn read_points(alloc: Global, qual: &[u8], value: &[u8]) -> Result<Points, CellF
         rest = after;
         left = behind;
     }
-    Ok(Points {
-        dots,
+    Ok(Rest {
         len,
         both: fine && coarse,
     })
 }
 
 /// The byte behind the values of so many items.
-fn tail_byte(count: usize, both: bool) -> Option<u8>
+pub(crate) fn tail_byte(count: usize, both: bool) -> Option<u8>
     ensures { bytes_in result ≡ tail_for count both }
 {
     if count > 1 {
@@ -169,6 +166,19 @@ fn check_value(value: &[u8], len: usize, tail: Option<u8>) -> Result<(), CellFau
     Ok(())
 }
 
+/// Adds the data points of a cell, by offset, behind those of other cells. After a fault some of them may have been added.
+pub(crate) fn read_onto(qual: &[u8], value: &[u8], dots: &mut Vec<Dot>) -> Result<(), CellFault>
+    ensures dots { OnOk result (AddsDots qual.now value.now dots.old.items dots.new.items) }
+    ensures fault { IfErr result (λ e. (e ≡ OutOfMemory) ⊎ IsFirstFault qual.now value.now e) }
+{
+    if qual.is_empty() || qual.len() % 2 == 1 {
+        return Err(CellFault::OddLength);
+    }
+    let before = dots.len();
+    let Rest { len, both } = read_points(qual, value, dots)?;
+    check_value(value, len, tail_byte(dots.len() - before, both))
+}
+
 /// The data points of a cell, by offset.
 ///
 /// Where it doesn't read, the error is the first thing that is wrong, in the order of [`CellFault`].
@@ -182,10 +192,7 @@ pub fn read_cell(alloc: Global, qual: &[u8], value: &[u8]) -> Result<Vec<Dot>, C
     ensures alone { (answer : Result (List Dot) CellFault) → ReadsAs qual.now value.now answer
         → MatchResult result (λ v. answer ≡ Ok v.items) (λ e. (e ≡ OutOfMemory) ⊎ (answer ≡ Err e)) }
 {
-    if qual.is_empty() || qual.len() % 2 == 1 {
-        return Err(CellFault::OddLength);
-    }
-    let Points { dots, len, both } = read_points(alloc, qual, value)?;
-    check_value(value, len, tail_byte(dots.len(), both))?;
+    let mut dots = Vec::with_capacity(alloc, qual.len() / 2)?;
+    read_onto(qual, value, &mut dots)?;
     Ok(dots)
 }

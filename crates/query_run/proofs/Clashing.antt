@@ -20,7 +20,7 @@ use Rattle.cell_model.specs.Readings.{Reading, Named, CellReads, point_row}
 use Rattle.cell_model.specs.Seen.{Seen, Fits}
 use Rattle.cell_model.specs.Deeds.{Made, InOrder, before_first}
 use Rattle.row_scan.specs.Scans.{IsRowOf, HasCell}
-use Rattle.row_scan.specs.Kept.{values_at, first_clash}
+use Rattle.qual_codec.specs.Merge.{values_at, first_conflict as first_clash}
 use Rattle.query_run.specs.Parts.{HasClash, ShowsRowsBelow, FirstClash}
 use Rattle.query_run.specs.Queries.{is_wanted}
 use Rattle.query_run.specs.Naming.{IdOf, AreReads}
@@ -101,7 +101,7 @@ has_clash picks g start end metric filters id f time a b named r s by =
     record {
       key = r.key;
       is_key = r.of.is_key;
-      row_is = ap (λ (w : Row). w.bytes) r.of.row_is;
+      row_is = r.of.row_is;
       offset = c.offset;
       time_is = c.time_is;
       dots = c.all;
@@ -121,7 +121,7 @@ least_clash picks names start end metric filters id f time a b r t c d x = at (b
     below_or m n = grind arith
 
     keys : x.key ≡ r.key
-    keys = lower.one_key x.key r.key x.is_key r.of.is_key (sym x.row_is ∙ ap (λ (w : Row). w.bytes) r.of.row_is)
+    keys = lower.one_key x.key r.key x.is_key r.of.is_key (ap (λ (w : Row). w.bytes) (sym x.row_is ∙ r.of.row_is))
 
     t_is : t ≡ r.key.base * 1000 + x.offset
     t_is = x.time_is ∙ ap (λ (k : RowKey). k.base * 1000 + x.offset) keys

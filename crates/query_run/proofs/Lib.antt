@@ -24,3 +24,7 @@ mod Lists
 mod GroupLemmas
 mod SeriesLemmas
 mod Unordered
+mod InvisibleSteps
+mod Outcomes
+mod SameOutcome
+mod SameAnswer

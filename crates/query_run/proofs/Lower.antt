@@ -9,8 +9,8 @@ use Rattle.cell_model.proofs.LawsHold as laws
 use Rattle.cell_model.proofs.Placing.{first_is_lawful, entries_are_lawful}
 use Rattle.cell_model.proofs.InOrder.{fits_first, made_in_order}
 use Rattle.cell_model.proofs.Carry.{waited_made, stepped_made, made_made, extends_extends}
-pub use Rattle.row_scan.proofs.Lists.{all_of, pairs_push, pairs_before, in_filter, to_filter}
-pub use Rattle.row_scan.proofs.Values.{dot_value, value_dot, no_clash}
+pub use Rattle.qual_codec.proofs.Lists.{all_of, pairs_push, pairs_before, in_filter, to_filter}
+pub use Rattle.qual_codec.proofs.Values.{dot_value, value_dot, no_conflict as no_clash}
 pub use Rattle.row_scan.proofs.Offsets.{dot_offset, hour_is, one_hour}
 pub use Rattle.row_scan.proofs.Lower.{one_key}
 pub use Rattle.row_scan.proofs.Bytes.{below_behind, not_back, below_from_on, from_on_from_on, not_itself, never_both, less_behind, less_or_not}
@@ -19,11 +19,19 @@ pub use Rattle.row_scan.proofs.Turning.{HasKey, found_key}
 pub use Rattle.row_scan.proofs.Whole.{placed_next, row_stays, StandAbove, own_stands}
 pub use Rattle.row_scan.proofs.Turns.{scan_begins, turn_goes_on, others_pass, turn_ends}
 pub use Rattle.row_scan.proofs.CellsOf.{cell_at}
+pub use Rattle.row_scan.proofs.Accepted.{ShownCell, shown_accepted}
 pub use Rattle.row_scan.proofs.Names.{IsOf, StoodRow, row_stood, metric_id}
 pub use Rattle.row_key.proofs.Comparing.{keys_compare}
 pub use Rattle.tsd_base.proofs.EntryLemmas.{insert_entry-put, lookup-find, length-entries, sorted-rising}
 pub use Rattle.cell_model.proofs.Written.{each_reads}
 pub use Rattle.cell_model.proofs.Lower.{one_dots}
+pub use Rattle.cell_model.proofs.DeedRanges.{inside}
+pub use Rattle.cell_model.proofs.Entries.{bounded, entry_at-last, entry_at-more}
+pub use Rattle.cell_model.proofs.InOrder.{deeds_each}
+pub use Rattle.cell_model.proofs.Keep.{had_split}
+pub use Rattle.cell_model.proofs.Keeps.{nat_eq_is}
+pub use Rattle.cell_model.proofs.Shown.{value_among-cells_of}
+pub use Rattle.cell_model.proofs.Stores.{content-written_other, get-dropped_other}
 pub use Rattle.cell_model.proofs.SameLists.{same_rising}
 pub use Rattle.cell_model.proofs.Members.{here, there, split, not_in, all_in, pairs_in, pairs_tail, map_in, in_map}
 

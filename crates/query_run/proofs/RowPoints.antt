@@ -9,7 +9,7 @@ use Rattle.qual_codec.specs.declared.cells.Cell.{Cell}
 use Rattle.qual_codec.specs.declared.cells.Dot.{Dot}
 use Rattle.qual_codec.specs.declared.cells.MergeFault.TheVariants as merge
 use Rattle.tsd_base.specs.Dots.{IsAboveAll}
-use Rattle.row_scan.specs.Kept.{AreDots, values_at, first_clash, MergesTo, IsUnmerged}
+use Rattle.qual_codec.specs.Merge.{AreDots, values_at, first_conflict as first_clash, MergesTo, IsUnmerged}
 use Rattle.query_run.specs.RowDots.{dot_at, IsIn, HasDots, Clashes}
 use Rattle.query_run.proofs.Lower as lower
 use Rattle.query_run.proofs.NameReads.{about}

@@ -17,7 +17,7 @@ use Rattle.cell_model.specs.declared.cells.Row.{Row}
 use Rattle.cell_model.specs.declared.cells.Found.{Found}
 use Rattle.cell_model.specs.Layout.{base_time}
 use Rattle.cell_model.specs.Readings.{Reading, OneValued, Named}
-use Rattle.row_scan.specs.Kept.{AreDots, values_at}
+use Rattle.qual_codec.specs.Merge.{AreDots, values_at}
 use Rattle.row_scan.specs.Shown.{RowReads, Chosen, BySeries}
 use Rattle.query_text.specs.declared.queries.Filter.{Filter}
 use Rattle.group_by.specs.Filters.{passes}

@@ -20,7 +20,7 @@ use Rattle.cell_model.specs.Seen.{Seen}
 use Rattle.cell_model.specs.Deeds.{Made}
 use Rattle.row_scan.specs.Scans.{Left, IsNext, IsRowOf, IsStart, HasCell, Scanned, Scanning}
 use Rattle.row_scan.specs.Shown.{ShowsRow}
-use Rattle.row_scan.specs.Kept.{AreDots, values_at, first_clash}
+use Rattle.qual_codec.specs.Merge.{AreDots, values_at, first_conflict as first_clash}
 use Rattle.span_merge.specs.Spans.{Span, dots_of, added}
 use Rattle.query_run.specs.declared.fault.AskFault.{AskFault}
 use Rattle.query_run.specs.declared.fault.AskFault.TheVariants.{Duplicate, OutOfMemory, Stopped}

@@ -6,6 +6,7 @@ pub mod Faults
 pub mod Series
 pub mod Grouping
 pub mod Laws
+pub mod Invisible
 pub mod IdFilters
 pub mod Naming
 pub mod RowDots

@@ -19,7 +19,7 @@ use Rattle.cell_model.specs.Ids.{id_of, name_of}
 use Rattle.cell_model.specs.Readings.{Reading, Accepted, CellReads, point_row}
 use Rattle.cell_model.specs.Deeds.{before_first}
 use Rattle.uid_table.specs.Steps.{DidLook}
-use Rattle.row_scan.specs.Kept.{AreDots, values_at, first_clash}
+use Rattle.qual_codec.specs.Merge.{AreDots, values_at, first_conflict as first_clash}
 use Rattle.row_scan.specs.Scans.{IsRowOf, HasCell}
 use Rattle.row_scan.specs.Shown.{RowReads, ShowsRow, ShowsReading, Chosen, Covers, NoClash}
 
@@ -41,9 +41,13 @@ IsQueryStep _ = ⊥
 abbrev pub AreQuerySteps : List Placed → Type 0
 AreQuerySteps list = (p : Placed) → Contains list p → IsQueryStep p.entry.step
 
+-- the name is resolved after the history
+abbrev pub IsResolved : History → NameOf → Type 0
+IsResolved h n = (id : ℕ) × (id_of h n.0 n.1 ≡ Some id)
+
 -- the names are resolved after the history
 abbrev pub AllResolved : History → List NameOf → Type 0
-AllResolved h names = (n : NameOf) → Contains names n → (id : ℕ) × (id_of h n.0 n.1 ≡ Some id)
+AllResolved h names = (n : NameOf) → Contains names n → IsResolved h n
 
 -- What stands of a part that was read to its end: its names are resolved, no row that it shows has a clash, and the readings chosen of what
 -- it shows cover what was accepted before its first entry, and lie within what is accepted at the end.
@@ -65,11 +69,11 @@ pub record FirstUnknown (names : List NameOf) (n : NameOf) (own : List Placed) (
   pub resolved : AllResolved h before
   pub none : FoundNone own n
 
--- at a time that is asked for the row's cells have two values: a in the first cell that has one, b in the first behind it that has another
+-- at a time that is asked for the cells of a point row have two values: a in the first cell that has one, b in the first behind it that has another
 pub record HasClash (names : Kind → ℕ → Option (List ℕ)) (wanted : Reading → Bool) (found : Found) (time : ℕ) (a b : ℤ) : Type 0 where
   pub key : RowKey
   pub is_key : IsKey key
-  pub row_is : found.row.bytes ≡ key_bytes key
+  pub row_is : found.row ≡ point_row (key_bytes key)
   pub offset : ℕ
   pub time_is : time ≡ key.base * 1000 + offset
   pub dots : List Dot

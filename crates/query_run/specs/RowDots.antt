@@ -2,7 +2,7 @@
 use Rattle.std.specs.Prelude.{◌≡◌, ℕ, ℤ, ◌+◌, ◌*◌, ◌<◌, ◌≤◌, List, Contains, None, Some, Result, Ok, Err}
 use Rattle.qual_codec.specs.declared.cells.Cell.{Cell}
 use Rattle.qual_codec.specs.declared.cells.Dot.{Dot}
-use Rattle.row_scan.specs.Kept.{AreDots, values_at, first_clash}
+use Rattle.qual_codec.specs.Merge.{AreDots, values_at, first_conflict as first_clash}
 use Rattle.query_run.specs.declared.fault.AskFault.{AskFault}
 use Rattle.query_run.specs.declared.fault.AskFault.TheVariants.{Duplicate, OutOfMemory}
 

@@ -7,5 +7,3 @@ mod downs;
 mod filters;
 pub mod queries;
 pub mod subs;
-#[cfg(test)]
-mod tests;

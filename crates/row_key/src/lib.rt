@@ -7,6 +7,3 @@ pub mod tables;
 
 pub use keys::{KeyFault, RowKey, read_key, write_key};
 pub use tables::Table;
-
-#[cfg(test)]
-mod tests;

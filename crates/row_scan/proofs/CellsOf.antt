@@ -10,7 +10,7 @@ use Rattle.cell_model.specs.declared.events.Place.{Place}
 use Rattle.cell_model.specs.declared.events.Content.{Content}
 use Rattle.cell_model.specs.Store.{Store, bytes_cmp, row_cmp, value_at, cells_of, cell_of, same_bytes, value_among}
 use Rattle.row_scan.proofs.Bytes.{is_equal}
-use Rattle.row_scan.proofs.Lists.{in_filter}
+use Rattle.row_scan.proofs.Lower.{in_filter}
 use Rattle.row_scan.proofs.NextRow.{found_there}
 use Rattle.row_scan.proofs.Lower.{here, there, map_in, exact_rows, value_among-cells_of}
 

@@ -1,8 +1,3 @@
-pub mod Lists
-pub mod Values
-pub mod Keeping
-pub mod Reading
-pub mod Sorting
 pub mod Bytes
 pub mod Lower
 pub mod NextRow

@@ -18,6 +18,8 @@ pub use Rattle.cell_model.proofs.Sounding.{row_ids_are_taken}
 pub use Rattle.cell_model.proofs.Shown.{value_among-cells_of}
 pub use Rattle.cell_model.proofs.Accepting.{name_keeps, cell_by, had_accepted, accepted_times_stand}
 pub use Rattle.qual_codec.proofs.Bits.{items_once}
+pub use Rattle.qual_codec.proofs.Gathered.{are_next, reads_at}
+pub use Rattle.qual_codec.proofs.Lists.{all_of, in_filter}
 use Rattle.cell_model.specs.declared.cells.Row.{Row}
 use Rattle.cell_model.specs.declared.events.Place.{Place}
 use Rattle.cell_model.specs.Store.{place_cmp, row_cmp}

@@ -22,7 +22,7 @@ use Rattle.row_scan.specs.Scans.{Left, IsNext, IsRowOf, behind, Scanned, HasCell
 use Rattle.row_scan.specs.Scans.Scanned.{ended, found, other}
 use Rattle.row_scan.specs.Laws.{ScanIsWhole}
 use Rattle.row_scan.proofs.Bytes.{less_behind, from_on_from_on, below_from_on, below_behind, not_back}
-use Rattle.row_scan.proofs.Lists.{all_of}
+use Rattle.row_scan.proofs.Lower.{all_of}
 use Rattle.row_scan.proofs.NextRow.{Between, between, between_is, next_cells, next_none, next_least, next_has}
 use Rattle.row_scan.proofs.Turning.{HasKey, found_key}
 use Rattle.row_scan.proofs.Lower.{first_lawful, each_entry, Begins, whole, longer, here, there, split, not_in, pairs_in, entry_at-more, had_cell, keep, begins_first}

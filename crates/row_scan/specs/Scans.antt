@@ -12,8 +12,7 @@ use Rattle.cell_model.specs.declared.events.Placed.{Placed}
 use Rattle.cell_model.specs.declared.answers.RowsFault.{RowsFault}
 use Rattle.cell_model.specs.Store.{Store, value_at, is_between}
 use Rattle.cell_model.specs.Readings.{point_row}
-use Rattle.cell_model.specs.Seen.{Seen}
-use Rattle.cell_model.specs.Deeds.{Made}
+pub use Rattle.cell_model.specs.Deeds.{MadeSo}
 
 -- what is left of a scan: the point rows from `from` on and below `to`
 pub record Left : Type 0 where
@@ -47,10 +46,6 @@ after_turn left (Err fault) = left
 -- the entry looks for the next of the rows that are left, and found this one
 abbrev pub IsNext : Left → Option Found → Placed → Type 0
 IsNext left found p = (p.entry.step ≡ NextRow Points left.from left.to) × (p.entry.reply ≡ Next found)
-
--- the call made entries of which this holds, and no other
-abbrev pub MadeSo : Seen → (List Placed → Type 0) → Seen → Type 0
-MadeSo old P new = (list : List Placed) × Made old list new × P list
 
 -- a turn makes one next row, and its answer is what that found; a fault has made nothing
 abbrev pub TurnMade : Left → Result (Option Found) RowsFault → List Placed → Type 0

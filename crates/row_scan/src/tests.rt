@@ -4,7 +4,7 @@ ghost use Rattle.cell_model.specs.Rising.{IsAboveCells};
 
 use crate::row_points;
 use cell_model::Cells;
-use qual_codec::{Bytes, Cell, Dot, Item, MergeFault, read_cell};
+use qual_codec::{Dot, Item, MergeFault, read_cell};
 use std::alloc::Global;
 use std::process::Abort;
 use std::test::Fail;
@@ -30,13 +30,15 @@ const CELLS: [Pair; 13] = [
 ];
 
 /// Whether a qualifier is above that of each cell.
-fn is_above(cells: &[Cell], qual: &[u8]) -> bool
+fn is_above(cells: &Cells, qual: &[u8]) -> bool
     ensures { result ≡ true → IsAboveCells qual.now cells.now }
 {
-    match cells.split_first() {
-        Some((cell, rest)) => cell.qual.list().cmp(qual).is_lt() && is_above(rest, qual),
-        None => true,
+    for i in 0..cells.len() {
+        if !cells.cell(i).qual.cmp(qual).is_lt() {
+            return false;
+        }
     }
+    true
 }
 
 /// Adds a cell that reads.
@@ -51,12 +53,8 @@ fn add(
     ensures { OnOk result (All (λ c. Reads c.qual c.value) cells.new) }
 {
     let _ = read_cell(alloc, qual, value)?;
-    assert!(rt; is_above(cells.list(), qual), "{qual:?}");
-    cells.push(Cell {
-        qual: Bytes::of(alloc, qual)?,
-        value: Bytes::of(alloc, value)?,
-        version: 0,
-    })?;
+    assert!(rt; is_above(cells, qual), "{qual:?}");
+    cells.push(qual, value, 0)?;
     Ok(())
 }
 
@@ -115,8 +113,8 @@ fn keeps_the_best_of_each_offset(rt: HostRuntime) -> Result<(), Fail> {
     Ok(())
 }
 
-/// The first and the last offset of a range, the least offset in it that clashes, and the two values there.
-const CLASHES: [(u32, u32, u32, i64, i64); 5] = [
+/// The first and the last offset of a range, the least offset in it with a conflict, and the two values there.
+const CONFLICTS: [(u32, u32, u32, i64, i64); 5] = [
     (0, 3_599_999, 2_000, 8, 13),
     (1_999, 2_000, 2_000, 8, 13),
     (2_000, 2_999, 2_000, 8, 13),
@@ -125,9 +123,9 @@ const CLASHES: [(u32, u32, u32, i64, i64); 5] = [
 ];
 
 #[test]
-fn names_the_least_clash(rt: HostRuntime) -> Result<(), Fail> {
+fn names_the_least_conflict(rt: HostRuntime) -> Result<(), Fail> {
     let cells = sample(&rt, rt.alloc())?;
-    for (first, last, offset, a, b) in CLASHES {
+    for (first, last, offset, a, b) in CONFLICTS {
         let fault = row_points(rt.alloc(), &cells, first, last).err();
         assert_eq!(rt;
             fault,

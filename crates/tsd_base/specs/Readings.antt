@@ -1,5 +1,5 @@
 -- Readings: the points of a store or of lines, without their forms, and the series that they make.
-use Rattle.std.specs.Prelude.{ℕ, Bool, ◌&&◌, not, nat_eq, nat_le, List, [], ◌∷◌, map, filter, ℤ, if◌then◌else◌}
+use Rattle.std.specs.Prelude.{ℕ, Bool, ◌&&◌, not, nat_eq, List, [], ◌∷◌, map, filter, ℤ, if◌then◌else◌}
 use Rattle.std.specs.List.{list_any}
 use Rattle.std.specs.FinMap.{from_entries, keys}
 use Rattle.tsd_base.specs.TagList.{tags_cmp, is_same_tags}
@@ -17,13 +17,6 @@ is_same_place p q = is_same p.metric q.metric && (is_same_tags p.tags q.tags && 
 abbrev pub last_points : List DataPoint → List DataPoint
 last_points [] = []
 last_points (p ∷ ps) = if list_any (is_same_place p) ps then last_points ps else p ∷ last_points ps
-
--- the points of a metric in a range of times, both ends included
-abbrev pub is_chosen : ℕ → ℕ → List ℕ → DataPoint → Bool
-is_chosen start end metric p = is_same p.metric metric && (nat_le start p.time && nat_le p.time end)
-
-abbrev pub chosen : ℕ → ℕ → List ℕ → List DataPoint → List DataPoint
-chosen start end metric points = filter (is_chosen start end metric) points
 
 -- the sets of tags that points have, each once and in order: one for each series of a metric
 abbrev pub series_of : List DataPoint → List (List Pair)

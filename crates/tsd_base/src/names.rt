@@ -169,32 +169,3 @@ impl Hash for Name {
         state.write_u8(0xff);
     }
 }
-
-#[cfg(test)]
-mod tests {
-    use super::*;
-
-    #[test]
-    fn reads_names(rt: HostRuntime) -> Result<(), AllocError> {
-        let cases = [
-            (&b""[..], Some(NameFault::Empty)),
-            (&[b'a'; 255][..], None),
-            (&[b'a'; 256][..], Some(NameFault::TooLong { len: 256 })),
-            (&b"a b"[..], Some(NameFault::BadByte { at: 1, byte: 0x20 })),
-            (&b"sys.cpu-0_/Z"[..], None),
-            (&b"\xff"[..], Some(NameFault::BadByte { at: 0, byte: 0xff })),
-        ];
-        for (bytes, want) in cases {
-            match Name::read(rt.alloc(), bytes) {
-                Ok(name) => {
-                    assert_eq!(rt; want, None, "at {bytes:?}");
-                    assert_eq!(rt; name.bytes(), bytes);
-                    let again = name.again(rt.alloc())?;
-                    assert!(rt; again == name, "at {bytes:?}");
-                }
-                Err(fault) => assert_eq!(rt; Some(fault), want, "at {bytes:?}"),
-            }
-        }
-        Ok(())
-    }
-}

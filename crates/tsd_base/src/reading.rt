@@ -187,6 +187,3 @@ impl From<TagsFault> for PointFault {
         }
     }
 }
-
-#[cfg(test)]
-mod tests;

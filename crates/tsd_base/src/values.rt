@@ -80,35 +80,3 @@ fn is_float_mark(b: u8) -> bool
 {
     matches!(b, b'.' | b'e' | b'E')
 }
-
-#[cfg(test)]
-mod tests {
-    use super::*;
-
-    #[test]
-    fn reads_values(rt: HostRuntime) {
-        let cases = [
-            ("+5", Ok(5)),
-            ("-9223372036854775808", Ok(-9_223_372_036_854_775_808)),
-            ("9223372036854775807", Ok(9_223_372_036_854_775_807)),
-            ("9223372036854775808", Err(ValueFault::ValueTooLarge)),
-            ("-9223372036854775809", Err(ValueFault::ValueTooLarge)),
-            ("1.5", Err(ValueFault::Float)),
-            ("1e3", Err(ValueFault::Float)),
-            ("1.", Err(ValueFault::Float)),
-            ("-1.x", Err(ValueFault::Float)),
-            ("99999999999999999999999999999.5", Err(ValueFault::Float)),
-            (".5", Err(ValueFault::BadValue)),
-            ("", Err(ValueFault::BadValue)),
-            ("+", Err(ValueFault::BadValue)),
-            ("-", Err(ValueFault::BadValue)),
-            ("1x", Err(ValueFault::BadValue)),
-            ("+-1", Err(ValueFault::BadValue)),
-            ("-0", Ok(0)),
-            ("000000000000000000000000007", Ok(7)),
-        ];
-        for (text, want) in cases {
-            assert_eq!(rt; read_value(text.as_bytes()), want, "at {text:?}");
-        }
-    }
-}

@@ -45,8 +45,8 @@ use Rattle.cell_model.specs.Readings.{Reading, CellReads, IsNamed, IsStanding, M
 use Rattle.cell_model.specs.Seen.{Seen, Fits}
 use Rattle.cell_model.specs.Store.{Store, value_at}
 use Rattle.query_run.specs.Parts.{AreQuerySteps, FirstClash, HasClash, NameOf, Part, PartStands}
-use Rattle.row_scan.specs.Kept as row
-use Rattle.row_scan.specs.Kept.{AreDots, values_at}
+use Rattle.qual_codec.specs.Merge as row
+use Rattle.qual_codec.specs.Merge.{AreDots, values_at}
 use Rattle.row_scan.specs.Shown.{RowReads}
 use Rattle.tsd_run.specs.Clashes.{Clash, are_clash, clash_cmp, clash_of, clashes, first_clash, ids_of_tag, pairs_of}
 use Rattle.tsd_run.specs.Ids.{Names, id_in}
@@ -126,7 +126,7 @@ put_step (PutPoint point row qual value) p is = record { row = row; qual = qual;
 put_step (PutMerged row qual value) p is = absurd is
 put_step (DropCells row which) p is = absurd is
 
-first_is : (vs : List ℤ) (a b : ℤ) → row.first_clash vs ≡ Some (a, b) → (rest : List ℤ) × (vs ≡ a ∷ rest)
+first_is : (vs : List ℤ) (a b : ℤ) → row.first_conflict vs ≡ Some (a, b) → (rest : List ℤ) × (vs ≡ a ∷ rest)
 first_is [] a b e = absurd cc
 first_is (v ∷ vs) a b e = at (find (λ x. not (int_eq v x)) vs) e
   where
@@ -162,11 +162,11 @@ all_equal v (x ∷ vs) e w has = at (λ told later. all_equal v vs told w later)
     at go true t is = ⊎_elim (λ (same : x ≡ w). (Decides-int_eq v x).0 t ∙ same) (λ (later : Contains vs w). go is later) (split x w vs has)
     at go false t is = absurd cc
 
-two_differ : (vs : List ℤ) (v w : ℤ) → Contains vs v → Contains vs w → int_eq v w ≡ false → (both : ℤ × ℤ) × (row.first_clash vs ≡ Some both)
+two_differ : (vs : List ℤ) (v w : ℤ) → Contains vs v → Contains vs w → int_eq v w ≡ false → (both : ℤ × ℤ) × (row.first_conflict vs ≡ Some both)
 two_differ [] v w x y e = absurd (not_in v x)
 two_differ (z ∷ vs) v w x y e = at (find (λ u. not (int_eq z u)) vs) refl
   where
-    at : (o : Option ℤ) → find (λ u. not (int_eq z u)) vs ≡ o → (both : ℤ × ℤ) × (row.first_clash (z ∷ vs) ≡ Some both)
+    at : (o : Option ℤ) → find (λ u. not (int_eq z u)) vs ≡ o → (both : ℤ × ℤ) × (row.first_conflict (z ∷ vs) ≡ Some both)
     at (Some u) is = ((z, u), ap (option_map {U = ℤ × ℤ} (λ b. (z, b))) is)
     at None is =
         let zv : z ≡ v = ⊎_elim (λ (same : z ≡ v). same) (λ (later : Contains vs v). all_equal z vs is v later) (split z v vs x) in
@@ -313,7 +313,7 @@ module _ (points : List DataPoint) (old new : Seen) (list : List Placed) (stored
     -- the two points of a clash that is told: its first value is that of the one in seconds
     module _ (wanted : Reading → Bool) (time : ℕ) (a b : ℤ) (clash : HasClash (name_of now) wanted found time a b) where
       table : found.row.table ≡ Points
-      table = found_table points old new list stored made steps h lawful fits at among found reply clash.reading clash.reads
+      table = ap (λ (r : Row). r.table) clash.row_is
 
       record DotPoint (d : Dot) : Type 0 where
         pub point : DataPoint
@@ -333,7 +333,7 @@ module _ (points : List DataPoint) (old new : Seen) (list : List Placed) (stored
           let told = clash.reads.reads.dot_reads in
           let x = p.reads.dot_reads in
           let key : x.key ≡ told.key = one_key x.key told.key x.is_key told.is_key (sym x.row_is ∙ told.row_is) in
-          let base : x.key ≡ clash.key = one_key x.key clash.key x.is_key clash.is_key (sym x.row_is ∙ clash.row_is) in
+          let base : x.key ≡ clash.key = one_key x.key clash.key x.is_key clash.is_key (sym x.row_is ∙ ap (λ (r : Row). r.bytes) clash.row_is) in
           record {
             point = p.point;
             last = p.among;
@@ -583,8 +583,8 @@ module _ (points : List DataPoint) (old new : Seen) (list : List Placed) (stored
             let rq = in_row f.at at_in f.found f.reply (reading_of t.p) rp t.q q_last meet in
             let dp = rp.reads.dot in
             let dq = rq.reads.dot in
-            let key_p : rp.reads.dot_reads.key ≡ f.clash.key = one_key rp.reads.dot_reads.key f.clash.key rp.reads.dot_reads.is_key f.clash.is_key (sym rp.reads.dot_reads.row_is ∙ f.clash.row_is) in
-            let key_q : rq.reads.dot_reads.key ≡ f.clash.key = one_key rq.reads.dot_reads.key f.clash.key rq.reads.dot_reads.is_key f.clash.is_key (sym rq.reads.dot_reads.row_is ∙ f.clash.row_is) in
+            let key_p : rp.reads.dot_reads.key ≡ f.clash.key = one_key rp.reads.dot_reads.key f.clash.key rp.reads.dot_reads.is_key f.clash.is_key (sym rp.reads.dot_reads.row_is ∙ ap (λ (r : Row). r.bytes) f.clash.row_is) in
+            let key_q : rq.reads.dot_reads.key ≡ f.clash.key = one_key rq.reads.dot_reads.key f.clash.key rq.reads.dot_reads.is_key f.clash.is_key (sym rq.reads.dot_reads.row_is ∙ ap (λ (r : Row). r.bytes) f.clash.row_is) in
             let time_p : t.p.time ≡ f.clash.key.base * 1000 + dp.item.offset = rp.reads.dot_reads.time_is ∙ ap (λ (z : RowKey). z.base * 1000 + dp.item.offset) key_p in
             let time_q : t.q.time ≡ f.clash.key.base * 1000 + dq.item.offset = rq.reads.dot_reads.time_is ∙ ap (λ (z : RowKey). z.base * 1000 + dq.item.offset) key_q in
             let times : t.p.time ≡ t.q.time = both_told.time in

@@ -30,7 +30,7 @@ use Rattle.cell_model.specs.Readings.{Reading, CellReads, HasReading, OneValued,
 use Rattle.cell_model.specs.Seen.{Seen, Fits}
 use Rattle.cell_model.specs.Store.{Store, cells_of, value_at}
 use Rattle.query_run.specs.Parts.{AreQuerySteps, HasClash, IsQueryStep}
-use Rattle.row_scan.specs.Kept.{AreDots, first_clash, values_at}
+use Rattle.qual_codec.specs.Merge.{AreDots, first_conflict as first_clash, values_at}
 use Rattle.row_scan.specs.Shown.{RowReads}
 use Rattle.tsd_run.specs.Storing.{IsStored}
 use Rattle.tsd_run.proofs.Asking.{accepted_last, query_keeps}

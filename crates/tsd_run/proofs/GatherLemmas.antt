@@ -16,7 +16,7 @@ use Rattle.tsd_run.specs.Naming.{no_names, noted_all, names_in, and_then_noted}
 use Rattle.tsd_run.specs.Series.{Series, is_same_series, series_of_point}
 use Rattle.tsd_run.specs.Gathering.{values_of, unless_empty, Gathers}
 use Rattle.tsd_run.proofs.LastPoints.{beq_same, same_bytes}
-use Rattle.tsd_run.specs.Known.{IsKnown, AreKnown}
+use Rattle.tsd_run.proofs.Known.{IsKnown, AreKnown}
 use Rattle.tsd_run.proofs.KnownLemmas.{notes_all, noted_all-known}
 use Rattle.tsd_run.proofs.NotedLemmas.{noted_all-append}
 

@@ -10,7 +10,7 @@ use Rattle.cell_model.specs.Machine.{MOST_IDS}
 use Rattle.tsd_run.specs.Ids.{Names}
 use Rattle.tsd_run.specs.Ids.{id_in}
 use Rattle.tsd_run.specs.Naming.{list_of, with_list, with_listed, noted, noted_all, and_then_noted}
-use Rattle.tsd_run.specs.Known.{IsKnown, AreKnown}
+use Rattle.tsd_run.proofs.Known.{IsKnown, AreKnown}
 use Rattle.tsd_run.proofs.NameLemmas.{id_in-append}
 
 pub same_list : (names : Names) (kind : Kind) → with_list names kind (list_of names kind) ≡ names

@@ -11,6 +11,7 @@ pub mod Follows
 pub mod GatherLemmas
 pub mod InputEnds
 pub mod InputLemmas
+pub mod Known
 pub mod KnownLemmas
 pub mod LastPoints
 pub mod LineLemmas

@@ -27,13 +27,13 @@ pub use Rattle.cell_model.proofs.Ids.{same_kind, not_zero, Names_Ids, claim_wrot
 pub use Rattle.cell_model.proofs.Counters.{Counted, given_counts, counter_written, held_there}
 pub use Rattle.cell_model.proofs.Members.{here, there, split, not_in, map_in, in_map}
 pub use Rattle.qual_codec.proofs.Progress.{even_items, long_fields}
-pub use Rattle.row_scan.proofs.Lists.{in_filter, to_filter}
+pub use Rattle.qual_codec.proofs.Lists.{in_filter, to_filter}
 pub use Rattle.row_scan.proofs.Bytes.{is_equal}
 pub use Rattle.row_scan.proofs.CellsOf.{cell_at, cell_in}
 pub use Rattle.row_scan.proofs.Names.{StoodRow, metric_id, pair_ids, row_stood, same_Some}
 pub use Rattle.row_scan.proofs.Offsets.{dot_offset, hour_is}
 pub use Rattle.row_scan.proofs.OneRow.{one_row}
-pub use Rattle.row_scan.proofs.Values.{dot_value, value_dot}
+pub use Rattle.qual_codec.proofs.Values.{dot_value, value_dot}
 pub use Rattle.row_key.proofs.Comparing.{keys_compare}
 pub use Rattle.tsd_base.proofs.EntryLemmas.{sorted_from_rising}
 pub use Rattle.cell_model.proofs.SameLists.{same_rising}

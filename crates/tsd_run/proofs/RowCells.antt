@@ -22,7 +22,7 @@ use Rattle.cell_model.specs.declared.events.Content.{Content}
 use Rattle.cell_model.specs.declared.events.Place.{Place}
 use Rattle.cell_model.specs.Order.{bytes_cmp, place_cmp, row_cmp}
 use Rattle.cell_model.specs.Store.{Store, cell_of, cells_of}
-use Rattle.row_scan.specs.Kept.{AreDots, values_at}
+use Rattle.qual_codec.specs.Merge.{AreDots, values_at}
 use Rattle.tsd_run.proofs.FoundCells.{cell_of_dot}
 use Rattle.tsd_run.proofs.MapLemmas.{first, second, less}
 use Rattle.tsd_run.proofs.SettleLemmas.{below_from_Less}

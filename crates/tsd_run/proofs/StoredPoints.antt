@@ -19,7 +19,7 @@ use Rattle.cell_solo.specs.Turns.{sight}
 use Rattle.tsd_run.specs.declared.gathered.Gathered.{Gathered}
 use Rattle.tsd_run.specs.Gathering.{Gathers, unless_empty, values_of}
 use Rattle.tsd_run.specs.Ids.{id_in}
-use Rattle.tsd_run.specs.Known.{AreKnown, IsKnown}
+use Rattle.tsd_run.proofs.Known.{AreKnown, IsKnown}
 use Rattle.tsd_run.specs.Naming.{list_of, names_in}
 use Rattle.tsd_run.specs.Numbered.{tag_names}
 use Rattle.tsd_run.specs.Putting.{Adds, AddsSome, AreResolved, AreTimes, IsLast, MayPut, PutsAll, points_in}

@@ -4,7 +4,6 @@ pub mod Numbered
 pub mod Series
 pub mod Gathering
 pub mod Settling
-pub mod Known
 pub mod Batches
 pub mod Blocks
 pub mod Buffers

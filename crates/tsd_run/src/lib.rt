@@ -17,6 +17,4 @@ pub mod run;
 mod settling;
 pub mod status;
 mod store;
-#[cfg(test)]
-mod tests;
 mod values;

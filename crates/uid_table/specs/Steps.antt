@@ -3,9 +3,7 @@ use Rattle.std.specs.Prelude.{◌≡◌, ◌⊎◌, ℕ, List, [], ◌∷◌, Op
 use Rattle.tsd_base.specs.declared.kinds.Kind.{Kind}
 use Rattle.qual_codec.specs.declared.cells.Cell.{Cell}
 use Rattle.cell_model.specs.declared.cells.Row.{Row}
-use Rattle.cell_model.specs.declared.events.Step.{Step}
 use Rattle.cell_model.specs.declared.events.Step.TheVariants.{Read, Bump, Claim}
-use Rattle.cell_model.specs.declared.events.Reply.{Reply}
 use Rattle.cell_model.specs.declared.events.Reply.TheVariants.{Shown, BumpReply, ClaimReply}
 use Rattle.cell_model.specs.declared.events.Placed.{Placed}
 use Rattle.cell_model.specs.declared.answers.RowsFault.{RowsFault}
@@ -16,22 +14,13 @@ use Rattle.cell_model.specs.declared.answers.Claimed.TheVariants.{Done, Held}
 use Rattle.cell_model.specs.Store.{value_among}
 use Rattle.cell_model.specs.Machine.{kind_qual}
 use Rattle.cell_model.specs.Ids.{name_row, id_row, id_bytes}
-use Rattle.cell_model.specs.Seen.{Seen}
-use Rattle.cell_model.specs.Deeds.{Made}
+pub use Rattle.cell_model.specs.Deeds.{MadeSo, Did}
 use Rattle.uid_table.specs.declared.answers.Assigned.{Assigned}
 use Rattle.uid_table.specs.declared.answers.Assigned.TheVariants.{Fresh, Existing, Lost}
 use Rattle.uid_table.specs.declared.answers.ResolveFault.{ResolveFault}
 use Rattle.uid_table.specs.declared.answers.ResolveFault.TheVariants as resolve
 use Rattle.uid_table.specs.declared.answers.AssignFault.{AssignFault}
 use Rattle.uid_table.specs.declared.answers.AssignFault.TheVariants as assign
-
--- the call made entries of which this holds, and no other
-abbrev pub MadeSo : Seen → (List Placed → Type 0) → Seen → Type 0
-MadeSo old P new = (list : List Placed) × Made old list new × P list
-
--- the entry is this step with this reply
-abbrev pub Did : Placed → Step → Reply → Type 0
-Did d step reply = (d.entry.step ≡ step) × (d.entry.reply ≡ reply)
 
 -- the entry is a read of the row, which showed this value for the kind, or no cell
 pub record DidRead (d : Placed) (row : Row) (kind : Kind) (shown : Option (List ℕ)) : Type 0 where

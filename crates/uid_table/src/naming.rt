@@ -33,7 +33,7 @@ pub fn name_in<R: Rows>(rows: &mut R, alloc: Global, kind: Kind, id: u32) -> Res
     ensures stopped { IfErr result (RoseIfStopped (R.stops rows.old) (R.stops rows.new)) }
 {
     let cells = rows.read(alloc, &row_of_id(id))?;
-    match value_at(cells.list(), qualifier_bytes(kind)) {
+    match value_at(&cells, qualifier_bytes(kind)) {
         Some(bytes) => name_from(alloc, bytes),
         None => unreachable!(),
     }

@@ -9,9 +9,9 @@ ghost use Rattle.uid_table.specs.Shown.{HasShown};
 ghost use Rattle.uid_table.specs.Steps.{MadeSo, LookMade};
 
 use cell_model::answers::RowsFault;
-use cell_model::cells::Row;
+use cell_model::cells::{Cells, Row};
 use cell_model::rows::Rows;
-use qual_codec::{Bytes, Cell};
+use qual_codec::Bytes;
 use row_key::Table;
 use std::alloc::Global;
 use tsd_base::kinds::Kind;
@@ -54,12 +54,13 @@ pub fn row_of_id(id: u32) -> Row
 }
 
 /// The value at a qualifier.
-pub fn value_at<'a>(cells: &'a [Cell], qual: &[u8]) -> Option<&'a [u8]>
+pub fn value_at<'a>(cells: &'a Cells, qual: &[u8]) -> Option<&'a [u8]>
     ensures { MatchOption result (value_among cells.now qual.now ≡ None) (λ value. value_among cells.now qual.now ≡ Some value.now) }
 {
-    for cell in cells {
-        if cell.qual.list() == qual {
-            return Some(cell.value.list());
+    for i in 0..cells.len() {
+        let cell = cells.cell(i);
+        if cell.qual == qual {
+            return Some(cell.value);
         }
     }
     None
@@ -90,7 +91,7 @@ pub fn look<R: Rows>(
     ensures spare { OnOk result (2 ≤ R.spare rows.new) }
 {
     let cells = rows.read(alloc, row)?;
-    match value_at(cells.list(), qualifier_bytes(kind)) {
+    match value_at(&cells, qualifier_bytes(kind)) {
         Some(value) => Ok(Some(id_from(value))),
         None => Ok(None),
     }

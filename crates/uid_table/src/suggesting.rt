@@ -78,7 +78,7 @@ fn take(
     if !has_prefix(bytes, prefix) {
         return Ok(None);
     }
-    if value_at(found.cells.list(), qualifier_bytes(kind)).is_some() {
+    if value_at(&found.cells, qualifier_bytes(kind)).is_some() {
         let name = name_from(alloc, bytes)?;
         let Ok(()) = names.push(name) else {
             return Err(RowsFault::OutOfMemory);

@@ -11,23 +11,23 @@ returns-in_err-cells-clause-made g c =
 
 pub id_from-requires : goal.id_from-requires
 id_from-requires g c =
-    let shows = shown_at _ _ _ _ _ c.list.ensures.list c.qualifier_bytes.ensures.bytes c.in-Some.ensures in
+    let shows = shown_at _ _ _ _ _ refl c.qualifier_bytes.ensures.bytes c.in-Some.ensures in
     three_bytes _ _ _ _ _ (looked _ _ c.args.kind _ _ _ c.in_ok-cells.ensures.ok c.in_ok-cells.ensures.possible c.requires.row c.requires.named shows) refl
 
 pub returns-in-Some-clause-made : goal.returns-in-Some-clause-made
 returns-in-Some-clause-made g c =
-    let shows = shown_at _ _ _ _ _ c.list.ensures.list c.qualifier_bytes.ensures.bytes c.in-Some.ensures in
+    let shows = shown_at _ _ _ _ _ refl c.qualifier_bytes.ensures.bytes c.in-Some.ensures in
     let shown = looked _ _ c.args.kind _ _ _ c.in_ok-cells.ensures.ok c.in_ok-cells.ensures.possible c.requires.row c.requires.named shows in
     let read = reads_id _ _ _ _ _ _ shown refl c.id_from.ensures in
     look_made _ _ c.args.kind c.args.row.now _ _ c.in_ok-cells.ensures.ok c.in_ok-cells.ensures.possible c.requires.row (shows ∙ ap (λ v. Some v) read.value_is)
 
 pub returns-in-Some-clause-id : goal.returns-in-Some-clause-id
 returns-in-Some-clause-id g c =
-    let shows = shown_at _ _ _ _ _ c.list.ensures.list c.qualifier_bytes.ensures.bytes c.in-Some.ensures in
+    let shows = shown_at _ _ _ _ _ refl c.qualifier_bytes.ensures.bytes c.in-Some.ensures in
     let shown = looked _ _ c.args.kind _ _ _ c.in_ok-cells.ensures.ok c.in_ok-cells.ensures.possible c.requires.row c.requires.named shows in
     (reads_id _ _ _ _ _ _ shown refl c.id_from.ensures).shown
 
 pub returns-clause-made : goal.returns-clause-made
 returns-clause-made g c =
-    let shows = shown_at _ _ _ _ _ c.list.ensures.list c.qualifier_bytes.ensures.bytes c.in-None.ensures in
+    let shows = shown_at _ _ _ _ _ refl c.qualifier_bytes.ensures.bytes c.in-None.ensures in
     look_made _ _ c.args.kind c.args.row.now _ _ c.in_ok-cells.ensures.ok c.in_ok-cells.ensures.possible c.requires.row shows

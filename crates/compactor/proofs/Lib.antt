@@ -1,0 +1,5 @@
+pub mod Lower
+pub mod Writes
+pub mod Rows
+pub mod QueueRows
+pub mod Draining

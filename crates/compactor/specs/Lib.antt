@@ -1,0 +1,5 @@
+pub mod Faults
+pub mod Compaction
+pub mod Plans
+pub mod Queues
+pub mod Drains

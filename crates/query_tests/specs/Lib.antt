@@ -1,4 +1,0 @@
-pub mod Merges
-pub mod Visits
-pub mod Queried
-pub mod Puts

@@ -1,0 +1,180 @@
+//! Calls over a store: ids, puts, scans, queries and compactions, made by caller 1.
+ghost use Rattle.std.specs.Prelude.{◌≤◌};
+
+use crate::acts::{tell_assigned, tell_found};
+use crate::asks::asked;
+use crate::compactions;
+use case_readers::cells::tell_hex;
+use case_readers::points::tell_bytes;
+use case_readers::text::{Bad, bytes, first_word, kind, name, small};
+use cell_model::answers::RowsFault;
+use compactor::Queue;
+use point_put::{Config, PutFault, put};
+use row_scan::Scan;
+use scripted_rows::rows::Scripted;
+use std::alloc::Global;
+use tsd_base::kinds::Kind;
+use tsd_base::names::Name;
+use tsd_base::reading::read_point;
+use uid_table::{AssignFault, ResolveFault, Uids};
+
+/// How many rows a scan tells at most.
+const MOST_ROWS: u32 = 1000;
+
+/// The names of a store, and its rows.
+pub type Names = Uids<Scripted>;
+
+const STOPPED: Bad = Bad::Line("stopped");
+
+/// `assign KIND NAME`: how the name has an id.
+fn assign(alloc: Global, names: &mut Names, text: &str, out: &mut String) -> Result<(), Bad> {
+    let (kind_word, word) = first_word(text);
+    let kind = kind(kind_word)?;
+    let name = name(alloc, word)?;
+    match names.assign(alloc, kind, &name) {
+        Ok(answer) => tell_assigned(out, answer),
+        Err(AssignFault::Exhausted { kind }) => {
+            let kind = kind.text();
+            Ok(write!(out, "ids of {kind} are exhausted")?)
+        }
+        Err(AssignFault::OutOfMemory) => Err(Bad::OutOfMemory),
+        Err(AssignFault::Stopped) => Err(STOPPED),
+    }
+}
+
+/// The id of a name, and the name of that id.
+fn there_and_back(
+    alloc: Global,
+    names: &mut Names,
+    kind: Kind,
+    name: &Name,
+) -> Result<(u32, Name), ResolveFault> {
+    let id = names.resolve(alloc, kind, name)?;
+    match names.name_of(alloc, kind, id) {
+        Ok(back) => Ok((id, back)),
+        Err(RowsFault::OutOfMemory) => Err(ResolveFault::OutOfMemory),
+        Err(RowsFault::Stopped) => Err(ResolveFault::Stopped),
+    }
+}
+
+/// `resolve KIND NAME`: its id, and the name of that id.
+fn resolve(alloc: Global, names: &mut Names, text: &str, out: &mut String) -> Result<(), Bad> {
+    let (kind_word, word) = first_word(text);
+    let kind = kind(kind_word)?;
+    let name = name(alloc, word)?;
+    match there_and_back(alloc, names, kind, &name) {
+        Ok((id, back)) => {
+            write!(out, "{id} ")?;
+            tell_bytes(out, back.bytes())
+        }
+        Err(ResolveFault::Unknown { kind }) => {
+            let kind = kind.text();
+            Ok(write!(out, "unknown {kind}")?)
+        }
+        Err(ResolveFault::OutOfMemory) => Err(Bad::OutOfMemory),
+        Err(ResolveFault::Stopped) => Err(STOPPED),
+    }
+}
+
+/// `suggest KIND MAX [PREFIX]`: the names.
+fn suggest(alloc: Global, names: &mut Names, text: &str, out: &mut String) -> Result<(), Bad> {
+    let (kind_word, text) = first_word(text);
+    let (max, prefix) = first_word(text);
+    let kind = kind(kind_word)?;
+    let max = small(max)?;
+    if max < 1 || 10_000 < max {
+        return Err(Bad::Line("no number from 1 to 10000"));
+    }
+    let prefix = bytes(alloc, prefix)?;
+    let list = names
+        .suggest(alloc, kind, prefix.as_slice(), max)
+        .map_err(|_| STOPPED)?;
+    if list.is_empty() {
+        out.push_str("(none)")?;
+    }
+    for name in &list {
+        tell_bytes(out, name.bytes())?;
+        out.push(' ')?;
+    }
+    Ok(())
+}
+
+/// `put [--auto-metric] LINE`: the row of the point.
+fn put_line(alloc: Global, names: &mut Names, text: &str, out: &mut String) -> Result<(), Bad> {
+    let mut config = Config::usual();
+    let line = match text.strip_prefix("--auto-metric ") {
+        Some(line) => {
+            config.auto_metric = true;
+            line
+        }
+        None => text,
+    };
+    let line = bytes(alloc, line)?;
+    let point = read_point(alloc, line.as_slice()).map_err(|_| Bad::Line("no point"))?;
+    match put(alloc, names, &config, &point) {
+        Ok(stored) => {
+            let base = stored.base;
+            write!(out, "{base} ")?;
+            tell_hex(out, stored.row.bytes.list())
+        }
+        Err(fault) => tell_put_fault(out, fault),
+    }
+}
+
+fn tell_put_fault(out: &mut String, fault: PutFault) -> Result<(), Bad> {
+    match fault {
+        PutFault::Unknown { kind, name } => {
+            let kind = kind.text();
+            write!(out, "unknown {kind} ")?;
+            tell_bytes(out, name.bytes())
+        }
+        PutFault::Exhausted { kind } => {
+            let kind = kind.text();
+            Ok(write!(out, "ids of {kind} are exhausted")?)
+        }
+        PutFault::OutOfMemory => Err(Bad::OutOfMemory),
+        PutFault::Stopped => Err(STOPPED),
+    }
+}
+
+/// `scan METRIC FIRST LAST`: the rows of the metric in the hours from one base to another, each with its cells.
+fn scan(alloc: Global, names: &mut Names, text: &str, out: &mut String) -> Result<(), Bad> {
+    let (metric, text) = first_word(text);
+    let (first, last) = first_word(text);
+    let mut scan = Scan::start(small(metric)?, small(first)?, small(last)?);
+    for _ in 0..MOST_ROWS {
+        match scan.turn(alloc, names).map_err(|_| STOPPED)? {
+            Some(found) => {
+                tell_found(out, &found)?;
+                out.push('\n')?;
+            }
+            None if out.is_empty() => return Ok(out.push_str("(none)")?),
+            None => return Ok(()),
+        }
+    }
+    Err(Bad::Line("too many rows"))
+}
+
+/// Makes the call of a line.
+pub fn call(
+    alloc: Global,
+    names: &mut Names,
+    queue: &mut Queue,
+    verb: &str,
+    rest: &str,
+    out: &mut String,
+) -> Result<(), Bad> {
+    match verb {
+        "assign" => assign(alloc, names, rest, out),
+        "resolve" => resolve(alloc, names, rest, out),
+        "suggest" => suggest(alloc, names, rest, out),
+        "put" => put_line(alloc, names, rest, out),
+        "scan" => scan(alloc, names, rest, out),
+        "ask" => asked(alloc, names, rest, out),
+        "drop_cache" => {
+            names.drop_cache();
+            Ok(())
+        }
+        _ => compactions::call(alloc, names, queue, verb, rest, out),
+    }
+}

@@ -1,0 +1,75 @@
+//! The blocks of a file, one after the other.
+
+use crate::report::Report;
+use crate::script::{Block, Line, add, joined};
+use crate::{runs, store};
+use case_readers::readers::read;
+use case_readers::text::Bad;
+use std::alloc::Global;
+
+/// Does a line that stands alone.
+fn read_alone(alloc: Global, line: &Line, report: &mut Report) -> Result<(), Bad> {
+    let mut out = String::new(alloc);
+    let done = read(alloc, line.verb.as_str(), line.rest.as_str(), &mut out);
+    report.settle(line, done, out.as_str())?;
+    report.end_case(line)
+}
+
+/// Does the lines of a case: whole runs, where there is one, or else calls over a store.
+fn do_case(
+    alloc: Global,
+    setup: &[Line],
+    lines: &[Line],
+    head: &Line,
+    report: &mut Report,
+) -> Result<(), Bad> {
+    if lines.iter().any(|line| line.verb.as_str() == "run") {
+        let all = joined(alloc, setup, lines)?;
+        runs::case(alloc, all.as_slice(), report)?;
+        report.end_case(head)
+    } else {
+        store::case(alloc, setup, lines, head, report)
+    }
+}
+
+/// Does a block: `wrong` says that the cases from here on are to differ, `setup` begins lines that stand before those of each later
+/// case, `case` begins a case, and else each line is one.
+fn do_block(
+    alloc: Global,
+    setup: &mut Block,
+    block: Block,
+    report: &mut Report,
+) -> Result<(), Bad> {
+    let Some(head) = block.first() else {
+        return Ok(());
+    };
+    match head.verb.as_str() {
+        "wrong" => report.expect_wrong(),
+        "setup" => *setup = block,
+        "case" => do_case(alloc, setup.as_slice(), block.as_slice(), head, report)?,
+        _ => {
+            for line in block.as_slice() {
+                read_alone(alloc, line, report)?;
+            }
+        }
+    }
+    Ok(())
+}
+
+/// Does the cases of a file, and reports what differs.
+pub fn do_file(alloc: Global, file: &str, text: &str) -> Result<Report, Bad> {
+    let mut report = Report::of(alloc, file)?;
+    let mut setup = Vec::new(alloc);
+    let mut block = Vec::new(alloc);
+    for (at, line) in text.lines().enumerate() {
+        let line = line.trim();
+        if line.is_empty() {
+            let whole = std::mem::replace(&mut block, Vec::new(alloc));
+            do_block(alloc, &mut setup, whole, &mut report)?;
+        } else {
+            add(alloc, &mut block, at.saturating_add(1), line)?;
+        }
+    }
+    do_block(alloc, &mut setup, block, &mut report)?;
+    Ok(report)
+}

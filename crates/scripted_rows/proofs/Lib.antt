@@ -1,0 +1,6 @@
+mod Lower
+mod Holding
+mod Passing
+mod Allowing
+mod Putting
+mod Lines

@@ -1,0 +1,15 @@
+use Rattle.std.proofs.Common.{ℕ, List, refl, subst}
+use Rattle.cell_model.specs.Lawful.{ClaimBasis}
+use Rattle.cell_model.specs.Seen.{Saw}
+use Rattle.cell_solo.specs.Turns.{sight}
+use Rattle.scripted_rows.specs.Sharing.IsOneStep.{one}
+use Rattle.scripted_rows.proofs.step.claim.Goals as goal
+
+pub claim-requires : goal.claim-requires
+claim-requires c = record {
+  knows = subst (λ (x : ℕ × List ℕ). ClaimBasis (λ e. (place : ℕ) × Saw (sight c.args.shared.now.solo) place e) x.0 c.args.row.now.table c.args.row.now.bytes x.1 c.args.value.now)
+      (λ i. (c.caller-caller.ensures i, c.list.ensures i)) (c.if-not-may_claim.ensures refl (sight c.args.shared.now.solo) c.facts.ensures.hold);
+}
+
+pub returns-in-Ok : goal.returns-in-Ok
+returns-in-Ok c = one c.in-Ok.ensures.steps

@@ -1,3 +1,0 @@
-pub mod Others
-pub mod Listings
-pub mod Races
