@@ -19,7 +19,7 @@ use Rattle.cell_model.specs.Lawful.{IsLawful}
 use Rattle.cell_model.specs.Readings.{Reading, Named, CellReads, point_row}
 use Rattle.cell_model.specs.Seen.{Seen, Fits}
 use Rattle.cell_model.specs.Deeds.{Made, InOrder, before_first}
-use Rattle.row_scan.specs.Scans.{IsRowOf, HasCell}
+use Rattle.row_scan.specs.Scans.{IsRowOf, HasCell, IsWanted}
 use Rattle.qual_codec.specs.Merge.{values_at, first_conflict as first_clash}
 use Rattle.query_run.specs.Parts.{HasClash, ShowsRowsBelow, FirstClash}
 use Rattle.query_run.specs.Queries.{is_wanted}
@@ -27,7 +27,7 @@ use Rattle.query_run.specs.Naming.{IdOf, AreReads}
 use Rattle.query_run.specs.RowDots.{IsIn}
 use Rattle.query_text.specs.declared.queries.Filter.{Filter}
 use Rattle.row_scan.specs.Shown.{ShowsRow}
-use Rattle.query_run.specs.Collecting.{Picks, KeyOf, Counted, RowClashes, FoundClash}
+use Rattle.query_run.specs.Collecting.{Picks, KeyOf, Counted, RowClashes, FoundClash, picked_by}
 use Rattle.query_run.proofs.Lower as lower
 use Rattle.query_run.proofs.Titles.{tags_exist}
 use Rattle.query_run.proofs.RowReadings.{PicksBy, asks, is_asked, hours_within, ReadsDot, dot_reads, clean_row, same_dots}
@@ -142,26 +142,31 @@ least_clash picks names start end metric filters id f time a b r t c d x = at (b
 
 -- ---- the first of all
 
--- the row of a reading that is wanted, of a cell that was there, is one of the metric in these hours
-asked_row : (h : History) (from now start end : ℕ) (metric : List ℕ) (filters : List Filter) (id : ℕ) (row qual value : List ℕ) (r : Reading) → IsLawful h → from ≤ now → id_of (first now h) Metric metric ≡ Some id → value_at (store_after (first from h)) (point_row row) qual ≡ Some value
-    → CellReads (name_of (first now h)) row qual value r → IsTrue (is_wanted start end metric filters r) → IsRowOf id (base_time start) (base_time end) (point_row row)
-asked_row h from now start end metric filters id row qual value r lawful le known is c wants =
+-- the row of a reading that is wanted, of a cell that was there, is one of the metric in these hours, and is asked for
+asked_row : (picks : Picks) (h : History) (from now start end : ℕ) (metric : List ℕ) (filters : List Filter) (id : ℕ) (row qual value : List ℕ) (r : Reading) → IsLawful h → from ≤ now → id_of (first now h) Metric metric ≡ Some id
+    → ((key : RowKey) → IsKey key → HasCell (store_after (first now h)) (point_row (key_bytes key)) → PicksBy picks filters (name_of (first now h)) key) → value_at (store_after (first from h)) (point_row row) qual ≡ Some value
+    → CellReads (name_of (first now h)) row qual value r → IsTrue (is_wanted start end metric filters r) → IsRowOf id (base_time start) (base_time end) (point_row row) × IsWanted (picked_by picks) (point_row row)
+asked_row picks h from now start end metric filters id row qual value r lawful le known by is c wants =
     let d = c.dot_reads in
     let a = asks start end metric filters r wants in
     let w = hours_within start end r.time a.within in
     let hour = lower.hour_is r.time d.key.base c.dot.item.offset d.is_key.hour (lower.dot_offset qual value c.dots c.dot c.reads c.among) d.time_is in
     let its = lower.metric_id (first now h) row c.dot r (lower.row_stood h from now row qual value lawful le is) d in
-    record {
-      key = d.key;
-      is_key = d.is_key;
-      row_is = ap point_row d.row_is;
-      metric_is = same_Some d.key.metric id (sym its ∙ ap (id_of (first now h) Metric) a.metric_is ∙ known);
-      from_on = subst (λ n. base_time start ≤ n) hour w.0;
-      up_to = subst (λ n. n ≤ base_time end) hour w.1;
-    }
+    let still = subst (λ (b : List ℕ). HasCell (store_after (first now h)) (point_row b)) d.row_is (lower.row_stays h from now (point_row row) lawful refl le (qual, value, is)) in (
+      record {
+        key = d.key;
+        is_key = d.is_key;
+        row_is = ap point_row d.row_is;
+        metric_is = same_Some d.key.metric id (sym its ∙ ap (id_of (first now h) Metric) a.metric_is ∙ known);
+        from_on = subst (λ n. base_time start ≤ n) hour w.0;
+        up_to = subst (λ n. n ≤ base_time end) hour w.1;
+      },
+      record { key = d.key; is_key = d.is_key; row_is = ap point_row d.row_is; wanted = by d.key d.is_key still r.tags d.tags_are ∙ a.passed },
+    )
 
 -- in a history that has these entries: reads, and then those of a scan that was broken off by the clash
-module _ (picks : Picks) (h : History) (now start end : ℕ) (metric : List ℕ) (filters : List Filter) (id : ℕ) (looks own : List Placed) (time : ℕ) (a b : ℤ) (lawful : IsLawful h) (order : InOrder h now (looks ++ own)) (reads : AreReads looks) (f : FoundClash picks id start end own time a b) where
+module _ (picks : Picks) (h : History) (now start end : ℕ) (metric : List ℕ) (filters : List Filter) (id : ℕ) (looks own : List Placed) (time : ℕ) (a b : ℤ) (lawful : IsLawful h) (order : InOrder h now (looks ++ own)) (reads : AreReads looks) (f : FoundClash picks id start end own time a b)
+    (by_row : (key : RowKey) → IsKey key → HasCell (store_after (first now h)) (point_row (key_bytes key)) → PicksBy picks filters (name_of (first now h)) key) where
   abbrev from : ℕ
   from = before_first (looks ++ own) now
 
@@ -179,8 +184,8 @@ module _ (picks : Picks) (h : History) (now start end : ℕ) (metric : List ℕ)
 
   all_below : id_of (first now h) Metric metric ≡ Some id → ShowsRowsBelow (store_after (first from h)) (name_of (first now h)) (is_wanted start end metric filters) (looks ++ f.earlier) f.found.row
   all_below known row qual value r is c wants less =
-      let of = asked_row h from now start end metric filters id row qual value r lawful early known is c wants in
-      let w = f.passed h from lawful (λ q i. let s = stand.each q (Contains-append_right looks own q i) in (s.0, s.1)) (point_row row) of (qual, value, is) less in
+      let of = asked_row picks h from now start end metric filters id row qual value r lawful early known by_row is c wants in
+      let w = f.passed h from lawful (λ q i. let s = stand.each q (Contains-append_right looks own q i) in (s.0, s.1)) (point_row row) of.0 of.1 (qual, value, is) less in
       (w.0, shown_after looks f.earlier w.0 w.1, w.2)
 
   pub first_clash_of : name_of (first now h) Metric id ≡ Some metric → id_of (first now h) Metric metric ≡ Some id → lower.StoodRow (first now h) (key_bytes f.clash.key)

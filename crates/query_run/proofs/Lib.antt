@@ -28,3 +28,6 @@ mod InvisibleSteps
 mod Outcomes
 mod SameOutcome
 mod SameAnswer
+mod PairOrder
+mod Jumps
+mod Skipping

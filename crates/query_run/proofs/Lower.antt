@@ -16,8 +16,8 @@ pub use Rattle.row_scan.proofs.Lower.{one_key}
 pub use Rattle.row_scan.proofs.Bytes.{below_behind, not_back, below_from_on, from_on_from_on, not_itself, never_both, less_behind, less_or_not}
 pub use Rattle.row_scan.proofs.NextRow.{Between, between, between_is, next_has, next_cells, next_least}
 pub use Rattle.row_scan.proofs.Turning.{HasKey, found_key}
-pub use Rattle.row_scan.proofs.Whole.{placed_next, row_stays, StandAbove, own_stands}
-pub use Rattle.row_scan.proofs.Turns.{scan_begins, turn_goes_on, others_pass, turn_ends}
+pub use Rattle.row_scan.proofs.Whole.{placed_next, row_stays, StandAbove, own_stands, wanted_stays}
+pub use Rattle.row_scan.proofs.Turns.{scan_begins, turn_goes_on, others_pass, skips_pass, turn_ends}
 pub use Rattle.row_scan.proofs.CellsOf.{cell_at}
 pub use Rattle.row_scan.proofs.Accepted.{ShownCell, shown_accepted}
 pub use Rattle.row_scan.proofs.Names.{IsOf, StoodRow, row_stood, metric_id}

@@ -10,6 +10,7 @@ use Rattle.tsd_base.specs.declared.kinds.Fill.{Fill}
 use Rattle.tsd_base.specs.declared.kinds.Fill.TheVariants.{NoFill, Zero}
 use Rattle.tsd_base.specs.declared.kinds.Down.{Down}
 use Rattle.row_key.specs.declared.keys.RowKey.{RowKey}
+use Rattle.row_key.specs.Key.{IsKey, key_bytes}
 use Rattle.json_reply.specs.Replies.{Group, plain}
 use Rattle.json_reply.specs.declared.reply.Group as code
 use Rattle.query_text.specs.declared.queries.Query.{Query}
@@ -17,14 +18,16 @@ use Rattle.query_text.specs.declared.queries.Sub.{Sub}
 use Rattle.query_text.specs.declared.queries.Filter.{Filter}
 use Rattle.cell_model.specs.declared.cells.Found.{Found}
 use Rattle.cell_model.specs.declared.events.Placed.{Placed}
-use Rattle.cell_model.specs.History.{History, first}
+use Rattle.cell_model.specs.History.{History, first, store_after}
 use Rattle.cell_model.specs.Ids.{id_of, name_of}
 use Rattle.cell_model.specs.Layout.{base_time}
 use Rattle.cell_model.specs.Lawful.{IsLawful}
+use Rattle.cell_model.specs.Readings.{point_row}
 use Rattle.cell_model.specs.Seen.{Seen, IsPossible, Fits, InEach}
 use Rattle.cell_model.specs.Deeds.{Made, Extends, InOrder}
 use Rattle.uid_table.specs.Shown.{HasShown}
 use Rattle.row_scan.specs.Laws.{ScanCovers}
+use Rattle.row_scan.specs.Scans.{HasCell}
 use Rattle.span_merge.specs.Spans.{Span}
 use Rattle.downsample.specs.Buckets.{all_buckets}
 use Rattle.query_run.specs.declared.fault.AskFault.{AskFault}
@@ -193,6 +196,12 @@ module _ (s : Sub) (id : ℕ) (filters : List IdFilter) (old mid new : Seen) (ow
         picks_by g mid (λ kind name i shown. id_now mid later g kind name i from_mid g_lawful g_fits shown) s.filters filters key b.by of.is_key
         (row_names h later.length id start end f key lawful (stood spare start end founds ids counted f c) of)
 
+    -- and the rows that are there
+    pick_row : (key : RowKey) → IsKey key → HasCell (store_after g) (point_row (key_bytes key)) → PicksBy (passes filters) s.filters (name_of g) key
+    pick_row key is has =
+        picks_by g mid (λ kind name i shown. id_now mid later g kind name i from_mid g_lawful g_fits shown) s.filters filters key b.by is
+        (lower.row_stood h later.length later.length (key_bytes key) has.0 has.1 lawful (omega arith) has.2)
+
   few_later : (q : Query) (founds : List Found) (ids : List IdOf) → Counted 1 id q.start q.end own founds ids → Later new (λ end h. IsFew q s (looks ++ own) (first end h))
   few_later q founds ids counted later ext h lawful fits =
       few_rows (names_in s) q.start q.end s.metric id looks own founds ids h later.length b.resolved.looks.few counted lawful (metric_known later ext h lawful fits) (stood later ext h lawful fits 1 q.start q.end founds ids counted)
@@ -228,7 +237,7 @@ module _ (q : Query) (s : Sub) (old mid new : Seen) (id : ℕ) (filters : List I
           let row = row_names h new.length id q.start q.end f.found f.clash.key lawful stand f.clash.of in (
             free,
             resolved,
-            first_clash_of (passes filters) h new.length q.start q.end s.metric s.filters id b.resolved.list c.own time x y lawful order b.resolved.looks.reads f named known row
+            first_clash_of (passes filters) h new.length q.start q.end s.metric s.filters id b.resolved.list c.own time x y lawful order b.resolved.looks.reads f (pick_row s id filters old mid new c.own b new (lower.itself new) h lawful fits) named known row
                 (λ other key shows of. pick s id filters old mid new c.own b new (lower.itself new) h lawful fits 1 q.start q.end c.founds c.ids c.counted other key (c.counted.shows shows.placed other shows.among shows.reply) of),
           ))
       at OutOfMemory f = refused OutOfMemory (λ h lawful fits. tt)
@@ -278,7 +287,7 @@ module _ (q : Query) (s : Sub) (old mid new : Seen) (id : ℕ) (filters : List I
       let gf = g_fits s id filters old mid new c.own b later ext h lawful fits in
       stands_in (passes filters) q.start q.end s.metric s.filters id b.resolved.list c.own c.founds c.ids spans names series g b.resolved.looks.reads c.counted c.content titles (metric_named s id filters old mid new c.own b later ext h lawful fits)
       (metric_known s id filters old mid new c.own b later ext h lawful fits) (λ pairs tags n. named_in names new later g pairs tags c.shown ext gl gf n) (pick s id filters old mid new c.own b later ext h lawful fits 1 q.start q.end c.founds c.ids c.counted)
-      h later.length refl covering lawful (in_order s id filters old mid new c.own b later ext h lawful fits) c.begin c.starts c.whole (names_in s) (all_resolved s id filters old mid new c.own b later ext h lawful fits)
+      (pick_row s id filters old mid new c.own b later ext h lawful fits) h later.length refl covering lawful (in_order s id filters old mid new c.own b later ext h lawful fits) c.begin c.starts c.whole (names_in s) (all_resolved s id filters old mid new c.own b later ext h lawful fits)
 
   same_answer : (series : List Series) (wants : Result (List Group) ℕ) → answer q s (points_in s.metric series) ≡ wants → answer_over q s (readings_in s.metric series) ≡ wants
   same_answer series wants e = ap (answer q s) (as_points s.metric series) ∙ e

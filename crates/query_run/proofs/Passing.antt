@@ -12,8 +12,8 @@ use Rattle.cell_model.specs.declared.events.Placed.{Placed}
 use Rattle.cell_model.specs.Store.{bytes_cmp, is_between}
 use Rattle.cell_model.specs.History.{History, first, store_after, entry_at}
 use Rattle.cell_model.specs.Lawful.{IsLawful}
-use Rattle.row_scan.specs.Scans.{Left, IsNext, HasCell, behind}
-use Rattle.query_run.specs.Collecting.{StandAfter, FoundBelow}
+use Rattle.row_scan.specs.Scans.{Left, IsNext, HasCell, IsWanted, Skips, left_at, behind}
+use Rattle.query_run.specs.Collecting.{Picks, StandAfter, FoundBelow, picked_by}
 use Rattle.query_run.proofs.Lower as lower
 
 less_not : (r : Ordering) → r ≡ Less → is_lt r ≡ false → ⊥
@@ -22,8 +22,8 @@ less_not Equal e n = cc
 less_not Greater e n = cc
 
 -- where the scan begins, none is below what is left
-pub below_none : (begin : Left) → FoundBelow begin begin [] []
-below_none begin = record { to = refl; each = λ h n lawful stand row in_range has less. absurd (less_not (bytes_cmp row.bytes begin.from) less (lower.between begin.from begin.to row in_range).from_on) }
+pub below_none : (picks : Picks) (begin : Left) → FoundBelow picks begin begin [] []
+below_none picks begin = record { to = refl; each = λ h n lawful stand row in_range wanted has less. absurd (less_not (bytes_cmp row.bytes begin.from) less (lower.between begin.from begin.to row in_range).from_on) }
 
 -- a row of the scan is below what is left, or is left
 below_or_left : (begin left : Left) (row : Row) → left.to ≡ begin.to → IsTrue (is_between Points begin.from begin.to row) → (bytes_cmp row.bytes left.from ≡ Less) ⊎ lower.Between left.from left.to row
@@ -41,12 +41,12 @@ at_or_above h n left p f row lawful at low next b has =
     let still = lower.row_stays h n (p.place - 1) row lawful b.in_points (omega (arith, low)) has in
     lower.next_least (store_after (first (p.place - 1) h)) left.from left.to f row still.0 still.1 (lower.placed_next h p left (Some f) lawful at next) b still.2
 
-module _ (begin left : Left) (own : List Placed) (founds : List Found) (p : Placed) (f : Found) (so : FoundBelow begin left own founds) (next : IsNext left (Some f) p) where
+module _ (picks : Picks) (begin left : Left) (own : List Placed) (founds : List Found) (p : Placed) (f : Found) (so : FoundBelow picks begin left own founds) (next : IsNext left (Some f) p) where
   -- each row below the one that the next row finds was found
-  pub found_before : (h : History) (n : ℕ) → IsLawful h → StandAfter h n (own ++ p ∷ []) → (row : Row) → IsTrue (is_between Points begin.from begin.to row) → HasCell (store_after (first n h)) row → bytes_cmp row.bytes f.row.bytes ≡ Less
+  pub found_before : (h : History) (n : ℕ) → IsLawful h → StandAfter h n (own ++ p ∷ []) → (row : Row) → IsTrue (is_between Points begin.from begin.to row) → IsWanted (picked_by picks) row → HasCell (store_after (first n h)) row → bytes_cmp row.bytes f.row.bytes ≡ Less
       → (g : Found) × Contains founds g × (g.row ≡ row)
-  found_before h n lawful stand row in_range has less = elim (below_or_left begin left row so.to in_range) [
-    | inl low ↦ so.each h n lawful (λ q c. stand q (Contains-append_left own (p ∷ []) q c)) row in_range has low
+  found_before h n lawful stand row in_range wanted has less = elim (below_or_left begin left row so.to in_range) [
+    | inl low ↦ so.each h n lawful (λ q c. stand q (Contains-append_left own (p ∷ []) q c)) row in_range wanted has low
     | inr b ↦
         let at = stand p (Contains-append_right own (p ∷ []) p (lower.here p [])) in
         elim (at_or_above h n left p f row lawful at.0 at.1 next b has) [
@@ -56,20 +56,30 @@ module _ (begin left : Left) (own : List Placed) (founds : List Found) (p : Plac
   ]
 
   -- and behind it, each up to it
-  pub below_more : (list : List Placed) → FoundBelow begin (behind left f.row) ((own ++ p ∷ []) ++ list) (founds ++ f ∷ [])
+  pub below_more : (list : List Placed) → FoundBelow picks begin (behind left f.row) ((own ++ p ∷ []) ++ list) (founds ++ f ∷ [])
   below_more list = record {
     to = so.to;
-    each = λ h n lawful stand row in_range has less. at h n lawful (λ q c. stand q (Contains-append_left (own ++ p ∷ []) list q c)) row in_range has less (below_or_left begin left row so.to in_range);
+    each = λ h n lawful stand row in_range wanted has less. at h n lawful (λ q c. stand q (Contains-append_left (own ++ p ∷ []) list q c)) row in_range wanted has less (below_or_left begin left row so.to in_range);
   }
     where
-      at : (h : History) (n : ℕ) → IsLawful h → StandAfter h n (own ++ p ∷ []) → (row : Row) → IsTrue (is_between Points begin.from begin.to row) → HasCell (store_after (first n h)) row → bytes_cmp row.bytes (behind left f.row).from ≡ Less
+      at : (h : History) (n : ℕ) → IsLawful h → StandAfter h n (own ++ p ∷ []) → (row : Row) → IsTrue (is_between Points begin.from begin.to row) → IsWanted (picked_by picks) row → HasCell (store_after (first n h)) row → bytes_cmp row.bytes (behind left f.row).from ≡ Less
           → (bytes_cmp row.bytes left.from ≡ Less) ⊎ lower.Between left.from left.to row → (g : Found) × Contains (founds ++ f ∷ []) g × (g.row ≡ row)
-      at h n lawful stand row in_range has less (inl low) =
-          let w = so.each h n lawful (λ q c. stand q (Contains-append_left own (p ∷ []) q c)) row in_range has low in
+      at h n lawful stand row in_range wanted has less (inl low) =
+          let w = so.each h n lawful (λ q c. stand q (Contains-append_left own (p ∷ []) q c)) row in_range wanted has low in
           (w.0, Contains-append_left founds (f ∷ []) w.0 w.1, w.2)
-      at h n lawful stand row in_range has less (inr b) =
+      at h n lawful stand row in_range wanted has less (inr b) =
           let s = stand p (Contains-append_right own (p ∷ []) p (lower.here p [])) in
           elim (at_or_above h n left p f row lawful s.0 s.1 next b has) [
             | inl same ↦ (f, Contains-append_right founds (f ∷ []) f (lower.here f []), sym same)
             | inr above ↦ absurd (less_not (bytes_cmp row.bytes (behind left f.row).from) less (lower.less_behind f.row.bytes row.bytes above))
           ]
+
+-- where it goes on further, since no row in between is asked for, those below are found still
+pub below_skipped : (picks : Picks) (begin left : Left) (from : List ℕ) (own : List Placed) (founds : List Found) → FoundBelow picks begin left own founds → Skips (picked_by picks) left from → FoundBelow picks begin (left_at left from) own founds
+below_skipped picks begin left from own founds so skips = record {
+  to = so.to;
+  each = λ h n lawful stand row in_range wanted has less. elim (below_or_left begin left row so.to in_range) [
+    | inl low ↦ so.each h n lawful stand row in_range wanted has low
+    | inr b ↦ absurd (less_not (bytes_cmp row.bytes from) less (lower.wanted_stays (picked_by picks) left from row skips wanted b).from_on)
+  ];
+}

@@ -16,7 +16,7 @@ use Rattle.cell_model.specs.Layout.{base_time}
 use Rattle.cell_model.specs.Store.{bytes_cmp}
 use Rattle.cell_model.specs.Seen.{Seen, IsPossible}
 use Rattle.cell_model.specs.Deeds.{Made}
-use Rattle.row_scan.specs.Scans.{Left, IsNext, IsStart, IsOther, AreOther, TurnMade, MadeSo, behind}
+use Rattle.row_scan.specs.Scans.{Left, IsNext, IsStart, IsOther, AreOther, TurnMade, MadeSo, Skips, left_at, behind}
 use Rattle.span_merge.specs.Spans.{Span}
 use Rattle.query_run.specs.declared.fault.AskFault.{AskFault}
 use Rattle.query_run.specs.declared.fault.AskFault.TheVariants.{TooManyBuckets, Unknown, Duplicate, Overflow, OutOfMemory, Stopped}
@@ -24,12 +24,12 @@ use Rattle.query_run.specs.declared.collecting.Collected.{Collected}
 use Rattle.query_run.specs.Faults.{ask_fault}
 use Rattle.query_run.specs.Parts.{IsQueryStep, AreQuerySteps}
 use Rattle.query_run.specs.Naming.{IdOf, Names, AllNamed, HasName, AreReads, IdReads, ids_of, known}
-use Rattle.query_run.specs.Collecting.{Picks, KeyOf, StandsBehind, RowDone, RowCut, RowClashes, RowAsked, Counted, Gathered, Gathering, HasCollected, ShowsBelow, ClashOf, WasCut}
+use Rattle.query_run.specs.Collecting.{Picks, KeyOf, StandsBehind, RowDone, RowCut, RowClashes, RowAsked, Counted, Gathered, Gathering, HasCollected, GoesOn, ShowsBelow, ClashOf, WasCut, picked_by}
 use Rattle.query_run.proofs.Lower as lower
 use Rattle.query_run.proofs.NameReads.{pairs_joined, named_kept}
-use Rattle.query_run.proofs.ScanSteps.{NextFound, next_found, only_behind, below_next, below_rest}
+use Rattle.query_run.proofs.ScanSteps.{NextFound, next_found, only_from, only_behind, below_next, below_rest}
 use Rattle.query_run.proofs.Contents.{stands_behind, gathered_more, row_clean}
-use Rattle.query_run.proofs.Passing.{below_none, below_more, found_before}
+use Rattle.query_run.proofs.Passing.{below_none, below_more, below_skipped, found_before}
 
 -- ---- entries
 
@@ -161,10 +161,10 @@ scan_starts picks id start end left s spans names is content none = (
     made = lower.nothing_made s;
     counted = counted_none id start end;
     had = λ i c. absurd (lower.not_in i c);
-    scanning = lower.scan_begins left;
+    scanning = lower.scan_begins (picked_by picks) left;
     only = is.only;
     passed = λ f c. absurd (lower.not_in f c);
-    below = below_none left;
+    below = below_none picks left;
     content = content;
     shown = λ kind i name e. absurd (none_some name (sym (none kind i) ∙ e));
   },
@@ -227,7 +227,7 @@ module _ (picks : Picks) (old now next : Seen) (id start end : ℕ) (left : Left
           made = lower.made_joined old next after both list made_next made;
           counted = counted_more 0 id start end g.own list g.founds g.ids ids left t.p f key names g.counted t.is_next of below g.had reads;
           had = λ i c. elim (Contains-append_cases g.ids ids i c) [ inl o ↦ (let h = g.had i o in (h.0, kept i.0 i.1 h.0 h.1)) | inr x ↦ had i x ];
-          scanning = lower.others_pass t.far.0 (behind left f.row) both list (g.founds ++ f ∷ []) (lower.turn_goes_on t.far.0 left g.own (t.p ∷ []) g.founds f g.scanning (t.p, refl, t.is_next)) (reads_other list reads.reads);
+          scanning = lower.others_pass (picked_by picks) t.far.0 (behind left f.row) both list (g.founds ++ f ∷ []) (lower.turn_goes_on (picked_by picks) t.far.0 left g.own (t.p ∷ []) g.founds f g.scanning (t.p, refl, t.is_next)) (reads_other list reads.reads);
           only = only_behind id start end left f.row g.only row_found.from_on;
           passed = λ h c. elim (Contains-append_cases g.founds (f ∷ []) h c) [
             | inl o ↦ below_rest h.row.bytes left f.row (below h o)
@@ -236,7 +236,7 @@ module _ (picks : Picks) (old now next : Seen) (id start end : ℕ) (left : Left
               | inr none ↦ absurd (lower.not_in h none)
             ]
           ];
-          below = below_more t.far.0 left g.own g.founds t.p f g.below t.is_next list;
+          below = below_more picks t.far.0 left g.own g.founds t.p f g.below t.is_next list;
           content = gathered_more picks id start end g.founds f next after spans more names names_after g.content done;
           shown = shown;
         },
@@ -264,9 +264,9 @@ module _ (picks : Picks) (old now next : Seen) (id start end : ℕ) (left : Left
       }
 
   -- the entries before it show each row below it
-  shows_below : ShowsBelow id start end ((so.own ++ t.p ∷ []) ++ []) so.own f.row
-  shows_below h n lawful stand row of has less =
-      let w = found_before t.far.0 left so.own so.founds t.p f so.below t.is_next h n lawful (λ q c. stand q (Contains-append_left both [] q c)) row (t.far.1.all row of) has less in
+  shows_below : ShowsBelow picks id start end ((so.own ++ t.p ∷ []) ++ []) so.own f.row
+  shows_below h n lawful stand row of wanted has less =
+      let w = found_before picks t.far.0 left so.own so.founds t.p f so.below t.is_next h n lawful (λ q c. stand q (Contains-append_left both [] q c)) row (t.far.1.all row of) wanted has less in
       let by = so.counted.by w.0 w.1 in
       (w.0, record { placed = by.0; among = by.2; reply = by.3.1 }, w.2)
 
@@ -301,6 +301,34 @@ module _ (picks : Picks) (old now next : Seen) (id start end : ℕ) (left : Left
   turn_fails after before coll (Unknown kind name) same r = absurd r
   turn_fails after before coll (Overflow time) same r = absurd r
 
+-- ---- it goes on further, since no row in between is asked for
+
+skip_goes : (picks : Picks) (old now : Seen) (id start end : ℕ) (left : Left) (from : List ℕ) (spans : List Span) (names : Names) → SoFar picks id start end left old spans names now → Skips (picked_by picks) left from
+    → SoFar picks id start end (left_at left from) old spans names now
+skip_goes picks old now id start end left from spans names (begin, is, g) skips = (
+  begin,
+  is,
+  record {
+    own = g.own;
+    founds = g.founds;
+    ids = g.ids;
+    made = g.made;
+    counted = g.counted;
+    had = g.had;
+    scanning = lower.skips_pass (picked_by picks) begin left g.own g.founds from g.scanning skips;
+    only = only_from id start end left from g.only skips.forward;
+    passed = λ f c. lower.below_from_on f.row.bytes left.from from (g.passed f c) skips.forward;
+    below = below_skipped picks begin left from g.own g.founds g.below skips;
+    content = g.content;
+    shown = g.shown;
+  },
+)
+
+pub goes_on : (picks : Picks) (old now : Seen) (id start end : ℕ) (behind left later : Left) (spans : List Span) (names : Names) → left ≡ behind → SoFar picks id start end behind old spans names now → GoesOn picks left later → SoFar picks id start end later old spans names now
+goes_on picks old now id start end behind left later spans names is far (from, skips, later_is) =
+    subst (λ (l : Left). SoFar picks id start end l old spans names now) (sym later_is)
+    (skip_goes picks old now id start end left from spans names (subst (λ (l : Left). SoFar picks id start end l old spans names now) (sym is) far) skips)
+
 -- ---- a turn that failed, and the end
 
 cause_of : (picks : Picks) (id start end : ℕ) (own : List Placed) (e : RowsFault) → ClashOf picks id start end own (ask_fault e)
@@ -332,7 +360,7 @@ scan_ends picks old now next id start end left spans names o (begin, is, g) none
       made = lower.made_joined old now next g.own list g.made made;
       counted = counted_end id start end g.own list g.founds g.ids left p g.counted list_is next_none;
       starts = is;
-      whole = lower.turn_ends begin left g.own list g.founds g.scanning (p, list_is, next_none);
+      whole = lower.turn_ends (picked_by picks) begin left g.own list g.founds g.scanning (p, list_is, next_none);
       content = g.content;
       shown = named_kept now next names made.since.extends g.shown;
     }

@@ -1,5 +1,5 @@
 -- A row that a turn of the scan found.
-use Rattle.std.proofs.Common.{◌≡◌, ℕ, ◌+◌, ◌-◌, ◌*◌, ◌%◌, ◌<◌, ◌≤◌, false, List, [], ◌∷◌, refl, sym, ap, subst, ◌∙◌, arith}
+use Rattle.std.proofs.Common.{◌≡◌, ℕ, ◌+◌, ◌-◌, ◌*◌, ◌%◌, ◌<◌, ◌≤◌, false, List, [], ◌∷◌, ◌++◌, refl, sym, ap, subst, ◌∙◌, arith}
 use Rattle.std.specs.Prelude.{Contains, All, Some, IsTrue, if◌then◌else◌}
 use Rattle.std.specs.declared.cmp.Ordering.{Ordering}
 use Rattle.std.specs.declared.cmp.Ordering.TheVariants.{Less, Equal, Greater}
@@ -27,7 +27,7 @@ use Rattle.cell_model.specs.Lawful.{IsLawful}
 use Rattle.cell_model.specs.Readings.{point_row}
 use Rattle.cell_model.specs.Seen.{Seen, IsPossible, Fits}
 use Rattle.cell_model.specs.Deeds.{Made}
-use Rattle.row_scan.specs.Scans.{Left, IsNext, behind}
+use Rattle.row_scan.specs.Scans.{Left, IsNext, left_at, behind}
 use Rattle.query_run.specs.Naming.{KnowsPair}
 use Rattle.query_run.specs.Collecting.{FoundRow, OnlyRows}
 use Rattle.query_run.proofs.Lower as lower
@@ -98,11 +98,14 @@ next_found s t id start end left p f made next possible only =
 
 -- ---- behind it
 
+pub only_from : (id start end : ℕ) (left : Left) (from : List ℕ) → OnlyRows id start end left → is_lt (bytes_cmp from left.from) ≡ false → OnlyRows id start end (left_at left from)
+only_from id start end left from only on key is in_range =
+    let b = lower.between from left.to (point_row (key_bytes key)) in_range in
+    only key is (lower.between_is left.from left.to (point_row (key_bytes key)) (record { in_points = b.in_points; from_on = lower.from_on_from_on left.from from (key_bytes key) on b.from_on; below = b.below }))
+
 pub only_behind : (id start end : ℕ) (left : Left) (row : Row) → OnlyRows id start end left → is_lt (bytes_cmp row.bytes left.from) ≡ false → OnlyRows id start end (behind left row)
-only_behind id start end left row only on key is in_range =
-    let b = lower.between (behind left row).from left.to (point_row (key_bytes key)) in_range in
-    let low = lower.from_on_from_on left.from row.bytes (behind left row).from on (lower.not_back row.bytes (behind left row).from (lower.below_behind row.bytes)) in
-    only key is (lower.between_is left.from left.to (point_row (key_bytes key)) (record { in_points = b.in_points; from_on = lower.from_on_from_on left.from (behind left row).from (key_bytes key) low b.from_on; below = b.below }))
+only_behind id start end left row only on =
+    only_from id start end left (row.bytes ++ 0 ∷ []) only (lower.from_on_from_on left.from row.bytes (row.bytes ++ 0 ∷ []) on (lower.not_back row.bytes (row.bytes ++ 0 ∷ []) (lower.below_behind row.bytes)))
 
 -- rows that were passed are below those that are left
 pub below_next : (a : List ℕ) (left : Left) (row : Row) → bytes_cmp a left.from ≡ Less → is_lt (bytes_cmp row.bytes left.from) ≡ false → bytes_cmp a row.bytes ≡ Less

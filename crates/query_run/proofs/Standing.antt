@@ -6,17 +6,18 @@ use Rattle.tsd_base.specs.declared.kinds.Kind.{Kind}
 use Rattle.tsd_base.specs.declared.kinds.Kind.TheVariants.{Metric, TagKey, TagValue}
 use Rattle.tsd_base.specs.TagList.{Pair}
 use Rattle.row_key.specs.declared.keys.RowKey.{RowKey}
+use Rattle.row_key.specs.Key.{IsKey, key_bytes}
 use Rattle.cell_model.specs.declared.cells.Found.{Found}
 use Rattle.cell_model.specs.declared.events.Placed.{Placed}
 use Rattle.cell_model.specs.Layout.{base_time}
-use Rattle.cell_model.specs.History.{History, first}
+use Rattle.cell_model.specs.History.{History, first, store_after}
 use Rattle.cell_model.specs.Ids.{id_of, name_of}
 use Rattle.cell_model.specs.Lawful.{IsLawful}
-use Rattle.cell_model.specs.Readings.{Reading, Named}
+use Rattle.cell_model.specs.Readings.{Reading, Named, point_row}
 use Rattle.cell_model.specs.Seen.{Seen, Fits}
 use Rattle.cell_model.specs.Deeds.{Extends, InOrder}
-use Rattle.row_scan.specs.Scans.{Left, IsStart, Scanned}
-use Rattle.row_scan.specs.Shown.{ShowsRow, ShowsReading, Chosen, AsksWithin, NoClash, OwnCovers}
+use Rattle.row_scan.specs.Scans.{Left, IsStart, HasCell, Wanting, Scanned}
+use Rattle.row_scan.specs.Shown.{ShowsRow, ShowsReading, Chosen, AsksWithin, AsksOfWanted, NoClash, OwnCovers}
 use Rattle.row_scan.specs.Laws.{ScanCovers}
 use Rattle.span_merge.specs.Spans.{Span, dots_of}
 use Rattle.query_run.specs.declared.series.Series.{Series}
@@ -25,7 +26,7 @@ use Rattle.query_run.specs.Parts.{NameOf, AllResolved, PartStands}
 use Rattle.query_run.specs.Queries.{is_wanted}
 use Rattle.query_run.specs.Naming.{IdOf, Names, AllNamed, AreReads}
 use Rattle.query_run.specs.RowDots.{IsIn, dot_at}
-use Rattle.query_run.specs.Collecting.{Picks, AreIn, Counted, Gathered, KeyOf}
+use Rattle.query_run.specs.Collecting.{Picks, AreIn, Counted, Gathered, KeyOf, picked_by}
 use Rattle.query_run.specs.Titling.{Titles, OneToOne}
 use Rattle.query_run.proofs.Lower as lower
 use Rattle.query_run.proofs.Contents.{dot_stands, row_clean}
@@ -46,8 +47,8 @@ pub shown_after : (looks own : List Placed) (f : Found) → ShowsRow own f → S
 shown_after looks own f s = record { placed = s.placed; among = Contains-append_right looks own s.placed s.among; reply = s.reply }
 
 -- a whole scan is one behind reads
-scan_after : (begin : Left) (looks own : List Placed) (founds : List Found) → AreReads looks → Scanned begin own founds → Scanned begin (looks ++ own) founds
-scan_after begin looks own founds reads whole = lower.others_pass begin begin [] looks [] (lower.scan_begins begin) (reads_other looks reads) own founds whole
+scan_after : (wants : Wanting) (begin : Left) (looks own : List Placed) (founds : List Found) → AreReads looks → Scanned wants begin own founds → Scanned wants begin (looks ++ own) founds
+scan_after wants begin looks own founds reads whole = lower.others_pass wants begin begin [] looks [] (lower.scan_begins wants begin) (reads_other looks reads) own founds whole
 
 -- ---- the names in a history
 
@@ -79,7 +80,7 @@ reading_among metric tags d r list m t i v c =
 module _ (picks : Picks) (start end : ℕ) (metric : List ℕ) (filters : List Filter) (id : ℕ) (looks own : List Placed) (founds : List Found) (ids : List IdOf) (spans : List Span) (names : Names) (series : List Series) (g : History)
     (reads : AreReads looks) (counted : Counted 1 id start end own founds ids) (content : Gathered picks id start end founds spans names) (titles : Titles names spans series)
     (metric_named : name_of g Metric id ≡ Some metric) (metric_known : id_of g Metric metric ≡ Some id) (tags_named : (pairs : List (ℕ × ℕ)) (tags : List Pair) → Named names pairs tags → Named (name_of g) pairs tags)
-    (by : (f : Found) (key : RowKey) → Contains founds f → KeyOf id start end f key → PicksBy picks filters (name_of g) key) where
+    (by : (f : Found) (key : RowKey) → Contains founds f → KeyOf id start end f key → PicksBy picks filters (name_of g) key) (by_row : (key : RowKey) → IsKey key → HasCell (store_after g) (point_row (key_bytes key)) → PicksBy picks filters (name_of g) key) where
   abbrev wants : Reading → Bool
   wants = is_wanted start end metric filters
 
@@ -138,15 +139,19 @@ module _ (picks : Picks) (start end : ℕ) (metric : List ℕ) (filters : List F
       let h = hours_within start end r.time a.within in
       (ap (id_of g Metric) a.metric_is ∙ metric_known, h.0, h.1)
 
-  pub stands_in : (h : History) (length_now : ℕ) → first length_now h ≡ g → ScanCovers → IsLawful h → InOrder h length_now (looks ++ own) → (begin : Left) → IsStart id (base_time start) (base_time end) begin → Scanned begin own founds
+  asks_picked : AsksOfWanted (picked_by picks) wants g
+  asks_picked key r is has of wanted = by_row key is has r.tags of.tags_are ∙ (asks start end metric filters r wanted).passed
+
+  pub stands_in : (h : History) (length_now : ℕ) → first length_now h ≡ g → ScanCovers → IsLawful h → InOrder h length_now (looks ++ own) → (begin : Left) → IsStart id (base_time start) (base_time end) begin → Scanned (picked_by picks) begin own founds
       → (asked : List NameOf) → AllResolved (first length_now h) asked → PartStands (is_wanted start end metric filters) asked (record { own = looks ++ own; shown = readings_in metric series }) length_now h
   stands_in h n same covering lawful order begin starts whole asked resolved =
       let clean_h = subst (λ (x : History). NoClash (name_of x) wants (looks ++ own)) (sym same) clean in
       let within_h = subst (λ (x : History). AsksWithin wants x id (base_time start) (base_time end)) (sym same) asks_within in
+      let picked_h = subst (λ (x : History). AsksOfWanted (picked_by picks) wants x) (sym same) asks_picked in
       let to = λ (r : Reading) (c : Contains (readings_in metric series) r). subst (λ (x : History). Chosen wants (ShowsReading (name_of x) (looks ++ own)) r) (sym same) (shown_to r c) in
       let from = λ (r : Reading) (c : Chosen wants (ShowsReading (name_of (first n h)) (looks ++ own)) r). shown_from r (subst (λ (x : History). Chosen wants (ShowsReading (name_of x) (looks ++ own)) r) same c) in
       let covers : OwnCovers wants (looks ++ own) n h =
-      covering h n id (base_time start) (base_time end) begin (looks ++ own) founds wants lawful order starts (scan_after begin looks own founds reads whole) (by_series start end metric filters) within_h clean_h in
+      covering (picked_by picks) h n id (base_time start) (base_time end) begin (looks ++ own) founds wants lawful order starts (scan_after (picked_by picks) begin looks own founds reads whole) (by_series start end metric filters) within_h picked_h clean_h in
       record {
         resolved = resolved;
         shown = λ r. (to r, from r);

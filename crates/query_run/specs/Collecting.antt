@@ -18,7 +18,7 @@ use Rattle.cell_model.specs.Layout.{base_time}
 use Rattle.cell_model.specs.Readings.{point_row}
 use Rattle.cell_model.specs.Seen.{Seen}
 use Rattle.cell_model.specs.Deeds.{Made}
-use Rattle.row_scan.specs.Scans.{Left, IsNext, IsRowOf, IsStart, HasCell, Scanned, Scanning}
+use Rattle.row_scan.specs.Scans.{Left, IsNext, IsRowOf, IsStart, HasCell, Wanting, IsWanted, Skips, Scanned, Scanning, left_at}
 use Rattle.row_scan.specs.Shown.{ShowsRow}
 use Rattle.qual_codec.specs.Merge.{AreDots, values_at, first_conflict as first_clash}
 use Rattle.span_merge.specs.Spans.{Span, dots_of, added}
@@ -40,6 +40,10 @@ pub record KeyOf (id start end : ℕ) (f : Found) (key : RowKey) : Type 0 where
 -- whether a row with these pairs of ids is asked for
 abbrev pub Picks : Type 0
 Picks = List (ℕ × ℕ) → Bool
+
+-- the rows that are asked for, by their keys
+abbrev pub picked_by : Picks → Wanting
+picked_by picks key = picks key.pairs.items
 
 -- such a row, whose cells read, and whose ids are known to be those of names
 pub record FoundRow (s : Seen) (id start end : ℕ) (f : Found) : Type 0 where
@@ -167,10 +171,10 @@ OnlyRows id start end left =
 abbrev pub StandAfter : History → ℕ → List Placed → Type 0
 StandAfter h length own = (p : Placed) → Contains own p → (entry_at h p.place ≡ Some p.entry) × (length < p.place)
 
--- each row of the scan that was there before the entries, and is below what is left, was found
-pub record FoundBelow (begin left : Left) (own : List Placed) (founds : List Found) : Type 0 where
+-- each row of the scan that is asked for, was there before the entries, and is below what is left, was found
+pub record FoundBelow (picks : Picks) (begin left : Left) (own : List Placed) (founds : List Found) : Type 0 where
   pub to : left.to ≡ begin.to
-  pub each : (h : History) (length : ℕ) → IsLawful h → StandAfter h length own → (row : Row) → IsTrue (is_between Points begin.from begin.to row) → HasCell (store_after (first length h)) row → bytes_cmp row.bytes left.from ≡ Less
+  pub each : (h : History) (length : ℕ) → IsLawful h → StandAfter h length own → (row : Row) → IsTrue (is_between Points begin.from begin.to row) → IsWanted (picked_by picks) row → HasCell (store_after (first length h)) row → bytes_cmp row.bytes left.from ≡ Less
       → (f : Found) × Contains founds f × (f.row ≡ row)
 
 -- the scan has come so far
@@ -181,10 +185,10 @@ pub record Gathering (picks : Picks) (id start end : ℕ) (begin left : Left) (o
   pub made : Made old own new
   pub counted : Counted 0 id start end own founds ids
   pub had : (i : IdOf) → Contains ids i → HasName names i
-  pub scanning : Scanning begin own founds left
+  pub scanning : Scanning (picked_by picks) begin own founds left
   pub only : OnlyRows id start end left
   pub passed : (f : Found) → Contains founds f → bytes_cmp f.row.bytes left.from ≡ Less
-  pub below : FoundBelow begin left own founds
+  pub below : FoundBelow picks begin left own founds
   pub content : Gathered picks id start end founds spans names
   pub shown : AllNamed new names
 
@@ -197,14 +201,18 @@ pub record HasCollected (picks : Picks) (id start end : ℕ) (old : Seen) (spans
   pub made : Made old own new
   pub counted : Counted 1 id start end own founds ids
   pub starts : IsStart id (base_time start) (base_time end) begin
-  pub whole : Scanned begin own founds
+  pub whole : Scanned (picked_by picks) begin own founds
   pub content : Gathered picks id start end founds spans names
   pub shown : AllNamed new names
 
--- the earlier entries show each row of the metric in these hours that was there before all of the entries, and is below this one
-abbrev pub ShowsBelow : ℕ → ℕ → ℕ → List Placed → List Placed → Row → Type 0
-ShowsBelow id start end own earlier below =
-    (h : History) (length : ℕ) → IsLawful h → StandAfter h length own → (row : Row) → IsRowOf id (base_time start) (base_time end) row → HasCell (store_after (first length h)) row → bytes_cmp row.bytes below.bytes ≡ Less
+-- the scan goes on where it was, or further on where no row in between is asked for
+abbrev pub GoesOn : Picks → Left → Left → Type 0
+GoesOn picks left now = (from : List ℕ) × Skips (picked_by picks) left from × (now ≡ left_at left from)
+
+-- the earlier entries show each row of the metric in these hours that is asked for, was there before all of the entries, and is below this one
+abbrev pub ShowsBelow : Picks → ℕ → ℕ → ℕ → List Placed → List Placed → Row → Type 0
+ShowsBelow picks id start end own earlier below =
+    (h : History) (length : ℕ) → IsLawful h → StandAfter h length own → (row : Row) → IsRowOf id (base_time start) (base_time end) row → IsWanted (picked_by picks) row → HasCell (store_after (first length h)) row → bytes_cmp row.bytes below.bytes ≡ Less
     → (f : Found) × ShowsRow earlier f × (f.row ≡ row)
 
 -- the last entry shows the first row with a clash, and the clash is the row's first one
@@ -215,7 +223,7 @@ pub record FoundClash (picks : Picks) (id start end : ℕ) (own : List Placed) (
   pub clean : (p : Placed) (f : Found) → Contains earlier p → p.entry.reply ≡ Next (Some f) → RowIsClean picks id start end f
   pub found : Found
   pub reply : last.entry.reply ≡ Next (Some found)
-  pub passed : ShowsBelow id start end own earlier found.row
+  pub passed : ShowsBelow picks id start end own earlier found.row
   pub clash : RowClashes picks id start end found time a b
 
 abbrev pub ClashOf : Picks → ℕ → ℕ → ℕ → List Placed → AskFault → Type 0

@@ -11,6 +11,7 @@ pub mod IdFilters
 pub mod Naming
 pub mod RowDots
 pub mod Collecting
+pub mod KeyJumps
 pub mod Titling
 pub mod Resolving
 pub mod Working

@@ -26,7 +26,7 @@ fn add(groups: &mut Vec<Group>, more: Vec<Group>) -> Result<(), AllocError>
 /// Each sub query is worked alone. Its names are resolved in the order of its text; then the rows of the metric in the hours from the
 /// start's to the end's are read one by one, and directly after each that passes the filters the names of the ids that it shows and
 /// that the sub query has not named before, pair by pair from the left, key before value. A name or an id whose pair `names` has kept
-/// takes no read. What these rows show covers every point that the sub query wants and that was accepted before the first of these
+/// takes no read. Behind a row that fails the filters the next one is looked for behind those that fail as it does. What these rows show covers every point that the sub query wants and that was accepted before the first of these
 /// steps, and lies within what is accepted at the end.
 ///
 /// Times are in milliseconds. A downsample's interval is at least one millisecond, and whole seconds where times are told in seconds.

@@ -1,5 +1,5 @@
 //! The rows of a metric that pass filters, collected as the points of series by the ids of their tags.
-ghost use Rattle.std.specs.Prelude.{◌≡◌, ◌≤◌, ℕ, All, IfErr, OnOk};
+ghost use Rattle.std.specs.Prelude.{◌≡◌, ◌≤◌, ◌++◌, ◌∷◌, [], ℕ, All, IfErr, OnOk};
 ghost use Rattle.row_key.specs.declared.keys.RowKey.{RowKey};
 ghost use Rattle.row_key.specs.Key.{IsKey, key_bytes};
 ghost use Rattle.cell_model.specs.Layout.{base_time};
@@ -8,10 +8,11 @@ ghost use Rattle.tsd_base.specs.Dots.{IsAboveAll};
 ghost use Rattle.span_merge.specs.Spans.{dots_of};
 ghost use Rattle.query_run.specs.Faults.{AskRose};
 ghost use Rattle.query_run.specs.IdFilters.{passes};
-ghost use Rattle.query_run.specs.Collecting.{Adds, CollectSays, FoundRow, RowAsked, StandsBehind};
+ghost use Rattle.query_run.specs.Collecting.{Adds, CollectSays, FoundRow, GoesOn, RowAsked, StandsBehind};
 
 use crate::fault::AskFault;
 use crate::id_filter::{IdFilter, passes};
+use crate::key_jump::jump;
 use crate::naming::{IdNames, name_pairs};
 use crate::row_dots::row_dots;
 use cell_model::cells::Found;
@@ -59,8 +60,19 @@ fn add_dots(
     spans.add(alloc, pairs, dots)
 }
 
+/// Lets a scan go on behind the rows that fail the filters as one with this key does, which it found last.
+fn pass_over(scan: &mut Scan, filters: &[IdFilter], key: &RowKey)
+    requires key { IsKey key.now }
+    requires behind { scan.old.from ≡ key_bytes key.now ++ 0 ∷ [] }
+    ensures { GoesOn (passes filters.now) scan.old scan.new }
+{
+    if let Some(target) = jump(filters, key) {
+        scan.skip_to(&target);
+    }
+}
+
 /// Collects the points of a row from `start` to `end`, and the names of its ids, where it passes the filters. Of any other row the key
-/// alone is read.
+/// alone is read, and the scan that found it goes on behind those that fail as it does.
 fn take_row<R: Rows + Drop>(
     alloc: Global,
     names: &mut Uids<R>,
@@ -68,19 +80,23 @@ fn take_row<R: Rows + Drop>(
     start: u64,
     end: u64,
     found: &Found,
+    scan: &mut Scan,
     collected: &mut Collected,
 ) -> Result<(), AskFault>
     requires most { end ≤ 4294967295999 }
     requires row { (metric : ℕ) × FoundRow (R.seen names.old) metric start end found.now }
     requires behind { StandsBehind collected.old.spans found.now }
+    requires scan { scan.old.from ≡ found.now.row.bytes ++ 0 ∷ [] }
     requires possible { IsPossible (R.seen names.old) }
     ensures asked { (metric : ℕ) → FoundRow (R.seen names.old) metric start end found.now → RowAsked (passes filters.now) metric start end found.now (R.seen names.old) collected.old result (R.seen names.new) collected.new }
+    ensures goes_on { OnOk result (GoesOn (passes filters.now) scan.old scan.new) }
     ensures possible { OnOk result (IsPossible (R.seen names.new)) }
     ensures grows { R.stops names.old ≤ R.stops names.new }
     ensures stopped { IfErr result (AskRose (R.stops names.old) (R.stops names.new)) }
 {
     let key = key_of(found.row.bytes.list());
     if !passes(filters, key.pairs.as_slice()) {
+        pass_over(scan, filters, &key);
         return Ok(());
     }
     let dots = row_dots(alloc, &found.cells, key.base, start, end)?;
@@ -116,7 +132,16 @@ pub(crate) fn collect<R: Rows + Drop>(
         let Some(found) = scan.turn(alloc, names)? else {
             return Ok(collected);
         };
-        take_row(alloc, names, filters, start, end, &found, &mut collected)?;
+        take_row(
+            alloc,
+            names,
+            filters,
+            start,
+            end,
+            &found,
+            &mut scan,
+            &mut collected,
+        )?;
     }
     Err(AskFault::OutOfMemory)
 }

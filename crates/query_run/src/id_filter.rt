@@ -27,7 +27,7 @@ pub(crate) fn passes(filters: &[IdFilter], pairs: &[(u32, u32)]) -> bool
     filters.iter().all(|filter| passes_filter(filter, pairs))
 }
 
-fn passes_filter(filter: &IdFilter, pairs: &[(u32, u32)]) -> bool
+pub(crate) fn passes_filter(filter: &IdFilter, pairs: &[(u32, u32)]) -> bool
     ensures { result ≡ passes_filter filter.now pairs.now }
 {
     pairs.iter().any(|pair| filter.key == pair.0 && passes_test(&filter.test, pair.1))

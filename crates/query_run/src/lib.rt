@@ -7,6 +7,7 @@ pub mod fault;
 mod group_key;
 mod grouping;
 mod id_filter;
+mod key_jump;
 pub mod laws;
 mod naming;
 mod resolve;

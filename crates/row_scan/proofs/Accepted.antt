@@ -11,7 +11,7 @@ use Rattle.cell_model.specs.History.History.{Then}
 use Rattle.cell_model.specs.Ids.{name_of}
 use Rattle.cell_model.specs.Lawful.{IsLawful}
 use Rattle.cell_model.specs.Readings.{Reading, point_row, AcceptedBy, Accepted}
-use Rattle.row_scan.specs.Scans.{IsRowOf}
+use Rattle.row_scan.specs.Scans.{IsRowOf, Wanting}
 use Rattle.row_scan.specs.Shown.{RowReads}
 use Rattle.row_scan.specs.Laws.{ScanGives}
 use Rattle.row_scan.proofs.CellsOf.{cell_at}
@@ -27,8 +27,8 @@ pub record ShownCell (h : History) (end : ℕ) (f : Found) (cell : Cell) : Type 
 pub in_points : (metric first last : ℕ) (row : Row) → IsRowOf metric first last row → row ≡ point_row row.bytes
 in_points metric first last row r = r.row_is ∙ ap point_row (sym (ap (λ (x : Row). x.bytes) r.row_is))
 
-pub shown_cell : (h : History) (start end metric first_base last_base : ℕ) (founds : List Found) → ScanGives h start end metric first_base last_base founds → (f : Found) → Contains founds f → (cell : Cell) → Contains f.cells cell → ShownCell h end f cell
-shown_cell h start end metric first_base last_base founds gives f given cell c =
+pub shown_cell : (wants : Wanting) (h : History) (start end metric first_base last_base : ℕ) (founds : List Found) → ScanGives wants h start end metric first_base last_base founds → (f : Found) → Contains founds f → (cell : Cell) → Contains f.cells cell → ShownCell h end f cell
+shown_cell wants h start end metric first_base last_base founds gives f given cell c =
     let w = gives.only f given in
     let found = w.1 in
     record {

@@ -14,8 +14,8 @@ use Rattle.cell_model.specs.Machine.{reply_of}
 use Rattle.cell_model.specs.History.{History, first, store_after, entry_at}
 use Rattle.cell_model.specs.Lawful.{IsLawful}
 use Rattle.cell_model.specs.Deeds.{before_first}
-use Rattle.row_scan.specs.Scans.{Left, IsOther, IsRowOf, Scanned}
-use Rattle.row_scan.specs.Scans.Scanned.{ended, found, other}
+use Rattle.row_scan.specs.Scans.{Left, IsOther, IsRowOf, Wanting, Scanned}
+use Rattle.row_scan.specs.Scans.Scanned.{ended, found, other, skipped}
 use Rattle.row_scan.specs.Laws.{ScanCounts, ScanShows}
 use Rattle.row_scan.proofs.Bytes.{not_itself}
 use Rattle.row_scan.proofs.Lower.{each_entry, here, there, split, pairs_in, pairs_tail}
@@ -58,8 +58,8 @@ points_of : (metric first last : ℕ) (row : Row) → IsRowOf metric first last 
 points_of metric first last row r = ap (λ (x : Row). x.table) r.row_is
 
 pub scan_counts : ScanCounts
-scan_counts h end metric first_base last_base left own founds l o start sc rows all =
-    let w = scan_whole h end metric first_base last_base left own founds l o start sc in
+scan_counts wants h end metric first_base last_base left own founds l o start sc rows all =
+    let w = scan_whole wants h end metric first_base last_base left own founds l o start sc in
     fewer founds rows w.rising (λ f c.
     let x = w.only f c in
     all f.row x.0 (row_stays h x.1.when end f.row l (points_of metric first_base last_base f.row x.0) x.1.up_to x.1.there))
@@ -80,26 +80,27 @@ no_row : (h : History) (p : Placed) (f : Found) → IsLawful h → entry_at h p.
 no_row h p f l at o is = other_shows (store_after (first (p.place - 1) h)) p.place p.entry.step f o (sym is ∙ (each_entry h p.place p.entry l at).reply)
 
 -- each row shown was found
-pub given_of : (h : History) (start end : ℕ) → IsLawful h → {left : Left} {own : List Placed} {founds : List Found} → Scanned left own founds → StandAbove h start end own → (f : Found) (q : Placed) → Contains own q → q.entry.reply ≡ Next (Some f) → Contains founds f
-given_of h start end l (ended {left} {p} {own} n others) s f q c r = go (split p q own c)
+pub given_of : (wants : Wanting) (h : History) (start end : ℕ) → IsLawful h → {left : Left} {own : List Placed} {founds : List Found} → Scanned wants left own founds → StandAbove h start end own → (f : Found) (q : Placed) → Contains own q → q.entry.reply ≡ Next (Some f) → Contains founds f
+given_of wants h start end l (ended {left} {p} {own} n others) s f q c r = go (split p q own c)
   where
     go : (p ≡ q) ⊎ Contains own q → Contains [] f
     go (inl same) = let e : Next (Some f) ≡ Next None = sym r ∙ ap (λ (x : Placed). x.entry.reply) (sym same) ∙ n.1 in cc
     go (inr later) = absurd (no_row h q f l (s.each q c).0 (others q later) r)
-given_of h start end l (found {left = left} {p = p} {own = own} {f = g} {founds = founds} n more) s f q c r = go (split p q own c) (λ i. given_of h start end l more (stand_tail h start end p own s) f q i r)
+given_of wants h start end l (found {left = left} {p = p} {own = own} {f = g} {founds = founds} n more) s f q c r = go (split p q own c) (λ i. given_of wants h start end l more (stand_tail h start end p own s) f q i r)
   where
     go : (p ≡ q) ⊎ Contains own q → (Contains own q → Contains founds f) → Contains (g ∷ founds) f
     go (inl same) more = let e : Next (Some g) ≡ Next (Some f) = sym n.1 ∙ ap (λ (x : Placed). x.entry.reply) same ∙ r in let is : g ≡ f = cc in subst (Contains (g ∷ founds)) is (here g founds)
     go (inr later) more = there g f founds (more later)
-given_of h start end l (other {left} {p} {own} {founds} o more) s f q c r = go (split p q own c) (λ i. given_of h start end l more (stand_tail h start end p own s) f q i r)
+given_of wants h start end l (other {left} {p} {own} {founds} o more) s f q c r = go (split p q own c) (λ i. given_of wants h start end l more (stand_tail h start end p own s) f q i r)
   where
     go : (p ≡ q) ⊎ Contains own q → (Contains own q → Contains founds f) → Contains founds f
     go (inl same) more = absurd (no_row h q f l (s.each q c).0 (subst (λ (x : Placed). IsOther x.entry.step) same o) r)
     go (inr later) more = more later
+given_of wants h start end l (skipped skips more) s f q c r = given_of wants h start end l more s f q c r
 
 pub scan_shows : ScanShows
-scan_shows h end left own founds l o sc f =
+scan_shows wants h end left own founds l o sc f =
     let s = own_stands h end own l o (some_scanned sc) in (
-      λ w. given_of h (before_first own end) end l sc s f w.placed w.among w.reply,
-      λ c. let w = scan_found h (before_first own end) end l sc s f c in record { placed = w.placed; among = w.among; reply = w.reply },
+      λ w. given_of wants h (before_first own end) end l sc s f w.placed w.among w.reply,
+      λ c. let w = scan_found wants h (before_first own end) end l sc s f c in record { placed = w.placed; among = w.among; reply = w.reply },
     )

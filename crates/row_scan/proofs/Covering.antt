@@ -10,13 +10,13 @@ use Rattle.cell_model.specs.History.{History, first, store_after}
 use Rattle.cell_model.specs.Ids.{name_of}
 use Rattle.cell_model.specs.Lawful.{IsLawful}
 use Rattle.cell_model.specs.Readings.{Reading, Meets, point_row, CellReads, Accepted}
-use Rattle.row_scan.specs.Scans.{IsRowOf}
-use Rattle.row_scan.specs.Shown.{RowReads, AsksWithin}
+use Rattle.row_scan.specs.Scans.{IsRowOf, Wanting, IsWanted, HasCell}
+use Rattle.row_scan.specs.Shown.{RowReads, AsksWithin, AsksOfWanted}
 use Rattle.row_scan.specs.Laws.{ScanGives}
 use Rattle.row_scan.proofs.CellsOf.{cell_in}
 use Rattle.row_scan.proofs.Names.{same_Some, metric_id, row_stood}
 use Rattle.row_scan.proofs.Offsets.{dot_offset, same_offset, hour_is}
-use Rattle.row_scan.proofs.Whole.{begins_firsts, stays}
+use Rattle.row_scan.proofs.Whole.{begins_firsts, stays, row_stays}
 use Rattle.row_scan.proofs.Lower.{first_lawful, name_keeps, cell_by, each_reads, accepted_times_stand}
 
 -- a reading that stood at a length, by the names of a later one
@@ -43,22 +43,26 @@ stood h start end r l le accepted =
       w.2,
     )
 
--- the row of a reading that is asked for is one of the scan's
-asked_row : (h : History) (start end metric first_base last_base : ℕ) (asked : Reading → Bool) (s : Reading) → IsLawful h → start ≤ end → AsksWithin asked (first end h) metric first_base last_base
-    → IsTrue (asked s) → (x : StoodReading h start end s) → IsRowOf metric first_base last_base (point_row x.row)
-asked_row h start end metric first_base last_base asked s l le within wants x =
+-- the row of a reading that is asked for is one of the scan's, and wanted
+asked_row : (wants : Wanting) (h : History) (start end metric first_base last_base : ℕ) (asked : Reading → Bool) (s : Reading) → IsLawful h → start ≤ end → AsksWithin asked (first end h) metric first_base last_base → AsksOfWanted wants asked (first end h)
+    → IsTrue (asked s) → (x : StoodReading h start end s) → IsRowOf metric first_base last_base (point_row x.row) × IsWanted wants (point_row x.row)
+asked_row wants h start end metric first_base last_base asked s l le within only asks x =
     let c = x.reads in
     let d = c.dot_reads in
-    let w = within s wants in
+    let w = within s asks in
     let hour = hour_is s.time d.key.base c.dot.item.offset d.is_key.hour (dot_offset x.qual x.value c.dots c.dot c.reads c.among) d.time_is in
-    record {
-      key = d.key;
-      is_key = d.is_key;
-      row_is = ap point_row d.row_is;
-      metric_is = same_Some _ _ (sym (metric_id (first end h) x.row c.dot s (row_stood h start end x.row x.qual x.value l le x.stands) d) ∙ w.0);
-      from_on = subst (λ n. first_base ≤ n) hour w.1;
-      up_to = subst (λ n. n ≤ last_base) hour w.2;
-    }
+    let still = row_stays h start end (point_row x.row) l refl le (x.qual, x.value, x.stands) in
+    let there = subst (λ (b : List ℕ). HasCell (store_after (first end h)) (point_row b)) d.row_is still in (
+      record {
+        key = d.key;
+        is_key = d.is_key;
+        row_is = ap point_row d.row_is;
+        metric_is = same_Some _ _ (sym (metric_id (first end h) x.row c.dot s (row_stood h start end x.row x.qual x.value l le x.stands) d) ∙ w.0);
+        from_on = subst (λ n. first_base ≤ n) hour w.1;
+        up_to = subst (λ n. n ≤ last_base) hour w.2;
+      },
+      record { key = d.key; is_key = d.is_key; row_is = ap point_row d.row_is; wanted = only d.key s d.is_key there (record { metric_is = d.metric_is; tags_are = d.tags_are; hour_is = hour }) asks },
+    )
 
 reads_at : (names : Kind → ℕ → Option (List ℕ)) (r : Reading) (a b q w v u : List ℕ) → a ≡ b → q ≡ w → v ≡ u → CellReads names a q v r → CellReads names b w u r
 reads_at names r a b q w v u same qual value x =
@@ -100,10 +104,11 @@ pub record Shows (h : History) (end : ℕ) (founds : List Found) (r : Reading) :
   pub reads : RowReads (name_of (first end h)) found reading
   pub meets : Meets r reading
 
-pub asked_shown : (h : History) (start end metric first_base last_base : ℕ) (founds : List Found) (asked : Reading → Bool) (s : Reading) → IsLawful h → start ≤ end → ScanGives h start end metric first_base last_base founds
-    → AsksWithin asked (first end h) metric first_base last_base → IsTrue (asked s) → StoodReading h start end s → Shows h end founds s
-asked_shown h start end metric first_base last_base founds asked s l le gives within wants x =
-    let given = gives.all (point_row x.row) (asked_row h start end metric first_base last_base asked s l le within wants x) (x.qual, x.value, x.stands) in
+pub asked_shown : (wants : Wanting) (h : History) (start end metric first_base last_base : ℕ) (founds : List Found) (asked : Reading → Bool) (s : Reading) → IsLawful h → start ≤ end → ScanGives wants h start end metric first_base last_base founds
+    → AsksWithin asked (first end h) metric first_base last_base → AsksOfWanted wants asked (first end h) → IsTrue (asked s) → StoodReading h start end s → Shows h end founds s
+asked_shown wants h start end metric first_base last_base founds asked s l le gives within only asks x =
+    let row = asked_row wants h start end metric first_base last_base asked s l le within only asks x in
+    let given = gives.all (point_row x.row) row.0 row.1 (x.qual, x.value, x.stands) in
     let found = (gives.only given.0 given.1).1 in
     let w = shown_reading h start end found.when s given.0 l x found.from_on given.2 found.cells in
     record { found = given.0; given = given.1; reading = w.0; reads = w.1; meets = w.2 }

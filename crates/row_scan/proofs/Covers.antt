@@ -10,7 +10,8 @@ use Rattle.cell_model.specs.Ids.{name_of}
 use Rattle.cell_model.specs.Lawful.{IsLawful}
 use Rattle.cell_model.specs.Readings.{Reading, Meets, OneValued, Accepted}
 use Rattle.cell_model.specs.Deeds.{InOrder, before_first}
-use Rattle.row_scan.specs.Shown.{ShowsRow, RowReads, ShowsReading, Chosen, BySeries, AsksWithin, NoClash}
+use Rattle.row_scan.specs.Scans.{Wanting}
+use Rattle.row_scan.specs.Shown.{ShowsRow, RowReads, ShowsReading, Chosen, BySeries, AsksWithin, AsksOfWanted, NoClash}
 use Rattle.row_scan.specs.Laws.{ScanGives, ScanCovers}
 use Rattle.row_scan.proofs.Bytes.{not_itself}
 use Rattle.row_scan.proofs.Names.{row_stood}
@@ -37,18 +38,18 @@ once (x ∷ founds) f g up cf cg same = at (split x f founds cf) (split x g foun
     at (inr c) (inr d) go = go c d
 
 -- a whole scan in a lawful history, by the rows that it gives and that its entries show
-record Whole (h : History) (start end metric first_base last_base : ℕ) (own : List Placed) (founds : List Found) : Type 0 where
+record Whole (wants : Wanting) (h : History) (start end metric first_base last_base : ℕ) (own : List Placed) (founds : List Found) : Type 0 where
   lawful : IsLawful h
   order : start ≤ end
-  gives : ScanGives h start end metric first_base last_base founds
+  gives : ScanGives wants h start end metric first_base last_base founds
   shown : (f : Found) → ShowsRow own f → Contains founds f
   shows : (f : Found) → Contains founds f → ShowsRow own f
 
-one_value : (h : History) (start end metric first_base last_base : ℕ) (own : List Placed) (founds : List Found) (asked : Reading → Bool) → Whole h start end metric first_base last_base own founds → NoClash (name_of (first end h)) asked own
+one_value : (wants : Wanting) (h : History) (start end metric first_base last_base : ℕ) (own : List Placed) (founds : List Found) (asked : Reading → Bool) → Whole wants h start end metric first_base last_base own founds → NoClash (name_of (first end h)) asked own
     → OneValued (Chosen asked (ShowsReading (name_of (first end h)) own))
-one_value h start end metric first_base last_base own founds asked w clean r s ((f, fs, fr), yr) ((g, gs, gr), ys) m =
-    let cf = shown_cell h start end metric first_base last_base founds w.gives f (w.shown f fs) fr.cell fr.among in
-    let cg = shown_cell h start end metric first_base last_base founds w.gives g (w.shown g gs) gr.cell gr.among in
+one_value wants h start end metric first_base last_base own founds asked w clean r s ((f, fs, fr), yr) ((g, gs, gr), ys) m =
+    let cf = shown_cell wants h start end metric first_base last_base founds w.gives f (w.shown f fs) fr.cell fr.among in
+    let cg = shown_cell wants h start end metric first_base last_base founds w.gives g (w.shown g gs) gr.cell gr.among in
     let a = fr.reads in
     let b = gr.reads in
     let same = one_row (first end h) f.row.bytes g.row.bytes a.dot b.dot r s
@@ -57,19 +58,19 @@ one_value h start end metric first_base last_base own founds asked w clean r s (
     let is : f ≡ g = once founds f g w.gives.rising (w.shown f fs) (w.shown g gs) same in
     clean g gs r s (subst (λ (x : Found). RowReads (name_of (first end h)) x r) is fr, yr) (gr, ys) m
 
-within_accepted : (h : History) (start end metric first_base last_base : ℕ) (own : List Placed) (founds : List Found) (asked : Reading → Bool) → Whole h start end metric first_base last_base own founds
+within_accepted : (wants : Wanting) (h : History) (start end metric first_base last_base : ℕ) (own : List Placed) (founds : List Found) (asked : Reading → Bool) → Whole wants h start end metric first_base last_base own founds
     → (r : Reading) → Chosen asked (ShowsReading (name_of (first end h)) own) r → Chosen asked (Accepted (first end h)) r
-within_accepted h start end metric first_base last_base own founds asked w r ((f, fs, fr), yr) =
-    (shown_accepted h end f r w.lawful fr (shown_cell h start end metric first_base last_base founds w.gives f (w.shown f fs) fr.cell fr.among), yr)
+within_accepted wants h start end metric first_base last_base own founds asked w r ((f, fs, fr), yr) =
+    (shown_accepted h end f r w.lawful fr (shown_cell wants h start end metric first_base last_base founds w.gives f (w.shown f fs) fr.cell fr.among), yr)
 
-each_covered : (h : History) (start end metric first_base last_base : ℕ) (own : List Placed) (founds : List Found) (asked : Reading → Bool) → Whole h start end metric first_base last_base own founds
-    → BySeries asked → AsksWithin asked (first end h) metric first_base last_base
+each_covered : (wants : Wanting) (h : History) (start end metric first_base last_base : ℕ) (own : List Placed) (founds : List Found) (asked : Reading → Bool) → Whole wants h start end metric first_base last_base own founds
+    → BySeries asked → AsksWithin asked (first end h) metric first_base last_base → AsksOfWanted wants asked (first end h)
     → (r : Reading) → Chosen asked (Accepted (first start h)) r → (q : Reading) × Chosen asked (ShowsReading (name_of (first end h)) own) q × Meets r q
-each_covered h start end metric first_base last_base own founds asked w by within r (accepted, wants) =
+each_covered wants h start end metric first_base last_base own founds asked w by within only r (accepted, asks) =
     let st = stood h start end r w.lawful w.order accepted in
     let s = st.0 in
-    let at_s : IsTrue (asked s) = sym (by r s st.2) ∙ wants in
-    let x = asked_shown h start end metric first_base last_base founds asked s w.lawful w.order w.gives within at_s st.1 in
+    let at_s : IsTrue (asked s) = sym (by r s st.2) ∙ asks in
+    let x = asked_shown wants h start end metric first_base last_base founds asked s w.lawful w.order w.gives within only at_s st.1 in
     let a = st.2 in
     let b = x.meets in
     (x.reading, ((x.found, w.shows x.found x.given, x.reads), sym (by s x.reading b) ∙ at_s), record { metric = a.metric ∙ b.metric; tags = a.tags ∙ b.tags; time = a.time ∙ b.time })
@@ -79,17 +80,17 @@ start_low h end [] o = omega arith
 start_low h end (p ∷ own) o = let low = (o.each p (here p own)).0 in omega (arith, low)
 
 pub scan_covers : ScanCovers
-scan_covers h end metric first_base last_base left own founds asked l o start sc by within clean =
+scan_covers wants h end metric first_base last_base left own founds asked l o start sc by within only clean =
     let from = before_first own end in
-    let w : Whole h from end metric first_base last_base own founds = record {
+    let w : Whole wants h from end metric first_base last_base own founds = record {
       lawful = l;
       order = start_low h end own o;
-      gives = scan_whole h end metric first_base last_base left own founds l o start sc;
-      shown = λ f. (scan_shows h end left own founds l o sc f).0;
-      shows = λ f. (scan_shows h end left own founds l o sc f).1;
+      gives = scan_whole wants h end metric first_base last_base left own founds l o start sc;
+      shown = λ f. (scan_shows wants h end left own founds l o sc f).0;
+      shows = λ f. (scan_shows wants h end left own founds l o sc f).1;
     } in
     record {
-      one = one_value h from end metric first_base last_base own founds asked w clean;
-      within = within_accepted h from end metric first_base last_base own founds asked w;
-      each = each_covered h from end metric first_base last_base own founds asked w by within;
+      one = one_value wants h from end metric first_base last_base own founds asked w clean;
+      within = within_accepted wants h from end metric first_base last_base own founds asked w;
+      each = each_covered wants h from end metric first_base last_base own founds asked w by within only;
     }

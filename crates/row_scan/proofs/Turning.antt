@@ -1,5 +1,6 @@
 -- One turn of a scan.
-use Rattle.std.proofs.Common.{◌≡◌, ℕ, ◌-◌, ◌≤◌, List, [], length, true, false, refl, sym, subst, arith}
+use Rattle.std.proofs.Common.{◌≡◌, ℕ, ◌-◌, ◌≤◌, List, [], ◌++◌, length, take, true, false, refl, sym, ap, subst, ◌∙◌, arith}
+use Rattle.std.proofs.Math.Seq.{take-append_seam}
 use Rattle.std.proofs.lemmas.Bool.{false≢true}
 use Rattle.std.specs.Prelude.{Option, Some, Result, Ok, Err, IsErr}
 use Rattle.row_key.specs.declared.keys.RowKey.{RowKey}
@@ -85,3 +86,14 @@ behind_metric left old new from to bytes o f same from_is to_is is bytes_are st 
     (subst (λ (x : Option Found). Stepped old (NextRow Points left.from left.to) (Next x) new) is
     (subst (λ (x : List ℕ). Stepped old (NextRow Points x left.to) (Next o) new) from_is
     (subst (λ (x : List ℕ). Stepped old (NextRow Points from x) (Next o) new) to_is st))) p)
+
+-- ---- going on at a row of the same metric
+
+same_front : (a b x y : List ℕ) → length a ≡ 3 → length b ≡ 3 → a ++ x ≡ b ++ y → a ≡ b
+same_front a b x y la lb e =
+    sym (take-append_seam a x) ∙ ap (λ n. take n (a ++ x)) (la ∙ sym lb) ∙ ap (take (length b)) e ∙ take-append_seam b y
+
+pub metric_passed_on : (at held from to : List ℕ) → held ≡ at → SameMetric at from → SameMetric from to → SameMetric held to
+metric_passed_on at held from to held_is x y =
+    let same = same_front x.metric y.metric x.to_rest y.from_rest x.three y.three (sym x.to_is ∙ y.from_is) in
+    record { metric = y.metric; from_rest = x.from_rest; to_rest = y.to_rest; three = y.three; from_is = held_is ∙ x.from_is ∙ ap (λ (m : List ℕ). m ++ x.from_rest) same; to_is = y.to_is }

@@ -6,6 +6,7 @@ use Rattle.std.specs.declared.cmp.Ordering.TheVariants.{Less, Equal, Greater}
 use Rattle.std.specs.Ordering.{is_lt, ordering_reverse}
 use Rattle.std.specs.Cmp.Lexicographic.{nat_list_cmp_total}
 use Rattle.std.proofs.lemmas.List.Kept.{AllPairs-cons}
+use Rattle.std.proofs.lemmas.Bool.{false≢true}
 use Rattle.row_key.specs.declared.tables.Table.TheVariants.{Points}
 use Rattle.cell_model.specs.declared.cells.Row.{Row}
 use Rattle.cell_model.specs.declared.cells.Found.{Found}
@@ -18,10 +19,10 @@ use Rattle.cell_model.specs.History.History.{Base, Then}
 use Rattle.cell_model.specs.Lawful.{IsLawful, HadCell}
 use Rattle.cell_model.specs.Laws.{Kept}
 use Rattle.cell_model.specs.Deeds.{InOrder, before_first}
-use Rattle.row_scan.specs.Scans.{Left, IsNext, IsRowOf, behind, Scanned, HasCell}
-use Rattle.row_scan.specs.Scans.Scanned.{ended, found, other}
+use Rattle.row_scan.specs.Scans.{Left, IsNext, IsRowOf, behind, Wanting, IsWanted, Skips, Scanned, HasCell}
+use Rattle.row_scan.specs.Scans.Scanned.{ended, found, other, skipped}
 use Rattle.row_scan.specs.Laws.{ScanIsWhole}
-use Rattle.row_scan.proofs.Bytes.{less_behind, from_on_from_on, below_from_on, below_behind, not_back}
+use Rattle.row_scan.proofs.Bytes.{less_behind, less_or_not, from_on_from_on, below_from_on, below_behind, not_back}
 use Rattle.row_scan.proofs.Lower.{all_of}
 use Rattle.row_scan.proofs.NextRow.{Between, between, between_is, next_cells, next_none, next_least, next_has}
 use Rattle.row_scan.proofs.Turning.{HasKey, found_key}
@@ -85,34 +86,46 @@ own_stands h end (p ∷ own) l o some = record { each = λ q c. ((o.each q c).1,
     above q (inl same) = let least = low in let e = ap (λ (x : Placed). x.place) same in omega (arith, least, e)
     above q (inr later) = let least = low in let up = pairs_in (λ (x y : Placed). x.place < y.place) p q own o.rising later in omega (arith, least, up)
 
-pub some_scanned : {left : Left} {own : List Placed} {founds : List Found} → Scanned left own founds → 0 < length own
+pub some_scanned : {wants : Wanting} {left : Left} {own : List Placed} {founds : List Found} → Scanned wants left own founds → 0 < length own
 some_scanned (ended n others) = omega arith
 some_scanned (found n more) = omega arith
 some_scanned (other o more) = omega arith
+some_scanned (skipped skips more) = some_scanned more
 
 -- ---- each row that was there is found
 
 between_behind : (left : Left) (a row : Row) → Between left.from left.to row → bytes_cmp a.bytes row.bytes ≡ Less → Between (behind left a).from (behind left a).to row
 between_behind left a row b less = record { in_points = b.in_points; from_on = less_behind a.bytes row.bytes less; below = b.below }
 
-pub scan_each : (h : History) (start end : ℕ) → IsLawful h → {left : Left} {own : List Placed} {founds : List Found} → Scanned left own founds → StandAbove h start end own
-    → (row : Row) → Between left.from left.to row → HasCell (store_after (first start h)) row → (f : Found) × Contains founds f × (f.row ≡ row)
-scan_each h start end l (ended {left} {p} {own} n others) s row b c =
+-- a wanted row that is left is left where the scan goes on, too
+pub wanted_stays : (wants : Wanting) (left : Left) (from : List ℕ) (row : Row) → Skips wants left from → IsWanted wants row → Between left.from left.to row → Between from left.to row
+wanted_stays wants left from row skips w b = elim (less_or_not row.bytes from) [
+  | inl less ↦
+      let in_range = between_is left.from from row (record { in_points = b.in_points; from_on = b.from_on; below = ap is_lt less }) in
+      let none = skips.over w.key w.is_key (subst (λ (r : Row). IsTrue (is_between Points left.from from r)) w.row_is in_range) in
+      absurd (false≢true (sym none ∙ w.wanted))
+  | inr on ↦ record { in_points = b.in_points; from_on = on; below = b.below }
+]
+
+pub scan_each : (wants : Wanting) (h : History) (start end : ℕ) → IsLawful h → {left : Left} {own : List Placed} {founds : List Found} → Scanned wants left own founds → StandAbove h start end own
+    → (row : Row) → IsWanted wants row → Between left.from left.to row → HasCell (store_after (first start h)) row → (f : Found) × Contains founds f × (f.row ≡ row)
+scan_each wants h start end l (ended {left} {p} {own} n others) s row w b c =
     let at = s.each p (here p own) in
     let lower = at.1 in
     let still = row_stays h start (p.place - 1) row l b.in_points (omega (arith, lower)) c in
     absurd (next_none (store_after (first (p.place - 1) h)) left.from left.to row still.0 still.1 (placed_next h p left None l at.0 n) b still.2)
-scan_each h start end l (found {left} {p} {own} {f} {founds} n more) s row b c =
+scan_each wants h start end l (found {left} {p} {own} {f} {founds} n more) s row w b c =
     let at = s.each p (here p own) in
     let lower = at.1 in
     let still = row_stays h start (p.place - 1) row l b.in_points (omega (arith, lower)) c in
     elim (next_least (store_after (first (p.place - 1) h)) left.from left.to f row still.0 still.1 (placed_next h p left (Some f) l at.0 n) b still.2) [
       | inl same ↦ (f, here f founds, sym same)
       | inr below ↦
-          let rest = scan_each h start end l more (stand_tail h start end p own s) row (between_behind left f.row row b below) c in
+          let rest = scan_each wants h start end l more (stand_tail h start end p own s) row w (between_behind left f.row row b below) c in
           (rest.0, there f rest.0 founds rest.1, rest.2)
     ]
-scan_each h start end l (other {left} {p} {own} {founds} o more) s row b c = scan_each h start end l more (stand_tail h start end p own s) row b c
+scan_each wants h start end l (other {left} {p} {own} {founds} o more) s row w b c = scan_each wants h start end l more (stand_tail h start end p own s) row w b c
+scan_each wants h start end l (skipped {left} {from} {own} {founds} skips more) s row w b c = scan_each wants h start end l more s row w (wanted_stays wants left from row skips w b) c
 
 -- ---- each row that is found was there
 
@@ -127,13 +140,14 @@ pub record FoundAt (h : History) (start end : ℕ) (from to : List ℕ) (own : L
   pub has : HasCell (store_after (first (placed.place - 1) h)) f.row
   pub cells : f.cells ≡ cells_of (store_after (first (placed.place - 1) h)) f.row
 
-found_later : (h : History) (start end : ℕ) (from from' to : List ℕ) (p : Placed) (own : List Placed) (f : Found) → is_lt (bytes_cmp from' from) ≡ false → FoundAt h start end from' to own f → FoundAt h start end from to (p ∷ own) f
-found_later h start end from from' to p own f low w =
+-- what is found in less of the range is found in the range
+found_from : (h : History) (start end : ℕ) (from from' to : List ℕ) (own : List Placed) (f : Found) → is_lt (bytes_cmp from' from) ≡ false → FoundAt h start end from' to own f → FoundAt h start end from to own f
+found_from h start end from from' to own f low w =
     let k = w.key in
     let b = k.between in
     record {
       placed = w.placed;
-      among = there p w.placed own w.among;
+      among = w.among;
       reply = w.reply;
       above = w.above;
       up_to = w.up_to;
@@ -141,6 +155,11 @@ found_later h start end from from' to p own f low w =
       cells = w.cells;
       key = record { key = k.key; is_key = k.is_key; row_is = k.row_is; between = record { in_points = b.in_points; from_on = from_on_from_on from from' f.row.bytes low b.from_on; below = b.below } };
     }
+
+found_later : (h : History) (start end : ℕ) (from from' to : List ℕ) (p : Placed) (own : List Placed) (f : Found) → is_lt (bytes_cmp from' from) ≡ false → FoundAt h start end from' to own f → FoundAt h start end from to (p ∷ own) f
+found_later h start end from from' to p own f low w =
+    let x = found_from h start end from from' to own f low w in
+    record { placed = x.placed; among = there p x.placed own x.among; reply = x.reply; above = x.above; up_to = x.up_to; has = x.has; cells = x.cells; key = x.key }
 
 not_below_itself : (a : List ℕ) → is_lt (bytes_cmp a a) ≡ false
 not_below_itself a = at (bytes_cmp a a) (nat_list_cmp_total.antisymm a a)
@@ -150,10 +169,10 @@ not_below_itself a = at (bytes_cmp a a) (nat_list_cmp_total.antisymm a a)
     at Equal e = refl
     at Greater e = refl
 
-pub scan_found : (h : History) (start end : ℕ) → IsLawful h → {left : Left} {own : List Placed} {founds : List Found} → Scanned left own founds → StandAbove h start end own
+pub scan_found : (wants : Wanting) (h : History) (start end : ℕ) → IsLawful h → {left : Left} {own : List Placed} {founds : List Found} → Scanned wants left own founds → StandAbove h start end own
     → (f : Found) → Contains founds f → FoundAt h start end left.from left.to own f
-scan_found h start end l (ended n others) s f c = absurd (not_in f c)
-scan_found h start end l (found {left = left} {p = p} {own = own} {f = g} {founds = founds} n more) s f c = go (split g f founds c) (scan_found h start end l more (stand_tail h start end p own s) f)
+scan_found wants h start end l (ended n others) s f c = absurd (not_in f c)
+scan_found wants h start end l (found {left = left} {p = p} {own = own} {f = g} {founds = founds} n more) s f c = go (split g f founds c) (scan_found wants h start end l more (stand_tail h start end p own s) f)
   where
     at : (entry_at h p.place ≡ Some p.entry) × (start < p.place) × (p.place ≤ end)
     at = s.each p (here p own)
@@ -179,36 +198,38 @@ scan_found h start end l (found {left = left} {p = p} {own = own} {f = g} {found
     go : (g ≡ f) ⊎ Contains founds f → (Contains founds f → FoundAt h start end (behind left g.row).from left.to own f) → FoundAt h start end left.from left.to (p ∷ own) f
     go (inl same) more = subst (λ (x : Found). FoundAt h start end left.from left.to (p ∷ own) x) same mine
     go (inr later) more = found_later h start end left.from (behind left g.row).from left.to p own f low (more later)
-scan_found h start end l (other {left} {p} {own} {founds} o more) s f c =
-    found_later h start end left.from left.from left.to p own f (not_below_itself left.from) (scan_found h start end l more (stand_tail h start end p own s) f c)
+scan_found wants h start end l (other {left} {p} {own} {founds} o more) s f c =
+    found_later h start end left.from left.from left.to p own f (not_below_itself left.from) (scan_found wants h start end l more (stand_tail h start end p own s) f c)
+scan_found wants h start end l (skipped {left} {from} {own} {founds} skips more) s f c = found_from h start end left.from from left.to own f skips.forward (scan_found wants h start end l more s f c)
 
 -- ---- the found rows rise
 
-above_all : (h : History) (start end : ℕ) (a : Row) → IsLawful h → {left : Left} {own : List Placed} {founds : List Found} → left.from ≡ (behind left a).from → Scanned left own founds → StandAbove h start end own
+above_all : (wants : Wanting) (h : History) (start end : ℕ) (a : Row) → IsLawful h → {left : Left} {own : List Placed} {founds : List Found} → left.from ≡ (behind left a).from → Scanned wants left own founds → StandAbove h start end own
     → (f : Found) → Contains founds f → bytes_cmp a.bytes f.row.bytes ≡ Less
-above_all h start end a l {left} {own} {founds} from_is sc s f c =
-    let w = scan_found h start end l sc s f c in
+above_all wants h start end a l {left} {own} {founds} from_is sc s f c =
+    let w = scan_found wants h start end l sc s f c in
     below_from_on a.bytes (behind left a).from f.row.bytes (below_behind a.bytes) (subst (λ (x : List ℕ). is_lt (bytes_cmp f.row.bytes x) ≡ false) from_is w.key.between.from_on)
 
-pub scan_rises : (h : History) (start end : ℕ) → IsLawful h → {left : Left} {own : List Placed} {founds : List Found} → Scanned left own founds → StandAbove h start end own
+pub scan_rises : (wants : Wanting) (h : History) (start end : ℕ) → IsLawful h → {left : Left} {own : List Placed} {founds : List Found} → Scanned wants left own founds → StandAbove h start end own
     → AllPairs (λ (f g : Found). bytes_cmp f.row.bytes g.row.bytes ≡ Less) founds
-scan_rises h start end l (ended n others) s = λ i j d lt within. absurd (omega (arith, within))
-scan_rises h start end l (found {left} {p} {own} {f} {founds} n more) s =
+scan_rises wants h start end l (ended n others) s = λ i j d lt within. absurd (omega (arith, within))
+scan_rises wants h start end l (found {left} {p} {own} {f} {founds} n more) s =
     let tail = stand_tail h start end p own s in
     AllPairs-cons (λ (a b : Found). bytes_cmp a.row.bytes b.row.bytes ≡ Less) f founds
-    (all_of (λ (g : Found). bytes_cmp f.row.bytes g.row.bytes ≡ Less) founds (above_all h start end f.row l refl more tail))
-    (scan_rises h start end l more tail)
-scan_rises h start end l (other {left} {p} {own} {founds} o more) s = scan_rises h start end l more (stand_tail h start end p own s)
+    (all_of (λ (g : Found). bytes_cmp f.row.bytes g.row.bytes ≡ Less) founds (above_all wants h start end f.row l refl more tail))
+    (scan_rises wants h start end l more tail)
+scan_rises wants h start end l (other {left} {p} {own} {founds} o more) s = scan_rises wants h start end l more (stand_tail h start end p own s)
+scan_rises wants h start end l (skipped skips more) s = scan_rises wants h start end l more s
 
 -- ---- the whole
 
 pub scan_whole : ScanIsWhole
-scan_whole h end metric first_base last_base left own founds l o start sc =
+scan_whole wants h end metric first_base last_base left own founds l o start sc =
     let s = own_stands h end own l o (some_scanned sc) in
     record {
-      rising = scan_rises h (before_first own end) end l sc s;
+      rising = scan_rises wants h (before_first own end) end l sc s;
       only = λ f c.
-          let w = scan_found h (before_first own end) end l sc s f c in
+          let w = scan_found wants h (before_first own end) end l sc s f c in
           let k = w.key in
           let low = w.above in
           let high = w.up_to in
@@ -216,5 +237,5 @@ scan_whole h end metric first_base last_base left own founds l o start sc =
             subst (IsRowOf metric first_base last_base) (sym k.row_is) (start.only k.key k.is_key in_range),
             record { when = w.placed.place - 1; from_on = omega (arith, low); up_to = omega (arith, low, high); there = w.has; cells = w.cells },
           );
-      all = λ row r c. scan_each h (before_first own end) end l sc s row (between left.from left.to row (start.all row r)) c;
+      all = λ row r w c. scan_each wants h (before_first own end) end l sc s row w (between left.from left.to row (start.all row r)) c;
     }

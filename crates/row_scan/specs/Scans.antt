@@ -1,5 +1,6 @@
--- A scan: steps by next row, each from behind the row that the last one found.
-use Rattle.std.specs.Prelude.{◌≡◌, ℕ, ◌≤◌, List, [], ◌∷◌, ◌++◌, IsTrue, Contains, Option, None, Some, Result, Ok, Err}
+-- A scan: steps by next row, each from behind the row that the last one found, or further on where no row in between is wanted.
+use Rattle.std.specs.Prelude.{◌≡◌, ℕ, ◌≤◌, Bool, false, List, [], ◌∷◌, ◌++◌, IsTrue, Contains, Option, None, Some, Result, Ok, Err}
+use Rattle.std.specs.Ordering.{is_lt}
 use Rattle.row_key.specs.declared.tables.Table.TheVariants.{Points}
 use Rattle.row_key.specs.declared.keys.RowKey.{RowKey}
 use Rattle.row_key.specs.Key.{IsKey, key_bytes}
@@ -10,7 +11,7 @@ use Rattle.cell_model.specs.declared.events.Step.TheVariants.{NextRow}
 use Rattle.cell_model.specs.declared.events.Reply.TheVariants.{Next}
 use Rattle.cell_model.specs.declared.events.Placed.{Placed}
 use Rattle.cell_model.specs.declared.answers.RowsFault.{RowsFault}
-use Rattle.cell_model.specs.Store.{Store, value_at, is_between}
+use Rattle.cell_model.specs.Store.{Store, value_at, bytes_cmp, is_between}
 use Rattle.cell_model.specs.Readings.{point_row}
 pub use Rattle.cell_model.specs.Deeds.{MadeSo}
 
@@ -33,9 +34,13 @@ pub record IsStart (metric first last : ℕ) (left : Left) : Type 0 where
   pub all : (row : Row) → IsRowOf metric first last row → IsTrue (is_between Points left.from left.to row)
   pub only : (key : RowKey) → IsKey key → IsTrue (is_between Points left.from left.to (point_row (key_bytes key))) → IsRowOf metric first last (point_row (key_bytes key))
 
+-- what is left from these bytes on
+abbrev pub left_at : Left → List ℕ → Left
+left_at left from = record { from = from; to = left.to }
+
 -- what is left behind a row: the least bytes above the row's are the first
 abbrev pub behind : Left → Row → Left
-behind left row = record { from = row.bytes ++ 0 ∷ []; to = left.to }
+behind left row = left_at left (row.bytes ++ 0 ∷ [])
 
 -- what is left after a turn
 abbrev pub after_turn : Left → Result (Option Found) RowsFault → Left
@@ -60,15 +65,33 @@ IsOther _ = Unit {0}
 abbrev pub AreOther : List Placed → Type 0
 AreOther list = (p : Placed) → Contains list p → IsOther p.entry.step
 
--- The next rows among the entries make a whole scan of what is left: each looks behind the row that the one before it found, and the last found none.
-pub data Scanned : Left → List Placed → List Found → Type 0 where
-  ended : {left : Left} {p : Placed} {own : List Placed} → IsNext left None p → AreOther own → Scanned left (p ∷ own) []
-  found : {left : Left} {p : Placed} {own : List Placed} {f : Found} {founds : List Found} → IsNext left (Some f) p → Scanned (behind left f.row) own founds → Scanned left (p ∷ own) (f ∷ founds)
-  other : {left : Left} {p : Placed} {own : List Placed} {founds : List Found} → IsOther p.entry.step → Scanned left own founds → Scanned left (p ∷ own) founds
+-- the rows with which keys a scan is made for
+abbrev pub Wanting : Type 0
+Wanting = RowKey → Bool
+
+-- the row has a key that is wanted
+pub record IsWanted (wants : Wanting) (row : Row) : Type 0 where
+  pub key : RowKey
+  pub is_key : IsKey key
+  pub row_is : row ≡ point_row (key_bytes key)
+  pub wanted : IsTrue (wants key)
+
+-- the scan may go on at these bytes: they are not before those at which the rest begins, and no row in between is wanted
+pub record Skips (wants : Wanting) (left : Left) (from : List ℕ) : Type 0 where
+  pub forward : is_lt (bytes_cmp from left.from) ≡ false
+  pub over : (key : RowKey) → IsKey key → IsTrue (is_between Points left.from from (point_row (key_bytes key))) → wants key ≡ false
+
+-- The next rows among the entries make a whole scan of what is left: each looks behind the row that the one before it found, or further on
+-- where no row in between is wanted, and the last found none. A scan for all rows passes none over.
+pub data Scanned (wants : Wanting) : Left → List Placed → List Found → Type 0 where
+  ended : {left : Left} {p : Placed} {own : List Placed} → IsNext left None p → AreOther own → Scanned wants left (p ∷ own) []
+  found : {left : Left} {p : Placed} {own : List Placed} {f : Found} {founds : List Found} → IsNext left (Some f) p → Scanned wants (behind left f.row) own founds → Scanned wants left (p ∷ own) (f ∷ founds)
+  other : {left : Left} {p : Placed} {own : List Placed} {founds : List Found} → IsOther p.entry.step → Scanned wants left own founds → Scanned wants left (p ∷ own) founds
+  skipped : {left : Left} {from : List ℕ} {own : List Placed} {founds : List Found} → Skips wants left from → Scanned wants (left_at left from) own founds → Scanned wants left own founds
 
 -- The entries so far found these rows: with any whole scan of what is now left they make one of what was left at first.
-abbrev pub Scanning : Left → List Placed → List Found → Left → Type 0
-Scanning first own founds now = (more : List Placed) (rest : List Found) → Scanned now more rest → Scanned first (own ++ more) (founds ++ rest)
+abbrev pub Scanning : Wanting → Left → List Placed → List Found → Left → Type 0
+Scanning wants first own founds now = (more : List Placed) (rest : List Found) → Scanned wants now more rest → Scanned wants first (own ++ more) (founds ++ rest)
 
 -- the row is there
 abbrev pub HasCell : Store → Row → Type 0

@@ -2,15 +2,18 @@
 use Rattle.std.specs.Prelude.{◌≡◌, ℕ, ◌≤◌, Bool, List, IsTrue, Contains, Option, Some}
 use Rattle.tsd_base.specs.declared.kinds.Kind.{Kind}
 use Rattle.tsd_base.specs.declared.kinds.Kind.TheVariants.{Metric}
+use Rattle.row_key.specs.declared.keys.RowKey.{RowKey}
+use Rattle.row_key.specs.Key.{IsKey, key_bytes}
 use Rattle.qual_codec.specs.declared.cells.Cell.{Cell}
 use Rattle.cell_model.specs.declared.cells.Found.{Found}
 use Rattle.cell_model.specs.declared.events.Placed.{Placed}
 use Rattle.cell_model.specs.declared.events.Reply.TheVariants.{Next}
-use Rattle.cell_model.specs.History.{History, first}
+use Rattle.cell_model.specs.History.{History, first, store_after}
 use Rattle.cell_model.specs.Ids.{id_of, name_of}
 use Rattle.cell_model.specs.Layout.{base_time}
-use Rattle.cell_model.specs.Readings.{Reading, Meets, OneValued, CellReads, Accepted}
+use Rattle.cell_model.specs.Readings.{Reading, Meets, OneValued, Named, CellReads, Accepted, point_row}
 use Rattle.cell_model.specs.Deeds.{before_first}
+use Rattle.row_scan.specs.Scans.{Wanting, HasCell}
 
 -- one of the entries shows this row, by a next row
 pub record ShowsRow (own : List Placed) (found : Found) : Type 0 where
@@ -46,6 +49,17 @@ BySeries asked = (a b : Reading) → Meets a b → asked a ≡ asked b
 abbrev pub AsksWithin : (Reading → Bool) → History → ℕ → ℕ → ℕ → Type 0
 AsksWithin asked h metric first_base last_base =
     (r : Reading) → IsTrue (asked r) → (id_of h Metric r.metric ≡ Some metric) × (first_base ≤ base_time r.time) × (base_time r.time ≤ last_base)
+
+-- with these names the key is that of the reading's series, in its hour
+pub record IsKeyOf (names : Kind → ℕ → Option (List ℕ)) (key : RowKey) (r : Reading) : Type 0 where
+  pub metric_is : names Metric key.metric ≡ Some r.metric
+  pub tags_are : Named names key.pairs.items r.tags
+  pub hour_is : base_time r.time ≡ key.base
+
+-- what is asked for is of wanted rows, of those that are there after the history
+abbrev pub AsksOfWanted : Wanting → (Reading → Bool) → History → Type 0
+AsksOfWanted wants asked h =
+    (key : RowKey) (r : Reading) → IsKey key → HasCell (store_after h) (point_row (key_bytes key)) → IsKeyOf (name_of h) key r → IsTrue (asked r) → IsTrue (wants key)
 
 -- no row that is shown has two values at one time that is asked for
 abbrev pub NoClash : (Kind → ℕ → Option (List ℕ)) → (Reading → Bool) → List Placed → Type 0

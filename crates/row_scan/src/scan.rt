@@ -1,14 +1,16 @@
 //! Scans over the rows of one metric.
-ghost use Rattle.std.specs.Prelude.{◌≡◌, ◌++◌, ◌∷◌, [], ◌≤◌, length, OnOk, OnErr, IfErr};
-ghost use Rattle.row_key.specs.Key.{hour_bytes};
+ghost use Rattle.std.specs.Prelude.{◌≡◌, ◌++◌, ◌∷◌, [], ◌≤◌, false, length, OnOk, OnErr, IfErr};
+ghost use Rattle.std.specs.Ordering.{is_lt};
+ghost use Rattle.row_key.specs.Key.{IsKey, hour_bytes, key_bytes};
 ghost use Rattle.cell_model.specs.Ranges.{SameMetric};
 ghost use Rattle.cell_model.specs.Seen.{IsPossible, RoseIfStopped};
-ghost use Rattle.row_scan.specs.Scans.{IsStart, Left, MadeSo, TurnMade, after_turn};
+ghost use Rattle.cell_model.specs.Store.{bytes_cmp};
+ghost use Rattle.row_scan.specs.Scans.{IsStart, Left, MadeSo, TurnMade, after_turn, left_at};
 
 use arrayvec::ArrayVec;
 use cell_model::{Found, Rows, RowsFault};
 use qual_codec::Bytes;
-use row_key::Table;
+use row_key::{RowKey, Table, write_key};
 use std::alloc::Global;
 use std::marker::Model;
 
@@ -78,6 +80,18 @@ impl Scan {
     {
         self.from = held(row);
         self.from.push(0);
+    }
+
+    /// Goes on at the row of this key, of the same metric and not before what is left: the rows in between are passed over. It makes no
+    /// step.
+    pub fn skip_to(&mut self, key: &RowKey)
+        requires key { IsKey key.now }
+        requires metric { SameMetric (key_bytes key.now) self.old.from }
+        requires forward { is_lt (bytes_cmp (key_bytes key.now) self.old.from) ≡ false }
+        ensures { self.new ≡ left_at self.old (key_bytes key.now) }
+    {
+        let row = write_key(key);
+        self.from = held(row.as_slice());
     }
 
     /// The next row with its cells, or None where no more is left. It makes one `next_row`.

@@ -3,17 +3,15 @@ use Rattle.std.proofs.Common.{◌≡◌, ◌⊎◌, inl, inr, ⊎_elim, ℕ, ℤ
 use Rattle.std.specs.Prelude.{◌≢◌, ◌&&◌, if◌then◌else◌, Option, None, Some, Result, Ok, Err, IfOk, IsOk, IsTrue, Contains, find, is_some, map, nat_le, not, option_and_then, option_map, slice_index_or}
 use Rattle.std.specs.List.{flat_map, list_any}
 use Rattle.std.proofs.lemmas.Bool.{and_parts}
-use Rattle.std.proofs.lemmas.List.Elements.{Contains-append_right}
 use Rattle.tsd_base.specs.Alphabet.{IsName}
 use Rattle.tsd_base.specs.Points.{DataPoint}
 use Rattle.tsd_base.specs.Tags.{is_same}
 use Rattle.tsd_base.specs.declared.kinds.Kind.{Kind}
 use Rattle.cell_model.specs.declared.events.Placed.{Placed}
-use Rattle.cell_model.specs.Deeds.{Made, before_first}
+use Rattle.cell_model.specs.Deeds.{Made}
 use Rattle.cell_model.specs.History.{History, first, store_after}
-use Rattle.cell_model.specs.Ids.{id_in as id_at, id_number, id_of, name_of, name_row}
+use Rattle.cell_model.specs.Ids.{id_number, id_of, name_row}
 use Rattle.cell_model.specs.Lawful.{IsLawful}
-use Rattle.cell_model.specs.Layout.{names_of}
 use Rattle.cell_model.specs.Machine.{kind_qual}
 use Rattle.cell_model.specs.Readings.{Meets, Reading}
 use Rattle.cell_model.specs.Seen.{Seen, Fits}
@@ -30,9 +28,8 @@ use Rattle.query_run.specs.Asked.{Answers, Cause}
 use Rattle.query_run.specs.Asked.Answers.{none, more}
 use Rattle.query_run.specs.Faults.{AskRose}
 use Rattle.query_run.specs.Laws.{AnswerIsUnordered}
-use Rattle.query_run.specs.Parts.{AllResolved, AreQuerySteps, FirstClash, FoundNone, NameOf, Part, PartStands}
+use Rattle.query_run.specs.Parts.{AllResolved, AreQuerySteps, FoundNone, NameOf, Part, PartStands}
 use Rattle.query_run.specs.Queries.{IsFew, QuerySays, answer_over, barred, names_in, wanted}
-use Rattle.uid_table.specs.Steps.{DidLook}
 use Rattle.tsd_run.specs.Clashes.{Clash, clashes, first_clash, is_first}
 use Rattle.tsd_run.specs.Ids.{id_in}
 use Rattle.tsd_run.specs.Naming.{list_of}
@@ -43,7 +40,7 @@ use Rattle.tsd_run.proofs.Clashing.{clean_clashes, clash_is_first}
 use Rattle.tsd_run.proofs.Entering.{looked_at}
 use Rattle.tsd_run.proofs.Follows.{went}
 use Rattle.tsd_run.proofs.LastPoints.{same_bytes}
-use Rattle.tsd_run.proofs.Lower.{deeds_each, each_entry, first_lawful, here, id_kept, not_Some, sound_after, split, there}
+use Rattle.tsd_run.proofs.Lower.{deeds_each, each_entry, first_lawful, here, id_kept, not_Some, sound_after, there}
 use Rattle.tsd_run.proofs.NamedPoints.{known_is}
 use Rattle.tsd_run.proofs.OneValue.{one_valued}
 use Rattle.tsd_run.proofs.SeriesLemmas.{name_of_points}

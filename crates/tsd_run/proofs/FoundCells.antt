@@ -1,20 +1,14 @@
 -- The cells of a row that a query over stored points finds.
-use Rattle.std.proofs.Common.{◌≡◌, ⊎_elim, ℕ, ℤ, ◌+◌, ◌-◌, ◌*◌, ◌≤◌, Bool, true, false, List, [], ◌∷◌, ◌++◌, refl, sym, ap, subst, ◌∙◌, arith}
-use Rattle.std.specs.Prelude.{Option, None, Some, Contains, map, find, not, if◌then◌else◌, option_map}
+use Rattle.std.proofs.Common.{◌≡◌, ⊎_elim, ℕ, ℤ, ◌-◌, ◌≤◌, Bool, true, false, List, [], ◌∷◌, ◌++◌, refl, sym, ap, subst, ◌∙◌, arith}
+use Rattle.std.specs.Prelude.{Option, None, Some, Contains, find, not, if◌then◌else◌, option_map}
 use Rattle.std.specs.Ordering.{int_eq}
 use Rattle.std.proofs.lemmas.List.Elements.{Contains-append_cases, Contains-append_left}
-use Rattle.std.proofs.lemmas.Bool.{true≢false}
-use Rattle.std.proofs.lemmas.Cmp.{int_eq_equiv}
-use Rattle.row_key.specs.declared.keys.RowKey.{RowKey}
 use Rattle.row_key.specs.declared.tables.Table.TheVariants.{Points}
 use Rattle.qual_codec.specs.declared.cells.Cell.{Cell}
 use Rattle.qual_codec.specs.declared.cells.Dot.{Dot}
 use Rattle.qual_codec.specs.Dots.{IsDots}
 use Rattle.tsd_base.specs.Points.{DataPoint}
-use Rattle.tsd_base.specs.Readings.{last_points}
-use Rattle.tsd_base.specs.declared.kinds.Kind.{Kind}
 use Rattle.cell_model.specs.declared.cells.Found.{Found}
-use Rattle.cell_model.specs.declared.cells.Row.{Row}
 use Rattle.cell_model.specs.declared.events.Content.{Content}
 use Rattle.cell_model.specs.declared.events.Place.{Place}
 use Rattle.cell_model.specs.declared.events.Placed.{Placed}
@@ -26,16 +20,16 @@ use Rattle.cell_model.specs.History.{History, first, store_after}
 use Rattle.cell_model.specs.Ids.{name_of}
 use Rattle.cell_model.specs.Lawful.{IsLawful}
 use Rattle.cell_model.specs.Machine.{reply_of}
-use Rattle.cell_model.specs.Readings.{Reading, CellReads, HasReading, OneValued, point_row, reading_of}
+use Rattle.cell_model.specs.Readings.{Reading}
 use Rattle.cell_model.specs.Seen.{Seen, Fits}
 use Rattle.cell_model.specs.Store.{Store, cells_of, value_at}
-use Rattle.query_run.specs.Parts.{AreQuerySteps, HasClash, IsQueryStep}
-use Rattle.qual_codec.specs.Merge.{AreDots, first_conflict as first_clash, values_at}
+use Rattle.query_run.specs.Parts.{AreQuerySteps, IsQueryStep}
+use Rattle.qual_codec.specs.Merge.{AreDots, first_conflict as first_clash}
 use Rattle.row_scan.specs.Shown.{RowReads}
 use Rattle.tsd_run.specs.Storing.{IsStored}
-use Rattle.tsd_run.proofs.Asking.{accepted_last, query_keeps}
+use Rattle.tsd_run.proofs.Asking.{query_keeps}
 use Rattle.tsd_run.proofs.Follows.{follows}
-use Rattle.tsd_run.proofs.Lower.{cell_at, deeds_each, deeds_joined, each_entry, one_key, sound_after, standing_accepted, first_lawful, value_dot, there, here, not_in}
+use Rattle.tsd_run.proofs.Lower.{cell_at, deeds_each, deeds_joined, each_entry, sound_after, first_lawful, there, here, not_in}
 use Rattle.tsd_run.proofs.PointRows.{in_points}
 
 -- ---- what a next row shows

@@ -1,7 +1,6 @@
 pub mod AnswerLemmas
 pub mod Asking
 pub mod Beginning
-pub mod BufferLemmas
 pub mod Clashing
 pub mod CommandLemmas
 pub mod Entering
@@ -14,7 +13,6 @@ pub mod InputLemmas
 pub mod Known
 pub mod KnownLemmas
 pub mod LastPoints
-pub mod LineLemmas
 pub mod Lower
 pub mod MapLemmas
 pub mod NameLemmas

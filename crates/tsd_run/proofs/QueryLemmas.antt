@@ -1,6 +1,6 @@
 -- The query of a batch.
-use Rattle.std.proofs.Common.{◌≡◌, ◌*◌, ◌≤◌, Bool, List, [], ◌∷◌, refl, sym, ap, subst, ◌∙◌, arith}
-use Rattle.std.specs.Prelude.{Result, Ok, Err}
+use Rattle.std.proofs.Common.{◌≡◌, ◌*◌, ◌≤◌, Bool, [], ◌∷◌, sym, subst, arith}
+use Rattle.std.specs.Prelude.{Ok, Err}
 use Rattle.query_text.specs.Subs.{GivesSub, sub_of}
 use Rattle.query_text.specs.declared.queries.Query.{Query}
 use Rattle.query_text.specs.declared.queries.QueryFault.{QueryFault}

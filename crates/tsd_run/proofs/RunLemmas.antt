@@ -15,19 +15,19 @@ use Rattle.query_run.specs.declared.fault.AskFault.{AskFault}
 use Rattle.tsd_run.specs.declared.status.Status.{Status}
 use Rattle.tsd_run.specs.declared.status.Status.TheVariants.{Done, Usage, Refused, ReadFault, WriteFault, Memory, SessionFull}
 use Rattle.tsd_run.specs.declared.input.BadLine.{BadLine}
-use Rattle.tsd_run.specs.declared.input.InputFault.{InputFault}
-use Rattle.tsd_run.specs.declared.input.InputFault.TheVariants as fault
+use Rattle.line_stream.specs.declared.reader.InputFault.{InputFault}
+use Rattle.line_stream.specs.declared.reader.InputFault.TheVariants as fault
 use Rattle.tsd_run.specs.declared.gathered.Gathered.{Gathered}
 use Rattle.tsd_run.specs.declared.printed.Printed.{Printed}
 use Rattle.tsd_run.specs.Commands.{Batch}
 use Rattle.tsd_run.specs.Gathering.{Gathers}
 use Rattle.tsd_run.specs.Inputs.{IsPointsOf, ReadsInputTo}
-use Rattle.tsd_run.specs.Lines.{points_of}
+use Rattle.tsd_run.specs.PointLines.{points_of}
 use Rattle.tsd_run.specs.Outcomes.{Outcome, answered, outcome, over_input, over_points, refused_line, refused_query, replied}
 use Rattle.tsd_run.specs.Printing.{outcome_of}
 use Rattle.tsd_run.specs.Queries.{GivesQuery, IsQueryOf, query_of}
 use Rattle.tsd_run.specs.QueryFaults.{query_fault_text}
-use Rattle.tsd_run.specs.Runs.{Decides, Decided, ReadsInput, Taken, Works, Answers, Runs}
+use Rattle.tsd_run.specs.Runs.{Decides, ReadsInput, Taken, Works, Answers, Runs}
 
 -- a status that something printed has
 abbrev pub IsPrinted : Status → Type 0

@@ -2,15 +2,16 @@
 use Rattle.std.specs.Prelude.{◌≡◌, ℕ, ◌+◌, ◌^◌, ◌<◌, ◌≤◌, Bool, true, false, List, [], ◌∷◌, ◌++◌, length, Option, None, Some, Result, Ok, Err}
 use Rattle.std.specs.Io.KnownBytes.{Appends, Consumes, IsAtEnd}
 use Rattle.tsd_base.specs.Points.{DataPoint}
+use Rattle.line_stream.specs.declared.reader.InputFault.{InputFault}
+use Rattle.line_stream.specs.declared.reader.InputFault.TheVariants.{Failed, Full, OutOfMemory}
+use Rattle.line_stream.specs.Lines.{Line, Splits}
+use Rattle.line_stream.specs.Reads.{IsFront}
 use Rattle.tsd_run.specs.declared.gathered.Gathered.{Gathered}
 use Rattle.tsd_run.specs.Ids.{Names}
 use Rattle.tsd_run.specs.declared.input.BadLine.{BadLine}
-use Rattle.tsd_run.specs.declared.input.InputFault.{InputFault}
-use Rattle.tsd_run.specs.declared.input.InputFault.TheVariants.{Failed, Full, OutOfMemory}
-use Rattle.tsd_run.specs.Blocks.{has_line_end}
 use Rattle.tsd_run.specs.Gathering.{Gathers}
-use Rattle.tsd_run.specs.Lines.{Line, Judged, judged, lines_of, points_from, points_of, with_points}
-use Rattle.tsd_run.specs.Lines.Judged.{Blank, Taken, Refused}
+use Rattle.tsd_run.specs.PointLines.{Judged, judged, points_from, points_of, with_points}
+use Rattle.tsd_run.specs.PointLines.Judged.{Blank, Taken, Refused}
 use Rattle.tsd_run.specs.Naming.{no_names, noted_all, exhausted_text}
 use Rattle.cell_model.specs.Layout.{names_of}
 use Rattle.tsd_base.specs.declared.kinds.Kind.{Kind}
@@ -40,26 +41,13 @@ abbrev pub ReadsLine : Line → ℕ → Gathered → Gathered → Option BadLine
 ReadsLine line number old new None = (lines : List Line) → IsRead lines old → IsRead (lines ++ line ∷ []) new
 ReadsLine line number old new (Some bad) = (lines : List Line) → (read : IsRead lines old) → IsBad read.gathers.names line number bad
 
--- The bytes begin with these lines, and the rest is what stands behind their last LF.
-abbrev pub Splits : List ℕ → List Line → List ℕ → Type 0
-Splits bytes lines rest = (more : List ℕ) → lines_of (bytes ++ more) ≡ lines ++ lines_of (rest ++ more)
-
--- Behind lines that were read, all lines of the bytes that an LF ends were read; or one of them is refused.
-abbrev pub ReadsLines : List ℕ → List ℕ → ℕ → ℕ → Gathered → Gathered → Option BadLine → Type 0
-ReadsLines bytes rest count count' old new None =
-    (has_line_end rest ≡ false) × ((lines : List Line) → length lines ≡ count → IsRead lines old
-    → (more : List Line) × Splits bytes more rest × IsRead (lines ++ more) new × (length (lines ++ more) ≡ count'))
-ReadsLines bytes rest count count' old new (Some bad) =
-    (lines : List Line) → length lines ≡ count → IsRead lines old → (more : List ℕ) → points_from 1 no_names (lines ++ lines_of (bytes ++ more)) ≡ Err (bad.number, bad.text.items)
-
 -- The input so far is these whole lines, none of them refused, and the rest is the front of a line that may be short enough.
 pub record IsUnrefused (input : List ℕ) : Type 0 where
   pub lines : List Line
   pub rest : List ℕ
   pub splits : Splits input lines rest
   pub read : (points : List DataPoint) × (points_from 1 no_names lines ≡ Ok points)
-  pub short : length rest ≤ 8192
-  pub whole : has_line_end rest ≡ false
+  pub front : IsFront rest
 
 -- the points of an input, as far as it is known: all of it, or whatever comes
 abbrev pub IsPointsOf : List ℕ → Bool → Result (List DataPoint) (ℕ × List ℕ) → Type 0

@@ -5,12 +5,10 @@ pub mod Series
 pub mod Gathering
 pub mod Settling
 pub mod Batches
-pub mod Blocks
-pub mod Buffers
 pub mod Commands
 pub mod Inputs
 pub mod Judgements
-pub mod Lines
+pub mod PointLines
 pub mod Clashes
 pub mod Outcomes
 pub mod Printing

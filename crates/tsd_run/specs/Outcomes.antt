@@ -1,5 +1,5 @@
 -- What a run of the program prints and answers, a function of its words and its input.
-use Rattle.std.specs.Prelude.{ℕ, ℤ, Bool, not, List, ◌++◌, codes, decimal, filter, find, Option, None, Some, option_map, Result, Ok, Err}
+use Rattle.std.specs.Prelude.{ℕ, Bool, not, List, ◌++◌, codes, decimal, filter, find, Option, None, Some, option_map, Result, Ok, Err}
 use Rattle.std.specs.List.{flat_map, list_any}
 use Rattle.tsd_base.specs.Tags.{is_same}
 use Rattle.tsd_base.specs.Points.{DataPoint}
@@ -22,7 +22,7 @@ use Rattle.tsd_run.specs.declared.status.Status.{Status}
 use Rattle.tsd_run.specs.declared.status.Status.TheVariants.{Done, Usage, Refused}
 use Rattle.tsd_run.specs.Commands.{Batch, usage_line}
 use Rattle.tsd_run.specs.Clashes.{first_clash}
-use Rattle.tsd_run.specs.Lines.{points_of}
+use Rattle.tsd_run.specs.PointLines.{points_of}
 use Rattle.tsd_run.specs.Naming.{Names, no_names, noted_all}
 use Rattle.tsd_run.specs.Queries.{query_of}
 use Rattle.tsd_run.specs.QueryFaults.{query_fault_text, ask_fault_text}

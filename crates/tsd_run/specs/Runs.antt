@@ -3,8 +3,8 @@ use Rattle.std.specs.Prelude.{◌≡◌, ℕ, ◌^◌, ◌<◌, ◌≤◌, ◌�
 use Rattle.std.specs.Io.KnownBytes.{Appends, Consumes, IsAtEnd}
 use Rattle.tsd_run.specs.declared.status.Status.{Status}
 use Rattle.tsd_run.specs.declared.status.Status.TheVariants.{Done, Usage, Refused, ReadFault, WriteFault, Memory, SessionFull}
-use Rattle.tsd_run.specs.declared.input.InputFault.{InputFault}
-use Rattle.tsd_run.specs.declared.input.InputFault.TheVariants.{Failed, Full, OutOfMemory}
+use Rattle.line_stream.specs.declared.reader.InputFault.{InputFault}
+use Rattle.line_stream.specs.declared.reader.InputFault.TheVariants.{Failed, Full, OutOfMemory}
 use Rattle.tsd_run.specs.declared.printed.Printed.{Printed}
 use Rattle.tsd_run.specs.Commands.{Batch}
 use Rattle.query_text.specs.Subs.{sub_of}

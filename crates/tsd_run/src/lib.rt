@@ -2,12 +2,11 @@
 #![tactic(auto)]
 
 mod answer;
-mod buffer;
 mod command;
 mod gathered;
 mod input;
-mod judging;
 mod naming;
+mod point_line;
 mod printed;
 mod putting;
 mod query;

@@ -7,6 +7,7 @@ use Rattle.query_run.specs.Naming.{known}
 use Rattle.query_run.specs.Collecting.{RowAsked}
 use Rattle.query_run.proofs.NameReads.{passed_on}
 use Rattle.query_run.proofs.RowsTaken.{key_of_row, row_knows, dots_failed, names_failed, add_failed, row_left, row_taken, may_add}
+use Rattle.query_run.proofs.Skipping.{stays_there}
 use Rattle.query_run.proofs.collecting.take_row.Goals as goal
 
 pub returns-then-not-passes-clause-asked : goal.returns-then-not-passes-clause-asked
@@ -49,3 +50,6 @@ returns-clause-asked g c = λ id found.
     let of = key_of_row _ id c.args.start c.args.end c.args.found.now c.key_of-key.result found c.key_of-key.ensures.is_key (sym c.list.ensures ∙ c.key_of-key.ensures.row) in
     inr (row_taken (passes c.args.filters.now) _ _ id c.args.start c.args.end c.args.found.now c.key_of-key.result c.as_slice-2.result.now c.as_slice-3.result.now c.in_ok-dots.dots c.args.collected.now.spans c.add_dots.new.spans (known c.args.collected.now.names) (known c.name_pairs.new.list) of (let e = c.passes.ensures in let v = c.as_slice.ensures.value in let t = c.if-not-passes.false in cc) c.as_slice-2.ensures.value
     c.as_slice-3.ensures.value c.in_ok-name_pairs.ensures.asked c.in_ok-dots.ensures c.in_ok-add_dots.ensures)
+
+pub returns-clause-goes_on : goal.returns-clause-goes_on
+returns-clause-goes_on g c = stays_there (passes c.args.filters.now) c.args.scan.now

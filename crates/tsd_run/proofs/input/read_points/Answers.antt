@@ -1,90 +1,96 @@
-use Rattle.std.proofs.Common.{◌+◌, ◌∙◌, ◌^◌, ◌<◌, [], ap, arith, length, length-append, subst, sym, ℕ, ◌-◌, List}
-use Rattle.std.specs.Prelude.{Ok}
+use Rattle.std.proofs.Common.{List, ℕ, ◌+◌, ◌∙◌, arith, subst, take}
+use Rattle.std.specs.Prelude.{Ok, Option}
 use Rattle.std.proofs.lemmas.Result.{err_from_is_err_and}
-use Rattle.tsd_run.specs.Blocks.{has_line_end}
-use Rattle.tsd_run.specs.Buffers.{Fills}
-use Rattle.tsd_run.specs.Inputs.{ReadsLine, ReadsLines}
-use Rattle.tsd_run.proofs.LineLemmas.{last_line}
-use Rattle.tsd_run.proofs.InputLemmas.{HasRead, nothing_read, read_all_whole, too_long_further, taken_more}
-use Rattle.tsd_run.proofs.InputEnds.{out_of_memory, bad_line, full, failed, ended, no_more}
+use Rattle.line_stream.specs.Lines.{last_line, whole_line}
+use Rattle.line_stream.specs.Reads.{NextLineIs, no_bytes}
+use Rattle.line_stream.specs.declared.reader.NextLine.{NextLine}
+use Rattle.line_stream.specs.declared.reader.NextLine.TheVariants.{Last, TooLong, Whole}
+use Rattle.tsd_run.specs.declared.input.BadLine.{BadLine}
+use Rattle.tsd_run.specs.Inputs.{ReadsLine}
+use Rattle.tsd_run.proofs.InputEnds.{ended, line_refused, line_too_long, not_found, out_of_memory}
+use Rattle.tsd_run.proofs.InputLemmas.{found, line_read, nothing_read}
 use Rattle.tsd_run.proofs.input.read_points.Goals as goal
 
-pub loop-buffer-init : goal.loop-buffer-init
-loop-buffer-init g c =
-    let s = g.S.Source in
-    let start = nothing_read (s.taken c.args.source.now) (s.left c.args.source.now) c.args.gathered.now c.requires.empty in
-    rw c.in_ok-buffer.ensures (record { read = start; count = omega arith; most = omega arith; later = omega arith })
-
-pub returns-in_err-buffer-clause-reads : goal.returns-in_err-buffer-clause-reads
-returns-in_err-buffer-clause-reads g c =
+pub returns-in_err-reader-clause-reads : goal.returns-in_err-reader-clause-reads
+returns-in_err-reader-clause-reads g c =
     let s = g.S.Source in
     let start = nothing_read (s.taken c.args.source.now) (s.left c.args.source.now) c.args.gathered.now c.requires.empty in
     let p = err_from_is_err_and c.from_residual.result c.from_residual.ensures.1 in
-    rw (p.1, p.2) (out_of_memory _ _ _ _ c.args.gathered.now [] 0 0 start (omega arith) c.args.gathered.now)
+    rw (p.1, p.2) (out_of_memory _ _ _ _ c.args.gathered.now no_bytes start (omega arith) c.args.gathered.now)
 
-pub returns-then-bytes-gt-LONGEST_LINE-clause-reads : goal.returns-then-bytes-gt-LONGEST_LINE-clause-reads
-returns-then-bytes-gt-LONGEST_LINE-clause-reads g c =
+pub loop-reader-init : goal.loop-reader-init
+loop-reader-init g c =
     let s = g.S.Source in
-    let i = c.loop-buffer.invariant in
-    let r = subst (λ o. ReadsLines c.loop-buffer.buffer c.read_lines.new.buffer c.loop-buffer.lines c.read_lines.new.lines c.loop-buffer.gathered c.read_lines.new.gathered o) c.in_default.is c.in_ok-bad.ensures.reads in
-    let h = read_all_whole (s.taken c.args.source.now) (s.taken c.loop-buffer.source) (s.left c.args.source.now) (s.left c.loop-buffer.source) c.loop-buffer.gathered c.read_lines.new.gathered c.loop-buffer.buffer c.read_lines.new.buffer c.loop-buffer.lines c.read_lines.new.lines c.loop-buffer.taken i.read r in
-    let bad = c.in_ok-too_long.field-0 in
-    let e = c.in_ok-too_long.ensures in
-    bad_line (s.taken c.args.source.now) (s.taken c.loop-buffer.source) (s.left c.args.source.now) (s.left c.loop-buffer.source) c.read_lines.new.gathered c.read_lines.new.buffer c.read_lines.new.lines c.loop-buffer.taken h i.most c.read_lines.new.gathered bad (too_long_further h.input c.read_lines.new.buffer c.read_lines.new.lines c.read_lines.new.gathered bad h.reads r.0 (let b = ap length c.bytes.ensures in let f = c.if-bytes-gt-LONGEST_LINE.true in omega (arith, b, f)) e.0 e.1)
+    let start = nothing_read (s.taken c.args.source.now) (s.left c.args.source.now) c.args.gathered.now c.requires.empty in
+    rw c.in_ok-reader.ensures (record { read = start; most = omega arith; later = omega arith })
 
-pub returns-then-taken-eq-LONGEST_INPUT-clause-reads : goal.returns-then-taken-eq-LONGEST_INPUT-clause-reads
-returns-then-taken-eq-LONGEST_INPUT-clause-reads g c =
+pub returns-in_err-end-clause-reads : goal.returns-in_err-end-clause-reads
+returns-in_err-end-clause-reads g c =
     let s = g.S.Source in
-    let i = c.loop-buffer.invariant in
-    let r = subst (λ o. ReadsLines c.loop-buffer.buffer c.read_lines.new.buffer c.loop-buffer.lines c.read_lines.new.lines c.loop-buffer.gathered c.read_lines.new.gathered o) c.in_default.is c.in_ok-bad.ensures.reads in
-    let h = read_all_whole (s.taken c.args.source.now) (s.taken c.loop-buffer.source) (s.left c.args.source.now) (s.left c.loop-buffer.source) c.loop-buffer.gathered c.read_lines.new.gathered c.loop-buffer.buffer c.read_lines.new.buffer c.loop-buffer.lines c.read_lines.new.lines c.loop-buffer.taken i.read r in
-    full (s.taken c.args.source.now) (s.taken c.loop-buffer.source) (s.left c.args.source.now) (s.left c.loop-buffer.source) c.read_lines.new.gathered c.read_lines.new.buffer c.read_lines.new.lines c.loop-buffer.taken h i.most c.read_lines.new.gathered r.0 (let b = ap length c.bytes.ensures in let f = c.if-bytes-gt-LONGEST_LINE.false in omega (arith, b, f)) c.if-taken-eq-LONGEST_INPUT.true
+    let p = err_from_is_err_and c.from_residual-in_err-end.result c.from_residual-in_err-end.ensures.1 in
+    rw (p.1, p.2) (not_found (s.taken c.args.source.now) (s.taken c.loop-reader.source) (s.taken c.next_line.new.source) (s.left c.args.source.now) (s.left c.loop-reader.source) (s.left c.next_line.new.source) c.loop-reader.gathered c.loop-reader.reader c.next_line.new.self c.loop-reader.invariant.read c.in_err-end.field-0.0 c.in_err-end.ensures.next)
 
-pub returns-in_err-count-clause-reads : goal.returns-in_err-count-clause-reads
-returns-in_err-count-clause-reads g c =
+pub returns-in_err-bad-in-Whole-clause-reads : goal.returns-in_err-bad-in-Whole-clause-reads
+returns-in_err-bad-in-Whole-clause-reads g c =
     let s = g.S.Source in
-    let i = c.loop-buffer.invariant in
-    let r = subst (λ o. ReadsLines c.loop-buffer.buffer c.read_lines.new.buffer c.loop-buffer.lines c.read_lines.new.lines c.loop-buffer.gathered c.read_lines.new.gathered o) c.in_default.is c.in_ok-bad.ensures.reads in
-    let h = read_all_whole (s.taken c.args.source.now) (s.taken c.loop-buffer.source) (s.left c.args.source.now) (s.left c.loop-buffer.source) c.loop-buffer.gathered c.read_lines.new.gathered c.loop-buffer.buffer c.read_lines.new.buffer c.loop-buffer.lines c.read_lines.new.lines c.loop-buffer.taken i.read r in
-    let p = err_from_is_err_and c.from_residual-in_err-count.result c.from_residual-in_err-count.ensures.1 in
-    let f = c.in_err-count.ensures.fills in
-    rw (p.1, p.2) (failed (s.taken c.args.source.now) (s.taken c.loop-buffer.source) (s.left c.args.source.now) (s.left c.loop-buffer.source) c.read_lines.new.gathered c.read_lines.new.buffer c.read_lines.new.lines c.loop-buffer.taken h i.most (s.taken c.fill.new.source) (s.left c.fill.new.source) c.read_lines.new.gathered r.0 (let b = ap length c.bytes.ensures in let f = c.if-bytes-gt-LONGEST_LINE.false in omega (arith, b, f)) (let n = c.if-taken-eq-LONGEST_INPUT.false in let m = i.most in omega (arith, n, m)) f.1 f.2)
+    let n = subst (λ (line : NextLine). NextLineIs (s.taken c.loop-reader.source) (s.taken c.next_line.new.source) (s.left c.loop-reader.source) (s.left c.next_line.new.source) c.loop-reader.reader (Ok line) c.next_line.new.self) c.in-Whole.is c.in_ok-end.ensures.next in
+    let f = found (s.taken c.args.source.now) (s.taken c.loop-reader.source) (s.taken c.next_line.new.source) (s.left c.args.source.now) (s.left c.loop-reader.source) (s.left c.next_line.new.source) c.loop-reader.gathered c.loop-reader.reader c.next_line.new.self c.loop-reader.invariant.read (Whole c.in-Whole.end) n in
+    let p = err_from_is_err_and c.from_residual-in_err-bad-in-Whole.result c.from_residual-in_err-bad-in-Whole.ensures.1 in
+    rw (p.1, p.2) (out_of_memory (s.taken c.args.source.now) (s.taken c.next_line.new.source) (s.left c.args.source.now) (s.left c.next_line.new.source) c.loop-reader.gathered c.next_line.new.self f.0 f.2 c.read_line.new.gathered)
 
-pub returns-in_err-read_line-clause-reads : goal.returns-in_err-read_line-clause-reads
-returns-in_err-read_line-clause-reads g c =
+pub returns-in-Some-clause-reads : goal.returns-in-Some-clause-reads
+returns-in-Some-clause-reads g c =
     let s = g.S.Source in
-    let i = c.loop-buffer.invariant in
-    let r = subst (λ o. ReadsLines c.loop-buffer.buffer c.read_lines.new.buffer c.loop-buffer.lines c.read_lines.new.lines c.loop-buffer.gathered c.read_lines.new.gathered o) c.in_default.is c.in_ok-bad.ensures.reads in
-    let h = read_all_whole (s.taken c.args.source.now) (s.taken c.loop-buffer.source) (s.left c.args.source.now) (s.left c.loop-buffer.source) c.loop-buffer.gathered c.read_lines.new.gathered c.loop-buffer.buffer c.read_lines.new.buffer c.loop-buffer.lines c.read_lines.new.lines c.loop-buffer.taken i.read r in
-    let f = subst (λ (n : ℕ). Fills (s.taken c.loop-buffer.source) (s.taken c.fill.new.source) (s.left c.loop-buffer.source) (s.left c.fill.new.source) c.read_lines.new.buffer c.fill.new.self (2 ^ 40 - c.loop-buffer.taken) (Ok n)) c.if-count-eq0.true c.in_ok-count.ensures.fills in
-    let n = no_more (s.taken c.args.source.now) (s.taken c.loop-buffer.source) (s.taken c.fill.new.source) (s.left c.args.source.now) (s.left c.loop-buffer.source) (s.left c.fill.new.source) c.read_lines.new.gathered c.read_lines.new.buffer c.fill.new.self c.read_lines.new.lines c.loop-buffer.taken (2 ^ 40 - c.loop-buffer.taken) h f in
-    let p = err_from_is_err_and c.from_residual-in_err-read_line.result c.from_residual-in_err-read_line.ensures.1 in
-    rw (p.1, p.2) (out_of_memory (s.taken c.args.source.now) (s.taken c.fill.new.source) (s.left c.args.source.now) (s.left c.fill.new.source) c.read_lines.new.gathered c.fill.new.self c.read_lines.new.lines c.loop-buffer.taken n.0 i.most c.read_line.new.gathered)
+    let n = subst (λ (line : NextLine). NextLineIs (s.taken c.loop-reader.source) (s.taken c.next_line.new.source) (s.left c.loop-reader.source) (s.left c.next_line.new.source) c.loop-reader.reader (Ok line) c.next_line.new.self) c.in-Whole.is c.in_ok-end.ensures.next in
+    let f = found (s.taken c.args.source.now) (s.taken c.loop-reader.source) (s.taken c.next_line.new.source) (s.left c.args.source.now) (s.left c.loop-reader.source) (s.left c.next_line.new.source) c.loop-reader.gathered c.loop-reader.reader c.next_line.new.self c.loop-reader.invariant.read (Whole c.in-Whole.end) n in
+    let line = c.in-Whole.end in
+    let read = subst (λ (number : ℕ). ReadsLine (whole_line (take line c.bytes.result.now)) number c.loop-reader.gathered c.read_line.new.gathered c.in_ok-bad-in-Whole.field-0) c.number.ensures c.in_ok-bad-in-Whole.ensures in
+    let one = subst (λ (xs : List ℕ). ReadsLine (whole_line (take line xs)) (c.next_line.new.self.lines + 1) c.loop-reader.gathered c.read_line.new.gathered c.in_ok-bad-in-Whole.field-0) c.bytes.ensures read in
+    line_refused (s.taken c.args.source.now) (s.taken c.next_line.new.source) (s.left c.args.source.now) (s.left c.next_line.new.source) c.loop-reader.gathered c.next_line.new.self f.0 f.2 c.read_line.new.gathered c.in-Some.bad line f.1 (subst (λ (o : Option BadLine). ReadsLine (whole_line (take line c.next_line.new.self.bytes)) (c.next_line.new.self.lines + 1) c.loop-reader.gathered c.read_line.new.gathered o) c.in-Some.is one)
 
-pub returns-then-count-eq0-clause-reads : goal.returns-then-count-eq0-clause-reads
-returns-then-count-eq0-clause-reads g c =
+pub loop-reader-preserved : goal.loop-reader-preserved
+loop-reader-preserved g c =
     let s = g.S.Source in
-    let i = c.loop-buffer.invariant in
-    let r = subst (λ o. ReadsLines c.loop-buffer.buffer c.read_lines.new.buffer c.loop-buffer.lines c.read_lines.new.lines c.loop-buffer.gathered c.read_lines.new.gathered o) c.in_default.is c.in_ok-bad.ensures.reads in
-    let h = read_all_whole (s.taken c.args.source.now) (s.taken c.loop-buffer.source) (s.left c.args.source.now) (s.left c.loop-buffer.source) c.loop-buffer.gathered c.read_lines.new.gathered c.loop-buffer.buffer c.read_lines.new.buffer c.loop-buffer.lines c.read_lines.new.lines c.loop-buffer.taken i.read r in
-    let f = subst (λ (n : ℕ). Fills (s.taken c.loop-buffer.source) (s.taken c.fill.new.source) (s.left c.loop-buffer.source) (s.left c.fill.new.source) c.read_lines.new.buffer c.fill.new.self (2 ^ 40 - c.loop-buffer.taken) (Ok n)) c.if-count-eq0.true c.in_ok-count.ensures.fills in
-    let n = no_more (s.taken c.args.source.now) (s.taken c.loop-buffer.source) (s.taken c.fill.new.source) (s.left c.args.source.now) (s.left c.loop-buffer.source) (s.left c.fill.new.source) c.read_lines.new.gathered c.read_lines.new.buffer c.fill.new.self c.read_lines.new.lines c.loop-buffer.taken (2 ^ 40 - c.loop-buffer.taken) h f in
-    let some : c.loop-buffer.taken < 2 ^ 40 = (let e = c.if-taken-eq-LONGEST_INPUT.false in let m = i.most in omega (arith, e, m)) in
-    let one = subst (λ (xs : List ℕ). ReadsLine (last_line xs) (c.read_lines.new.lines + 1) c.read_lines.new.gathered c.read_line.new.gathered c.in_ok-read_line.field-0) c.bytes-then-count-eq0.ensures c.in_ok-read_line.ensures in
-    ended (s.taken c.args.source.now) (s.taken c.fill.new.source) (s.left c.args.source.now) (s.left c.fill.new.source) c.read_lines.new.gathered c.read_line.new.gathered c.fill.new.self c.read_lines.new.lines c.loop-buffer.taken n.0 some n.1 (ap has_line_end n.2 ∙ r.0) c.in_ok-read_line.field-0 one
+    let n = subst (λ (line : NextLine). NextLineIs (s.taken c.loop-reader.source) (s.taken c.next_line.new.source) (s.left c.loop-reader.source) (s.left c.next_line.new.source) c.loop-reader.reader (Ok line) c.next_line.new.self) c.in-Whole.is c.in_ok-end.ensures.next in
+    let f = found (s.taken c.args.source.now) (s.taken c.loop-reader.source) (s.taken c.next_line.new.source) (s.left c.args.source.now) (s.left c.loop-reader.source) (s.left c.next_line.new.source) c.loop-reader.gathered c.loop-reader.reader c.next_line.new.self c.loop-reader.invariant.read (Whole c.in-Whole.end) n in
+    let line = c.in-Whole.end in
+    let read = subst (λ (number : ℕ). ReadsLine (whole_line (take line c.bytes.result.now)) number c.loop-reader.gathered c.read_line.new.gathered c.in_ok-bad-in-Whole.field-0) c.number.ensures c.in_ok-bad-in-Whole.ensures in
+    let one = subst (λ (xs : List ℕ). ReadsLine (whole_line (take line xs)) (c.next_line.new.self.lines + 1) c.loop-reader.gathered c.read_line.new.gathered c.in_ok-bad-in-Whole.field-0) c.bytes.ensures read in
+    let read = line_read (s.taken c.args.source.now) (s.taken c.next_line.new.source) (s.left c.args.source.now) (s.left c.next_line.new.source) c.loop-reader.gathered c.read_line.new.gathered c.next_line.new.self line f.0 f.1 (subst (λ (o : Option BadLine). ReadsLine (whole_line (take line c.next_line.new.self.bytes)) (c.next_line.new.self.lines + 1) c.loop-reader.gathered c.read_line.new.gathered o) c.in_default.is one) in
+    let most = f.2 in
+    let was = c.loop-reader.invariant.later in
+    let now = c.next_line.ensures.later in
+    rw c.skip_line.ensures (record { read = read; most = most; later = omega (arith, was, now) })
 
-pub loop-buffer-preserved : goal.loop-buffer-preserved
-loop-buffer-preserved g c =
+pub returns-in_err-read_line-in-Last-clause-reads : goal.returns-in_err-read_line-in-Last-clause-reads
+returns-in_err-read_line-in-Last-clause-reads g c =
     let s = g.S.Source in
-    let i = c.loop-buffer.invariant in
-    let r = subst (λ o. ReadsLines c.loop-buffer.buffer c.read_lines.new.buffer c.loop-buffer.lines c.read_lines.new.lines c.loop-buffer.gathered c.read_lines.new.gathered o) c.in_default.is c.in_ok-bad.ensures.reads in
-    let h = read_all_whole (s.taken c.args.source.now) (s.taken c.loop-buffer.source) (s.left c.args.source.now) (s.left c.loop-buffer.source) c.loop-buffer.gathered c.read_lines.new.gathered c.loop-buffer.buffer c.read_lines.new.buffer c.loop-buffer.lines c.read_lines.new.lines c.loop-buffer.taken i.read r in
-    let f = c.in_ok-count.ensures.fills in
-    let grown = f.3 in
-    record {
-      read = subst (λ (xs : List ℕ). HasRead (s.taken c.args.source.now) (s.taken c.fill.new.source) (s.left c.args.source.now) (s.left c.fill.new.source) c.read_lines.new.gathered xs c.read_lines.new.lines (c.loop-buffer.taken + c.in_ok-count.count)) (sym grown)
-          (taken_more (s.taken c.args.source.now) (s.taken c.loop-buffer.source) (s.taken c.fill.new.source) (s.left c.args.source.now) (s.left c.loop-buffer.source) (s.left c.fill.new.source) c.read_lines.new.gathered c.read_lines.new.buffer f.0 c.read_lines.new.lines c.loop-buffer.taken c.in_ok-count.count h f.4 f.5 f.1);
-      count = (let l = ap length grown ∙ length-append c.read_lines.new.buffer f.0 in let k = c.in_ok-bad.ensures.count in let was = i.count in let n = f.1 in omega (arith, l, k, was, n));
-      most = (let n = f.2 in let m = i.most in omega (arith, n, m));
-      later = (let a = i.later in let b = c.in_ok-count.ensures.cause.later in omega (arith, a, b));
-    }
+    let n = subst (λ (line : NextLine). NextLineIs (s.taken c.loop-reader.source) (s.taken c.next_line.new.source) (s.left c.loop-reader.source) (s.left c.next_line.new.source) c.loop-reader.reader (Ok line) c.next_line.new.self) c.in-Last.is c.in_ok-end.ensures.next in
+    let f = found (s.taken c.args.source.now) (s.taken c.loop-reader.source) (s.taken c.next_line.new.source) (s.left c.args.source.now) (s.left c.loop-reader.source) (s.left c.next_line.new.source) c.loop-reader.gathered c.loop-reader.reader c.next_line.new.self c.loop-reader.invariant.read Last n in
+    let p = err_from_is_err_and c.from_residual-in_err-read_line-in-Last.result c.from_residual-in_err-read_line-in-Last.ensures.1 in
+    rw (p.1, p.2) (out_of_memory (s.taken c.args.source.now) (s.taken c.next_line.new.source) (s.left c.args.source.now) (s.left c.next_line.new.source) c.loop-reader.gathered c.next_line.new.self f.0 f.2 c.read_line-in-Last.new.gathered)
+
+pub returns-in-Last-clause-reads : goal.returns-in-Last-clause-reads
+returns-in-Last-clause-reads g c =
+    let s = g.S.Source in
+    let n = subst (λ (line : NextLine). NextLineIs (s.taken c.loop-reader.source) (s.taken c.next_line.new.source) (s.left c.loop-reader.source) (s.left c.next_line.new.source) c.loop-reader.reader (Ok line) c.next_line.new.self) c.in-Last.is c.in_ok-end.ensures.next in
+    let f = found (s.taken c.args.source.now) (s.taken c.loop-reader.source) (s.taken c.next_line.new.source) (s.left c.args.source.now) (s.left c.loop-reader.source) (s.left c.next_line.new.source) c.loop-reader.gathered c.loop-reader.reader c.next_line.new.self c.loop-reader.invariant.read Last n in
+    let read = subst (λ (number : ℕ). ReadsLine (last_line c.bytes-in-Last.result.now) number c.loop-reader.gathered c.read_line-in-Last.new.gathered c.in_ok-read_line-in-Last.field-0) c.number-in-Last.ensures c.in_ok-read_line-in-Last.ensures in
+    let one = subst (λ (xs : List ℕ). ReadsLine (last_line xs) (c.next_line.new.self.lines + 1) c.loop-reader.gathered c.read_line-in-Last.new.gathered c.in_ok-read_line-in-Last.field-0) c.bytes-in-Last.ensures read in
+    ended (s.taken c.args.source.now) (s.taken c.next_line.new.source) (s.left c.args.source.now) (s.left c.next_line.new.source) c.loop-reader.gathered c.read_line-in-Last.new.gathered c.next_line.new.self f.0 f.1.0 f.1.1 f.1.2 c.in_ok-read_line-in-Last.field-0 one
+
+pub returns-in_err-too_long-in-TooLong-clause-reads : goal.returns-in_err-too_long-in-TooLong-clause-reads
+returns-in_err-too_long-in-TooLong-clause-reads g c =
+    let s = g.S.Source in
+    let n = subst (λ (line : NextLine). NextLineIs (s.taken c.loop-reader.source) (s.taken c.next_line.new.source) (s.left c.loop-reader.source) (s.left c.next_line.new.source) c.loop-reader.reader (Ok line) c.next_line.new.self) c.in-TooLong.is c.in_ok-end.ensures.next in
+    let f = found (s.taken c.args.source.now) (s.taken c.loop-reader.source) (s.taken c.next_line.new.source) (s.left c.args.source.now) (s.left c.loop-reader.source) (s.left c.next_line.new.source) c.loop-reader.gathered c.loop-reader.reader c.next_line.new.self c.loop-reader.invariant.read TooLong n in
+    let p = err_from_is_err_and c.from_residual-in_err-too_long-in-TooLong.result c.from_residual-in_err-too_long-in-TooLong.ensures.1 in
+    rw (p.1, p.2) (out_of_memory (s.taken c.args.source.now) (s.taken c.next_line.new.source) (s.left c.args.source.now) (s.left c.next_line.new.source) c.loop-reader.gathered c.next_line.new.self f.0 f.2 c.loop-reader.gathered)
+
+pub returns-in-TooLong-clause-reads : goal.returns-in-TooLong-clause-reads
+returns-in-TooLong-clause-reads g c =
+    let s = g.S.Source in
+    let n = subst (λ (line : NextLine). NextLineIs (s.taken c.loop-reader.source) (s.taken c.next_line.new.source) (s.left c.loop-reader.source) (s.left c.next_line.new.source) c.loop-reader.reader (Ok line) c.next_line.new.self) c.in-TooLong.is c.in_ok-end.ensures.next in
+    let f = found (s.taken c.args.source.now) (s.taken c.loop-reader.source) (s.taken c.next_line.new.source) (s.left c.args.source.now) (s.left c.loop-reader.source) (s.left c.next_line.new.source) c.loop-reader.gathered c.loop-reader.reader c.next_line.new.self c.loop-reader.invariant.read TooLong n in
+    let bad = c.in_ok-too_long-in-TooLong.ensures in
+    line_too_long (s.taken c.args.source.now) (s.taken c.next_line.new.source) (s.left c.args.source.now) (s.left c.next_line.new.source) c.loop-reader.gathered c.next_line.new.self f.0 f.2 c.in_ok-too_long-in-TooLong.field-0 f.1 bad.0 (bad.1 ∙ c.number-in-TooLong.ensures)

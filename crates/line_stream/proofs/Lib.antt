@@ -1,0 +1,4 @@
+pub mod CallerLemmas
+mod FirstLines
+mod ReaderLemmas
+mod SearchLemmas

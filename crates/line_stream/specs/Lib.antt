@@ -1,0 +1,4 @@
+pub mod Lines
+pub mod Searched
+pub mod Readings
+pub mod Reads

@@ -1,0 +1,8 @@
+-- How far an input was read.
+use Rattle.std.specs.Prelude.{ℕ, List}
+
+-- the bytes that were taken and aren't used up, the number of lines that were used up, and that of bytes that were taken
+pub record Reading : Type 0 where
+  pub bytes : List ℕ
+  pub lines : ℕ
+  pub taken : ℕ

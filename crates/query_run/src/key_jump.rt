@@ -1,0 +1,152 @@
+//! Where a search for rows that pass filters goes on behind one that doesn't.
+ghost use Rattle.std.specs.Prelude.{◌≡◌, ◌∷◌, [], ◌++◌, ◌<◌, ◌≤◌, false, length, take, get_or, All, IfSome};
+ghost use Rattle.row_key.specs.Key.{IsKey};
+ghost use Rattle.query_run.specs.IdFilters.{passes, passes_filter, passes_test};
+ghost use Rattle.query_run.specs.KeyJumps.{IsBehind, IsNextValue, JumpsOver};
+
+use crate::id_filter::{IdFilter, IdTest, passes_filter};
+use arrayvec::ArrayVec;
+use row_key::RowKey;
+
+/// The greatest id.
+const MOST_ID: u32 = 16_777_215;
+
+/// The lesser of two ids, where the one is above a value.
+fn nearer(least: u32, id: u32, value: u32) -> u32
+    requires { value < least }
+    ensures above { value < result }
+    ensures most { result ≤ least }
+    ensures least { value < id → result ≤ id }
+{
+    if value < id { least.min(id) } else { least }
+}
+
+/// The least of the ids that is above a value, or one more than the greatest that there can be.
+fn least_above(ids: &[u32], value: u32) -> u32
+    requires { value ≤ 16777215 }
+    ensures above { value < result }
+    ensures most { result ≤ 16777216 }
+    ensures least { All (λ id. value < id → result ≤ id) ids.now }
+{
+    let mut least = MOST_ID + 1;
+    for id in ids {
+        least = nearer(least, *id, value);
+    }
+    least
+}
+
+/// Where a value fails a test, the least one above it that may pass, or one more than the greatest that there can be.
+fn next_value(test: &IdTest, value: u32) -> u32
+    requires most { value ≤ 16777215 }
+    requires fails { passes_test test.now value ≡ false }
+    ensures { IsNextValue test.now value result }
+{
+    match test {
+        IdTest::Any | IdTest::NotOneOf { .. } => value + 1,
+        IdTest::OneOf { ids } => least_above(ids, value),
+    }
+}
+
+/// How many of the pairs have a lesser id than this one, by the ids of their keys, which rise.
+fn place_of(pairs: &[(u32, u32)], id: u32) -> usize
+    ensures before { All (λ p. p.0 < id) (take result pairs.now) }
+    ensures most { result ≤ length pairs.now }
+    ensures at { result < length pairs.now → id ≤ (get_or pairs.now result (0, 0)).0 }
+{
+    for i in 0..pairs.len() {
+        if id <= pairs[i].0 {
+            return i;
+        }
+    }
+    pairs.len()
+}
+
+/// The key with the first pairs of another, and then this one.
+fn key_at(key: &RowKey, place: usize, pair: (u32, u32)) -> RowKey
+    requires inside { place < length key.now.pairs.items }
+    requires most { length key.now.pairs.items ≤ 8 }
+    ensures metric { result.metric ≡ key.now.metric }
+    ensures base { result.base ≡ key.now.base }
+    ensures pairs { result.pairs.items ≡ take place key.now.pairs.items ++ pair ∷ [] }
+{
+    let mut pairs = ArrayVec::new();
+    let _ = pairs.try_extend_from_slice(&key.pairs.as_slice()[..place]);
+    pairs.push(pair);
+    RowKey {
+        metric: key.metric,
+        base: key.base,
+        pairs,
+    }
+}
+
+/// The least key that the metric can have behind an hour.
+fn next_hour(key: &RowKey) -> Option<RowKey>
+    requires { IsKey key.now }
+    ensures { IfSome result (IsBehind key.now 0) }
+{
+    let base = key.base.checked_add(3600)?;
+    let mut pairs = ArrayVec::new();
+    pairs.push((1, 1));
+    Some(RowKey {
+        metric: key.metric,
+        base,
+        pairs,
+    })
+}
+
+/// A key behind all those of the metric that have this key's hour and first pairs.
+fn behind(key: &RowKey, place: usize) -> Option<RowKey>
+    requires key { IsKey key.now }
+    requires inside { place ≤ length key.now.pairs.items }
+    ensures { IfSome result (IsBehind key.now place) }
+{
+    if place == 0 {
+        return next_hour(key);
+    }
+    let (id, value) = key.pairs.as_slice()[place - 1];
+    if value == MOST_ID {
+        return None;
+    }
+    Some(key_at(key, place - 1, (id, value + 1)))
+}
+
+/// A key behind all those that fail the filter as this one does: they have its hour and the same pairs before that of the filter.
+/// Where no pair of the key has a greater id than the filter, there is none, since the next key may have the filter's.
+fn jump_by(filter: &IdFilter, key: &RowKey) -> Option<RowKey>
+    requires key { IsKey key.now }
+    requires fails { passes_filter filter.now key.now.pairs.items ≡ false }
+    ensures { IfSome result (JumpsOver (passes_filter filter.now) key.now) }
+{
+    let pairs = key.pairs.as_slice();
+    let place = place_of(pairs, filter.key);
+    if place == pairs.len() {
+        return None;
+    }
+    let (id, value) = pairs[place];
+    if id != filter.key {
+        return behind(key, place);
+    }
+    let next = next_value(&filter.test, value);
+    if next > MOST_ID {
+        return behind(key, place);
+    }
+    Some(key_at(key, place, (id, next)))
+}
+
+/// A key behind one that fails the filters, so that none from that one on and before it passes them.
+///
+/// Of the filters that it fails the one with the least id tells, since its pair stands first.
+pub(crate) fn jump(filters: &[IdFilter], key: &RowKey) -> Option<RowKey>
+    requires { IsKey key.now }
+    ensures { IfSome result (JumpsOver (passes filters.now) key.now) }
+{
+    let mut first: Option<&IdFilter> = None;
+    for filter in filters {
+        if !passes_filter(filter, key.pairs.as_slice())
+            && first.is_none_or(|other| filter.key < other.key)
+        {
+            first = Some(filter);
+        }
+    }
+    jump_by(first?, key)
+}
