@@ -30,4 +30,4 @@ mod SameOutcome
 mod SameAnswer
 mod PairOrder
 mod Jumps
-mod Skipping
+mod SkipSteps

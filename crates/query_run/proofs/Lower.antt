@@ -13,7 +13,7 @@ pub use Rattle.qual_codec.proofs.Lists.{all_of, pairs_push, pairs_before, in_fil
 pub use Rattle.qual_codec.proofs.Values.{dot_value, value_dot, no_conflict as no_clash}
 pub use Rattle.row_scan.proofs.Offsets.{dot_offset, hour_is, one_hour}
 pub use Rattle.row_scan.proofs.Lower.{one_key}
-pub use Rattle.row_scan.proofs.Bytes.{below_behind, not_back, below_from_on, from_on_from_on, not_itself, never_both, less_behind, less_or_not}
+pub use Rattle.row_scan.proofs.Bytes.{below_behind, not_back, below_from_on, from_on_from_on, not_itself, never_both, less_behind, less_if, less_or_not}
 pub use Rattle.row_scan.proofs.NextRow.{Between, between, between_is, next_has, next_cells, next_least}
 pub use Rattle.row_scan.proofs.Turning.{HasKey, found_key}
 pub use Rattle.row_scan.proofs.Whole.{placed_next, row_stays, StandAbove, own_stands, wanted_stays}

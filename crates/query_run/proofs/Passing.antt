@@ -16,7 +16,7 @@ use Rattle.row_scan.specs.Scans.{Left, IsNext, HasCell, IsWanted, Skips, left_at
 use Rattle.query_run.specs.Collecting.{Picks, StandAfter, FoundBelow, picked_by}
 use Rattle.query_run.proofs.Lower as lower
 
-less_not : (r : Ordering) → r ≡ Less → is_lt r ≡ false → ⊥
+pub less_not : (r : Ordering) → r ≡ Less → is_lt r ≡ false → ⊥
 less_not Less e n = cc
 less_not Equal e n = cc
 less_not Greater e n = cc

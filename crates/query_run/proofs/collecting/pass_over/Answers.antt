@@ -1,6 +1,6 @@
 use Rattle.std.proofs.Common.{refl}
 use Rattle.query_run.specs.IdFilters.{passes}
-use Rattle.query_run.proofs.Skipping.{stays_there, same_metric, forward, goes_behind}
+use Rattle.query_run.proofs.SkipSteps.{stays_there, same_metric, forward, goes_behind}
 use Rattle.query_run.proofs.collecting.pass_over.Goals as goal
 
 pub skip_to-requires-clause-metric : goal.skip_to-requires-clause-metric

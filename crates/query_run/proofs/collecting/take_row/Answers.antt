@@ -7,7 +7,7 @@ use Rattle.query_run.specs.Naming.{known}
 use Rattle.query_run.specs.Collecting.{RowAsked}
 use Rattle.query_run.proofs.NameReads.{passed_on}
 use Rattle.query_run.proofs.RowsTaken.{key_of_row, row_knows, dots_failed, names_failed, add_failed, row_left, row_taken, may_add}
-use Rattle.query_run.proofs.Skipping.{stays_there}
+use Rattle.query_run.proofs.SkipSteps.{stays_there}
 use Rattle.query_run.proofs.collecting.take_row.Goals as goal
 
 pub returns-then-not-passes-clause-asked : goal.returns-then-not-passes-clause-asked

@@ -1,8 +1,6 @@
 -- Where the scan goes on behind a row that isn't asked for.
-use Rattle.std.proofs.Common.{◌≡◌, inl, inr, ℕ, true, false, List, [], ◌∷◌, ◌++◌, refl, sym, ap, subst, ◌∙◌}
+use Rattle.std.proofs.Common.{◌≡◌, inl, inr, ℕ, false, List, [], ◌∷◌, ◌++◌, refl, sym, ap, subst, ◌∙◌}
 use Rattle.std.specs.Prelude.{IsTrue}
-use Rattle.std.specs.declared.cmp.Ordering.{Ordering}
-use Rattle.std.specs.declared.cmp.Ordering.TheVariants.{Less, Equal, Greater}
 use Rattle.std.specs.Ordering.{is_lt}
 use Rattle.std.specs.Int.{bytes_high_first, to_be_bytes, w32}
 use Rattle.std.specs.List.{flat_map}
@@ -16,16 +14,7 @@ use Rattle.row_scan.specs.Scans.{Left, Skips, left_at}
 use Rattle.query_run.specs.Collecting.{Picks, GoesOn, picked_by}
 use Rattle.query_run.specs.KeyJumps.{JumpsOver}
 use Rattle.query_run.proofs.Lower as lower
-
-less_not : (r : Ordering) → is_lt r ≡ true → is_lt r ≡ false → ⊥
-less_not Less e n = cc
-less_not Equal e n = cc
-less_not Greater e n = cc
-
-less_if : (r : Ordering) → is_lt r ≡ true → r ≡ Less
-less_if Less e = refl
-less_if Equal e = cc
-less_if Greater e = cc
+use Rattle.query_run.proofs.Passing.{less_not}
 
 -- where it was
 pub stays_there : (picks : Picks) (left : Left) → GoesOn picks left left
@@ -33,7 +22,7 @@ stays_there picks left = (
   left.from,
   record {
     forward = elim (lower.less_or_not left.from left.from) [ inl less ↦ absurd (lower.not_itself left.from less) | inr on ↦ on ];
-    over = λ key is in_range. let b = lower.between left.from left.from (point_row (key_bytes key)) in_range in absurd (less_not (bytes_cmp (key_bytes key) left.from) b.below b.from_on);
+    over = λ key is in_range. let b = lower.between left.from left.from (point_row (key_bytes key)) in_range in absurd (less_not (bytes_cmp (key_bytes key) left.from) (lower.less_if (bytes_cmp (key_bytes key) left.from) b.below) b.from_on);
   },
   refl,
 )
@@ -58,7 +47,7 @@ module _ (picks : Picks) (key target : RowKey) (from : List ℕ) (is : IsKey key
       let b = lower.between from (key_bytes target) (point_row (key_bytes k)) in_range in
       let on = subst (λ (x : List ℕ). is_lt (bytes_cmp (key_bytes k) x) ≡ false) behind b.from_on in
       let low = lower.from_on_from_on (key_bytes key) (key_bytes key ++ 0 ∷ []) (key_bytes k) (lower.not_back (key_bytes key) (key_bytes key ++ 0 ∷ []) (lower.below_behind (key_bytes key))) on in
-      j.over k ik (ap is_lt (sym (lower.keys_compare k key ik is)) ∙ low, sym (lower.keys_compare k target ik j.is_key) ∙ less_if (bytes_cmp (key_bytes k) (key_bytes target)) b.below)
+      j.over k ik (ap is_lt (sym (lower.keys_compare k key ik is)) ∙ low, sym (lower.keys_compare k target ik j.is_key) ∙ lower.less_if (bytes_cmp (key_bytes k) (key_bytes target)) b.below)
 
   pub goes_behind : (left now : Left) → left.from ≡ from → now ≡ left_at left (key_bytes target) → GoesOn picks left now
   goes_behind left now from_is now_is =

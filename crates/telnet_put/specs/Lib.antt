@@ -1,0 +1,4 @@
+pub mod Requests
+pub mod Sessions
+pub mod TelnetCommands
+pub mod Unread
