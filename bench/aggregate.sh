@@ -6,7 +6,7 @@
 set -euo pipefail
 . "$(dirname "$0")/driver.sh"
 
-prepare aggregate 'tsd_base lerp_aggregate' short_bytes tsd_base lerp_aggregate
+prepare aggregate 'tsd_base lerp_aggregate' list_lemmas short_bytes tsd_base lerp_aggregate
 
 echo 'aggregate:'
 run aggregate 4

@@ -6,7 +6,7 @@
 set -euo pipefail
 . "$(dirname "$0")/driver.sh"
 
-prepare cells 'qual_codec' short_bytes qual_codec
+prepare cells 'qual_codec' list_lemmas short_bytes row_key qual_codec
 
 echo 'read_cell:'
 run cells 2

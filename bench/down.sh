@@ -6,7 +6,7 @@
 set -euo pipefail
 . "$(dirname "$0")/driver.sh"
 
-prepare down 'tsd_base downsample' short_bytes tsd_base lerp_aggregate downsample
+prepare down 'tsd_base downsample' list_lemmas short_bytes tsd_base lerp_aggregate downsample
 
 echo 'down:'
 run down 4

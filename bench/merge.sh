@@ -7,7 +7,7 @@
 set -euo pipefail
 . "$(dirname "$0")/driver.sh"
 
-prepare merge 'qual_codec' short_bytes qual_codec
+prepare merge 'qual_codec' list_lemmas short_bytes row_key qual_codec
 
 echo 'merge_cells:'
 run merge 3

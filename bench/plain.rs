@@ -1,6 +1,8 @@
 //! The job of `tsd batch START END M` in plain Rust with `std` alone: what the speed of `tsd` is measured against. M is
 //! `sum:` or `zimsum:`, perhaps `Nm-avg:` or `Ns-avg:`, a metric, and perhaps one filter that groups, `{KEY=*}` or `{KEY=VALUE}`.
 //! It accepts and refuses the same lines, but those in milliseconds, and prints the same bytes.
+//!
+//! With the word `stdio` it does that of `tsd stdio --auto-metric` for the requests `put` and `exit` alone.
 
 use std::collections::{BTreeMap, HashMap};
 use std::io::{self, BufRead, BufReader, Write};
@@ -78,6 +80,9 @@ fn main() -> ExitCode {
 
 fn run() -> Result<String, Stop> {
     let args: Vec<String> = std::env::args().skip(1).collect();
+    if args == ["stdio"] {
+        return session(BufReader::with_capacity(1 << 16, io::stdin().lock()));
+    }
     let words = read_words(&args)?;
     let store = read_lines(BufReader::with_capacity(1 << 16, io::stdin().lock()))?;
     answer(&store, &words)
@@ -160,12 +165,55 @@ fn read_lines(mut input: impl BufRead) -> Result<Store, Stop> {
             continue;
         };
         let point = read_point(text).map_err(|fault| refused(format!("line {count}: {fault}")))?;
-        write_key(&mut key, &point);
-        match store.get_mut(&key) {
-            Some(points) => put(points, point.time, point.value),
-            None => {
-                store.insert(key.clone(), vec![(point.time, point.value)]);
+        keep(&mut store, &mut key, &point);
+    }
+}
+
+/// Keeps a point with those of its series.
+fn keep(store: &mut Store, key: &mut Vec<u8>, point: &Point<'_>) {
+    write_key(key, point);
+    match store.get_mut(key) {
+        Some(points) => put(points, point.time, point.value),
+        None => {
+            store.insert(key.clone(), vec![(point.time, point.value)]);
+        }
+    }
+}
+
+/// Keeps the points of a session up to its `exit`, and answers those that it refuses.
+fn session(mut input: impl BufRead) -> Result<String, Stop> {
+    let mut output = io::stdout().lock();
+    let mut store = Store::new();
+    let mut line = Vec::new();
+    let mut key = Vec::new();
+    loop {
+        line.clear();
+        match input.read_until(b'\n', &mut line) {
+            Ok(0) => return Ok(String::new()),
+            Ok(_) if line == b"exit\n" => return Ok(String::new()),
+            Ok(_) => {}
+            Err(_) => {
+                return Err(Stop {
+                    text: String::new(),
+                    status: 3,
+                });
             }
+        }
+        let told = match line_text(&line) {
+            Ok(None) => continue,
+            Ok(Some(text)) => match text.strip_prefix(b"put ") {
+                Some(words) => read_point(words).map(|point| keep(&mut store, &mut key, &point)),
+                None => Err("unknown command".into()),
+            },
+            Err(fault) => Err(fault),
+        };
+        if let Err(fault) = told
+            && writeln!(output, "put: {fault}").is_err()
+        {
+            return Err(Stop {
+                text: String::new(),
+                status: 4,
+            });
         }
     }
 }

@@ -25,35 +25,7 @@ sets=("1000 100 2 time zimsum:sys.cpu.user" "1000 1000 2 time zimsum:sys.cpu.use
     "1000 1000 2 time sum:sys.cpu.user{host=web0007}" "100000 10 2 time zimsum:sys.cpu.user"
     "100000 10 2 time sum:sys.cpu.user" "1000 1000 8 time zimsum:sys.cpu.user" "1000 1000 2 random zimsum:sys.cpu.user")
 
-# The peak memory of a command, in KiB, goes into the file $folder/peak. What Python measures is never below its own.
-with_peak() {
-    if [ -x /usr/bin/time ]; then
-        /usr/bin/time -f %M -o "$folder/peak" "$@"
-    else
-        python3 -c 'import resource, subprocess, sys
-status = subprocess.call(sys.argv[2:])
-print(resource.getrusage(resource.RUSAGE_CHILDREN).ru_maxrss, file=open(sys.argv[1], "w"))
-sys.exit(status)' "$folder/peak" "$@"
-    fi
-}
-
-# measure PROGRAM LAST_TIME OUTPUT: sets `micros`, of the fastest run, and `peak`, the greatest, in KiB.
-measure() {
-    micros=
-    peak=0
-    local run begin end
-    for ((run = 0; run < runs; run++)); do
-        begin=${EPOCHREALTIME/[.,]/}
-        with_peak "$1" batch 1356998400 "$2" "$query" <"$folder/lines" >"$3"
-        end=${EPOCHREALTIME/[.,]/}
-        if [ -z "$micros" ] || [ $((end - begin)) -lt "$micros" ]; then
-            micros=$((end - begin))
-        fi
-        if [ "$(cat "$folder/peak")" -gt "$peak" ]; then
-            peak=$(cat "$folder/peak")
-        fi
-    done
-}
+source "$here/measure.sh"
 
 echo '| series | points each | tags | order | query | lines | tsd, lines/s | plain, lines/s | time, tsd / plain | tsd, peak MB | plain, peak MB | memory, tsd / plain |'
 echo '|---|---|---|---|---|---|---|---|---|---|---|---|'
@@ -65,10 +37,10 @@ for set in "${sets[@]}"; do
     fi
     python3 "$here/generate.py" "$series" "$points" --tags "$tags" "${shuffle[@]}" >"$folder/lines"
     last=$((1356998400 + (points - 1) * 10))
-    measure "$folder/plain" "$last" "$folder/plain.json"
+    measure "$folder/lines" "$folder/plain.json" "$folder/plain" batch 1356998400 "$last" "$query"
     plain_micros=$micros
     plain_peak=$peak
-    measure "$program" "$last" "$folder/tsd.json"
+    measure "$folder/lines" "$folder/tsd.json" "$program" batch 1356998400 "$last" "$query"
     if ! cmp "$folder/tsd.json" "$folder/plain.json"; then
         echo "$0: the outputs differ at $series series of $points points with $tags tags" >&2
         exit 1

@@ -6,7 +6,7 @@
 set -euo pipefail
 . "$(dirname "$0")/driver.sh"
 
-prepare spans 'tsd_base span_merge row_key' short_bytes row_key tsd_base span_merge
+prepare spans 'tsd_base span_merge row_key' list_lemmas short_bytes row_key tsd_base span_merge
 
 echo 'span_merge:'
 run spans 1

@@ -1,22 +1,22 @@
 //! Lines that stand alone: each is a case.
 
 use crate::text::Bad;
-use crate::{cells, points, queries, series};
+use crate::{cell_cases, point_cases, query_cases, series_cases};
 use std::alloc::Global;
 
 /// Adds what the line of this verb gives.
 pub fn read(alloc: Global, verb: &str, rest: &str, out: &mut String) -> Result<(), Bad> {
     match verb {
-        "time" => points::time(alloc, rest, out),
-        "hour" => points::hour(rest, out),
-        "value" => points::value(alloc, rest, out),
-        "name" => points::name(alloc, rest, out),
-        "tags" => points::tags(alloc, rest, out),
-        "point" => points::point(alloc, rest, out),
-        "key" => cells::key(alloc, rest, out),
-        "cell" => cells::cell(alloc, rest, out),
-        "pack" => cells::pack(rest, out),
-        "merge" => cells::merge(alloc, rest, out),
+        "time" => point_cases::time(alloc, rest, out),
+        "hour" => point_cases::hour(rest, out),
+        "value" => point_cases::value(alloc, rest, out),
+        "name" => point_cases::name(alloc, rest, out),
+        "tags" => point_cases::tags(alloc, rest, out),
+        "point" => point_cases::point(alloc, rest, out),
+        "key" => cell_cases::key(alloc, rest, out),
+        "cell" => cell_cases::cell(alloc, rest, out),
+        "pack" => cell_cases::pack(rest, out),
+        "merge" => cell_cases::merge(alloc, rest, out),
         _ => read_series(alloc, verb, rest, out),
     }
 }
@@ -24,14 +24,14 @@ pub fn read(alloc: Global, verb: &str, rest: &str, out: &mut String) -> Result<(
 /// The same of verbs on series and queries.
 fn read_series(alloc: Global, verb: &str, rest: &str, out: &mut String) -> Result<(), Bad> {
     match verb {
-        "lerp" => series::lerp(rest, out),
-        "aggregate" => series::aggregated(alloc, rest, out),
-        "buckets" => series::counted(rest, out),
-        "down" => series::downsampled(alloc, rest, out),
-        "m" => queries::m(alloc, rest, out),
-        "passes" => queries::passing(alloc, rest, out),
-        "group" => queries::grouping(alloc, rest, out),
-        "shared" => queries::sharing(alloc, rest, out),
+        "lerp" => series_cases::lerp(rest, out),
+        "aggregate" => series_cases::aggregated(alloc, rest, out),
+        "buckets" => series_cases::counted(rest, out),
+        "down" => series_cases::downsampled(alloc, rest, out),
+        "m" => query_cases::m(alloc, rest, out),
+        "passes" => query_cases::passing(alloc, rest, out),
+        "group" => query_cases::grouping(alloc, rest, out),
+        "shared" => query_cases::sharing(alloc, rest, out),
         _ => Err(Bad::Line("no verb")),
     }
 }

@@ -10,9 +10,9 @@ use Rattle.std.proofs.lemmas.List.Quantifiers.{all_pairs_push}
 use Rattle.std.proofs.lemmas.List.Sums.{AllPass-from_list_all, list_all-from_AllPass}
 use Rattle.std.proofs.lemmas.List.Folds.{list_all_at}
 use Rattle.std.proofs.lemmas.Option.{get_or_from_slice_get, slice_get_cases}
-use Rattle.cell_model.specs.declared.cells.ListLine.{ListLine}
+use Rattle.cell_model.specs.declared.row.ListLine.{ListLine}
 use Rattle.cell_model.specs.declared.events.Place.{Place}
-use Rattle.cell_model.specs.Order.{place_cmp}
+use Rattle.cell_model.specs.PlaceOrder.{place_cmp}
 use Rattle.cell_model.specs.Rising.{LinesRise, is_above, place_of_line}
 use Rattle.cell_model.proofs.Stores.{places_total}
 

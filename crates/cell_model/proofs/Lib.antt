@@ -1,30 +1,5 @@
-pub mod Beginnings
-pub mod Members
-pub mod Lower
-pub mod Points
-pub mod Stores
-pub mod Keeps
-pub mod Entries
-pub mod Ids
-pub mod LawsHold
-pub mod Shown
-pub mod Counters
-pub mod Known
-pub mod Keep
-pub mod DeedRanges
-pub mod Carry
-pub mod InOrder
-pub mod Written
-pub mod SameLists
-pub mod Accepting
-pub mod Sounding
-pub mod Wasting
-pub mod Invisible
-pub mod Sheets
-pub mod Worked
-pub mod Compacted
-pub mod Stamps
-pub mod SeenIds
-pub mod Placing
-pub mod Following
-pub mod Lining
+mod Stores
+mod Shown
+mod Following
+mod Stamps
+pub mod CallerLemmas

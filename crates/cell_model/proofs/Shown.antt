@@ -8,11 +8,12 @@ use Rattle.std.specs.Cmp.Lexicographic.{texts_ties, nat_list_cmp_total}
 use Rattle.std.specs.Cmp.{eq_by_cmp_equiv}
 use Rattle.std.specs.FinMap.{entries, get-entries}
 use Rattle.std.specs.FinMap as map
-use Rattle.cell_model.specs.declared.cells.Row.{Row}
+use Rattle.cell_model.specs.declared.row.Row.{Row}
 use Rattle.qual_codec.specs.declared.cells.Cell.{Cell}
 use Rattle.cell_model.specs.declared.events.Place.{Place}
 use Rattle.cell_model.specs.declared.events.Content.{Content}
-use Rattle.cell_model.specs.Store.{Store, place_cmp, row_cmp, bytes_cmp, place_of, value_at, cells_of, cell_of, same_bytes, value_among}
+use Rattle.cell_model.specs.Store.{Store, place_cmp, row_cmp, place_of, value_at, cells_of, cell_of, same_bytes, value_among}
+use Rattle.list_lemmas.specs.BytesOrder.{bytes_cmp}
 
 then_both : (a b : Ordering) → is_eq (ordering_then a b) ≡ (is_eq a && is_eq b)
 then_both Less b = refl

@@ -1,19 +1,19 @@
 -- What the store has at a place after a write, a removal or a drop.
 use Rattle.std.proofs.Common.{◌≡◌, ◌≢◌, ◌⊎◌, inl, inr, ℕ, Bool, true, false, cond, List, [], ◌∷◌, refl, sym, ap, subst, ◌∙◌, arith}
 use Rattle.std.specs.Prelude.{Option, None, Some, if◌then◌else◌}
-use Rattle.std.specs.declared.cmp.Ordering.{Ordering}
-use Rattle.std.specs.declared.cmp.Ordering.TheVariants.{Less, Equal, Greater}
 use Rattle.std.specs.Ordering.{nat_cmp, eq_by_cmp, is_eq}
 use Rattle.std.specs.Cmp.{IsTotalOrder, on_total, then_total, nat_cmp_total, tied_itself}
 use Rattle.std.specs.Cmp.Lexicographic.{nat_list_cmp_total}
 use Rattle.std.specs.FinMap.{get, remove, get-insert, get-remove, same_map, slice_cmp-IsAntisymmetric, nat_cmp-IsAntisymmetric}
 use Rattle.std.proofs.lemmas.Map.Lookups.{CmpEqualImpliesEq, exact_pairs, exact_unsigned}
+use Rattle.list_lemmas.proofs.BoolTests.{is_equal}
 use Rattle.row_key.specs.declared.tables.Table.{Table}
 use Rattle.row_key.specs.declared.tables.Table.TheVariants.{Ids, Names, Points}
-use Rattle.cell_model.specs.declared.cells.Row.{Row}
+use Rattle.cell_model.specs.declared.row.Row.{Row}
 use Rattle.cell_model.specs.declared.events.Place.{Place}
 use Rattle.cell_model.specs.declared.events.Content.{Content}
-use Rattle.cell_model.specs.Store.{Store, table_number, bytes_cmp, row_cmp, place_cmp, place_of, content_at, written, stamped, stamped_over, is_dropped, dropped}
+use Rattle.cell_model.specs.Store.{Store, table_number, row_cmp, place_cmp, place_of, content_at, written, stamped, stamped_over, is_dropped, dropped}
+use Rattle.list_lemmas.specs.BytesOrder.{bytes_cmp}
 
 pub rows_total : IsTotalOrder row_cmp
 rows_total = then_total (on_total (λ (r : Row). table_number r.table) nat_cmp_total) (on_total (λ (r : Row). r.bytes) nat_list_cmp_total)
@@ -41,11 +41,6 @@ pub exact_places : CmpEqualImpliesEq place_cmp
 exact_places a b h =
     ap (λ (p : Row × List ℕ). record { row = p.0; qual = p.1 })
     (exact_pairs row_cmp bytes_cmp exact_rows (slice_cmp-IsAntisymmetric nat_cmp-IsAntisymmetric) (a.row, a.qual) (b.row, b.qual) h)
-
-is_equal : (r : Ordering) → is_eq r ≡ true → r ≡ Equal
-is_equal Less e = cc
-is_equal Equal e = refl
-is_equal Greater e = cc
 
 pub tied : (p : Place) → eq_by_cmp place_cmp p p ≡ true
 tied p = ap is_eq (tied_itself places_total p)

@@ -4,14 +4,14 @@ use Rattle.tsd_base.specs.Points.{DataPoint}
 use Rattle.tsd_base.specs.declared.kinds.Kind.{Kind}
 use Rattle.row_key.specs.declared.tables.Table.{Table}
 use Rattle.row_key.specs.declared.tables.Table.TheVariants.{Ids, Names, Points}
-use Rattle.cell_model.specs.declared.cells.Row.{Row}
+use Rattle.cell_model.specs.declared.row.Row.{Row}
 use Rattle.cell_model.specs.declared.events.Step.{Step}
 use Rattle.cell_model.specs.declared.events.Step.TheVariants.{Open, Read, NextRow, Bump, Claim, PutPoint, PutMerged, DropCells}
 use Rattle.cell_model.specs.declared.answers.Bumped.TheVariants.{Given}
 use Rattle.cell_model.specs.declared.answers.Claimed.TheVariants.{Done}
 use Rattle.cell_model.specs.Store.{value_at}
 use Rattle.qual_codec.specs.declared.cells.Dot.{Dot}
-use Rattle.qual_codec.specs.Dots.{IsDots}
+use Rattle.qual_codec.specs.CellDots.{IsDots}
 use Rattle.qual_codec.specs.Order.{IsBelow}
 use Rattle.tsd_base.specs.Alphabet.{IsName}
 use Rattle.cell_model.specs.Layout.{IsPoint, IsLayout, names_of}
@@ -20,7 +20,7 @@ use Rattle.cell_model.specs.declared.events.Reply.TheVariants.{Opened, BumpReply
 use Rattle.cell_model.specs.declared.events.Entry.{Entry}
 use Rattle.cell_model.specs.History.{History, base_of, len, store_after, Had}
 use Rattle.cell_model.specs.History.History.{Base, Then}
-use Rattle.cell_model.specs.Ids.{reverse_row, id_bytes, id_of}
+use Rattle.cell_model.specs.IdRows.{reverse_row, id_bytes, id_of}
 use Rattle.cell_model.specs.Sound.{IsBase}
 
 -- this caller was given the id

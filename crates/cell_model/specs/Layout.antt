@@ -1,5 +1,5 @@
 -- How a point is laid out as a cell, and which names a row has.
-use Rattle.std.specs.Prelude.{◌≡◌, ℕ, ◌*◌, ◌/◌, ◌%◌, List, length, [], ◌∷◌, Contains, Option, Some}
+use Rattle.std.specs.Prelude.{◌≡◌, ℕ, ◌%◌, List, length, [], ◌∷◌, Contains, Option, Some}
 use Rattle.std.specs.List.{flat_map}
 use Rattle.tsd_base.specs.declared.kinds.Kind.{Kind}
 use Rattle.tsd_base.specs.declared.kinds.Kind.TheVariants.{Metric, TagKey, TagValue}
@@ -7,9 +7,11 @@ use Rattle.tsd_base.specs.Alphabet.{IsName}
 use Rattle.tsd_base.specs.TagList.{Pair, IsTags}
 use Rattle.tsd_base.specs.Moments.{IsTime}
 use Rattle.tsd_base.specs.Points.{DataPoint}
+use Rattle.row_key.specs.declared.hours.TheConstants.{HOUR_MILLIS}
 use Rattle.row_key.specs.declared.keys.RowKey.{RowKey}
+pub use Rattle.row_key.specs.Hours.{base_time}
 use Rattle.row_key.specs.Key.{IsKey, key_bytes}
-use Rattle.qual_codec.specs.Dots.{IsDots}
+use Rattle.qual_codec.specs.CellDots.{IsDots}
 use Rattle.qual_codec.specs.Spelling.{IsShortest, dot_of}
 
 -- plain data that is a point: a name as its metric, 1 to 8 tags of names rising by key, and a time in range, in whole seconds where it isn't fine
@@ -18,13 +20,13 @@ pub record IsPoint (p : DataPoint) : Type 0 where
   pub tags : IsTags p.tags
   pub timed : IsTime p.time p.fine
 
+-- the names of tags from the left, key before value
+abbrev pub tag_names : List Pair → List (Kind × List ℕ)
+tag_names tags = flat_map (λ t. (TagKey, t.0) ∷ (TagValue, t.1) ∷ []) tags
+
 -- the names of a point, in the order in which they are resolved
 abbrev pub names_of : DataPoint → List (Kind × List ℕ)
-names_of p = (Metric, p.metric) ∷ flat_map (λ t. (TagKey, t.0) ∷ (TagValue, t.1) ∷ []) p.tags
-
--- the second at which the hour of a time begins
-abbrev pub base_time : ℕ → ℕ
-base_time time = time / 3600000 * 3600
+names_of p = (Metric, p.metric) ∷ tag_names p.tags
 
 -- the ids of a tag
 abbrev pub ids_of_tag : (Kind → List ℕ → ℕ) → Pair → ℕ × ℕ
@@ -44,7 +46,7 @@ pub record IsLayout (ids : Kind → List ℕ → ℕ) (p : DataPoint) (row qual 
   pub key : RowKey
   pub has : HasKey ids p key
   pub row_is : row ≡ key_bytes key
-  pub dot : IsDots qual value (dot_of (p.time % 3600000) p.fine p.value (length value) ∷ [])
+  pub dot : IsDots qual value (dot_of (p.time % HOUR_MILLIS) p.fine p.value (length value) ∷ [])
   pub shortest : IsShortest p.value value
 
 -- the row has a key, and each of its ids is that of a name

@@ -1,4 +1,4 @@
-pub mod Order
+pub mod PlaceOrder
 pub mod Store
 pub mod Rising
 pub mod Codes
@@ -6,13 +6,13 @@ pub mod Machine
 pub mod Counts
 pub mod Listed
 pub mod History
-pub mod Ids
+pub mod IdRows
 pub mod Layout
 pub mod Sound
 pub mod Lawful
 pub mod Ranges
 pub mod Readings
+pub mod Stops
 pub mod Seen
+pub mod Calls
 pub mod Deeds
-pub mod Laws
-pub mod Examples

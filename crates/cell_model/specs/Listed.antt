@@ -1,7 +1,7 @@
 -- The store that the lines of a listing tell.
 use Rattle.std.specs.Prelude.{List, map}
 use Rattle.std.specs.FinMap.{from_entries}
-use Rattle.cell_model.specs.declared.cells.ListLine.{ListLine}
+use Rattle.cell_model.specs.declared.row.ListLine.{ListLine}
 use Rattle.cell_model.specs.declared.events.Place.{Place}
 use Rattle.cell_model.specs.declared.events.Content.{Content}
 use Rattle.cell_model.specs.Rising.{place_of_line}

@@ -4,8 +4,9 @@ use Rattle.std.specs.Option.{option_map_or}
 use Rattle.std.specs.Int.{w64, to_be_bytes, from_be_bytes}
 use Rattle.tsd_base.specs.declared.kinds.Kind.{Kind}
 use Rattle.tsd_base.specs.declared.kinds.Kind.TheVariants.{Metric, TagKey, TagValue}
+pub use Rattle.row_key.specs.declared.ids.TheConstants.{MOST_IDS}
 use Rattle.row_key.specs.declared.tables.Table.TheVariants.{Ids}
-use Rattle.cell_model.specs.declared.cells.Row.{Row}
+use Rattle.cell_model.specs.declared.row.Row.{Row}
 use Rattle.cell_model.specs.declared.events.Step.{Step}
 use Rattle.cell_model.specs.declared.events.Step.TheVariants.{Open, Read, NextRow, Bump, Claim, PutPoint, PutMerged, DropCells}
 use Rattle.cell_model.specs.declared.events.Reply.{Reply}
@@ -25,10 +26,6 @@ kind_qual TagValue = 116 ∷ 97 ∷ 103 ∷ 118 ∷ []
 -- the row of the counters
 abbrev pub counter_row : Row
 counter_row = record { table = Ids; bytes = 0 ∷ [] }
-
--- the greatest id that a kind has
-abbrev pub MOST_IDS : ℕ
-MOST_IDS = 16777215
 
 -- the greatest id given, 0 where there is no cell
 abbrev pub counter_of : Store → Kind → ℕ

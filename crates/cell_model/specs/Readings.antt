@@ -8,14 +8,14 @@ use Rattle.row_key.specs.declared.tables.Table.TheVariants.{Points}
 use Rattle.row_key.specs.declared.keys.RowKey.{RowKey}
 use Rattle.row_key.specs.Key.{IsKey, key_bytes}
 use Rattle.qual_codec.specs.declared.cells.Dot.{Dot}
-use Rattle.qual_codec.specs.Dots.{IsDots}
-use Rattle.cell_model.specs.declared.cells.Row.{Row}
+use Rattle.qual_codec.specs.CellDots.{IsDots}
+use Rattle.cell_model.specs.declared.row.Row.{Row}
 use Rattle.cell_model.specs.declared.events.Step.{Step}
 use Rattle.cell_model.specs.declared.events.Step.TheVariants.{PutPoint}
 use Rattle.cell_model.specs.declared.events.Entry.{Entry}
 use Rattle.cell_model.specs.Store.{Store, value_at}
 use Rattle.cell_model.specs.History.{History, base_of, store_after, Had}
-use Rattle.cell_model.specs.Ids.{name_of}
+use Rattle.cell_model.specs.IdRows.{name_of}
 
 -- a value of a series at a time in milliseconds: a point without its form
 pub record Reading : Type 0 where

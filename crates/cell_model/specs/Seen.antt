@@ -4,19 +4,18 @@ use Rattle.cell_model.specs.declared.events.Placed.{Placed}
 use Rattle.cell_model.specs.declared.events.Step.{Step}
 use Rattle.cell_model.specs.declared.events.Step.TheVariants.{Open, Read, NextRow, Bump, Claim, PutPoint, PutMerged, DropCells}
 use Rattle.row_key.specs.declared.tables.Table.{Table}
-use Rattle.tsd_io.specs.Causes.{Rose}
 use Rattle.cell_model.specs.declared.answers.RowsFault.{RowsFault}
-use Rattle.cell_model.specs.declared.answers.RowsFault.TheVariants.{OutOfMemory, Stopped}
-use Rattle.cell_model.specs.declared.cells.Row.{Row}
+use Rattle.cell_model.specs.Stops.{RoseIf, is_stop}
+use Rattle.cell_model.specs.declared.row.Row.{Row}
 use Rattle.qual_codec.specs.declared.cells.Cell.{Cell}
-use Rattle.cell_model.specs.declared.cells.Found.{Found}
+use Rattle.cell_model.specs.declared.row.Found.{Found}
 use Rattle.tsd_base.specs.Points.{DataPoint}
 use Rattle.cell_model.specs.declared.answers.Claimed.TheVariants.{Done, Held}
 use Rattle.cell_model.specs.Store.{Store, value_among}
 use Rattle.cell_model.specs.declared.events.Reply.{Reply}
 use Rattle.cell_model.specs.Machine.{kind_qual, MOST_IDS}
 use Rattle.cell_model.specs.declared.events.Reply.TheVariants.{Opened, Shown, Next, ClaimReply, Written}
-use Rattle.cell_model.specs.Ids.{name_row, id_bytes}
+use Rattle.cell_model.specs.IdRows.{name_row, id_bytes}
 use Rattle.cell_model.specs.declared.events.Entry.{Entry}
 use Rattle.cell_model.specs.History.{History, base_of, len, entry_at}
 use Rattle.cell_model.specs.Lawful.{ClaimBasis, PointBasis, MergedBasis, DropBasis, IsLawful}
@@ -109,5 +108,4 @@ InEach s P = (h : History) → IsLawful h → Fits s h → P h
 
 -- a caller is stopped only where its count of stops rose
 abbrev pub RoseIfStopped : ℕ → ℕ → RowsFault → Type 0
-RoseIfStopped before now OutOfMemory = Unit {0}
-RoseIfStopped before now Stopped = Rose before now
+RoseIfStopped before now fault = RoseIf (is_stop fault) before now

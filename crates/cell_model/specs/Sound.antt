@@ -5,12 +5,12 @@ use Rattle.tsd_base.specs.declared.kinds.Kind.{Kind}
 use Rattle.tsd_base.specs.Alphabet.{IsName}
 use Rattle.row_key.specs.Key.{IsId}
 use Rattle.row_key.specs.declared.tables.Table.TheVariants.{Points}
-use Rattle.qual_codec.specs.Dots.{Reads}
-use Rattle.cell_model.specs.declared.cells.Row.{Row}
+use Rattle.qual_codec.specs.CellDots.{Reads}
+use Rattle.cell_model.specs.declared.row.Row.{Row}
 use Rattle.cell_model.specs.declared.events.Content.{Content}
 use Rattle.cell_model.specs.Store.{Store, content_at, value_at}
 use Rattle.cell_model.specs.Machine.{kind_qual, counter_row, counter_of, MOST_IDS}
-use Rattle.cell_model.specs.Ids.{name_row, reverse_row, id_bytes, id_in, name_in}
+use Rattle.cell_model.specs.IdRows.{name_row, reverse_row, id_bytes, id_in, name_in}
 use Rattle.cell_model.specs.Layout.{RowResolved}
 
 -- the counter of a kind: a number from 1, in eight bytes

@@ -2,14 +2,15 @@
 use Rattle.std.specs.Prelude.{ℕ, ◌+◌, Bool, false, ◌&&◌, not, List, [], ◌∷◌, map, filter, find, Option, None, Some, option_map, nat_eq, nat_le, if◌then◌else◌}
 use Rattle.std.specs.Ordering.{nat_cmp, eq_by_cmp, is_lt}
 use Rattle.std.specs.Cmp.Lexicographic.{pointwise}
-pub use Rattle.cell_model.specs.Order.{table_number, bytes_cmp, row_cmp, place_cmp}
+pub use Rattle.cell_model.specs.PlaceOrder.{table_number, row_cmp, place_cmp}
+use Rattle.list_lemmas.specs.BytesOrder.{bytes_cmp}
 use Rattle.std.specs.FinMap.{FinMap, get, insert, remove, entries}
 use Rattle.row_key.specs.declared.tables.Table.{Table}
-use Rattle.cell_model.specs.declared.cells.Row.{Row}
+use Rattle.cell_model.specs.declared.row.Row.{Row}
 use Rattle.cell_model.specs.declared.events.Place.{Place}
 use Rattle.cell_model.specs.declared.events.Content.{Content}
 use Rattle.qual_codec.specs.declared.cells.Cell.{Cell}
-use Rattle.cell_model.specs.declared.cells.Found.{Found}
+use Rattle.cell_model.specs.declared.row.Found.{Found}
 
 -- the store: what stands at each place that has a cell
 abbrev pub Store : Type 0

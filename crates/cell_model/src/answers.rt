@@ -1,6 +1,6 @@
 //! What steps and bodies answer.
 
-use crate::cells::Row;
+use crate::row::Row;
 use qual_codec::Bytes;
 
 /// The answer to a bump.

@@ -1,6 +1,6 @@
 //! One owned store.
 ghost use Rattle.std.specs.Prelude.{◌≡◌, ◌≢◌, IfOk, OnOk, OnErr, None, Bool, IsTrue, length};
-ghost use Rattle.cell_model.specs.declared.cells.Row.{Row};
+ghost use Rattle.cell_model.specs.declared.row.Row.{Row};
 ghost use Rattle.cell_model.specs.declared.events.Step.TheVariants.{Bump, Claim, PutMerged, DropCells};
 ghost use Rattle.cell_model.specs.Store.{Store, content_at, value_at, cells_of, next_row_of, is_between, drop_count, stamped};
 ghost use Rattle.cell_model.specs.Counts.{counters_of, lines_of, point_entries, point_rows};
@@ -9,7 +9,7 @@ ghost use Rattle.cell_model.specs.Ranges.{InOneRange};
 ghost use Rattle.cell_model.specs.Machine.{after, bump_reply, claim_reply, counter_row, kind_qual};
 
 use crate::answers::{Bumped, Claimed, Tally};
-use crate::cells::{Cells, Drops, Found, Listing, Row};
+use crate::row::{Cells, Drops, Found, Listing, Row};
 use qual_codec::Bytes;
 use row_key::Table;
 use std::alloc::{AllocError, Global};

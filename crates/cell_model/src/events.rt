@@ -5,7 +5,7 @@ ghost use Rattle.std.specs.Prelude.{◌≡◌, IfOk};
 ghost use Rattle.tsd_base.specs.Points.{data_point};
 
 use crate::answers::{Bumped, Claimed};
-use crate::cells::{Cells, Drops, Found, Row};
+use crate::row::{Cells, Drops, Found, Row};
 use qual_codec::Bytes;
 use row_key::Table;
 use std::alloc::{AllocError, Global};

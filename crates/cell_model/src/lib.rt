@@ -3,17 +3,15 @@
 
 pub mod answers;
 pub mod body;
-pub mod cells;
 pub mod events;
-pub mod examples;
-pub mod laws;
+pub mod row;
 pub mod rows;
-pub mod stamping;
+pub mod stamp;
 
 pub use answers::{Bumped, Claimed, RowsFault, Stopped, Stored, Tally};
 pub use body::Body;
-pub use cells::{Cells, Drops, Found, ListLine, Listing, Row};
 pub use events::{Content, Entry, Place, Placed, PlainPoint, Reply, Step};
+pub use row::{Cells, Drops, Found, ListLine, Listing, Row};
 pub use rows::Rows;
 
 #[cfg(test)]

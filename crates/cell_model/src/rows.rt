@@ -8,7 +8,7 @@ ghost use Rattle.cell_model.specs.Ranges.{InOneRange};
 ghost use Rattle.cell_model.specs.Seen.{Seen, Waited, Stepped, IsPossible, Knows, RoseIfStopped};
 
 use crate::answers::{Bumped, Claimed, RowsFault, Stopped};
-use crate::cells::{Cells, Drops, Found, Row};
+use crate::row::{Cells, Drops, Found, Row};
 use qual_codec::Bytes;
 use row_key::Table;
 use std::alloc::Global;

@@ -1,9 +1,9 @@
-use crate::cells::{Cells, Drops, Listing, Row};
 use crate::events::PlainPoint;
+use crate::row::{Cells, Drops, Listing, Row};
 use qual_codec::Bytes;
 use row_key::Table;
 use std::test::Fail;
-use tsd_base::reading::read_point;
+use tsd_base::point_text::read_point;
 
 #[test]
 fn lists_keep_what_is_pushed(rt: HostRuntime) -> Result<(), Fail> {

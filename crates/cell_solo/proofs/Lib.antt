@@ -1,6 +1,6 @@
-pub mod Lower
-pub mod Plays
-pub mod Openings
-pub mod Placing
-pub mod Packing
-pub mod Sights
+mod Plays
+mod Openings
+mod Placing
+mod Packing
+mod Sights
+pub mod CallerLemmas

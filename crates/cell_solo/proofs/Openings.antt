@@ -1,8 +1,8 @@
 -- A play begins with the openings of its callers.
 use Rattle.std.proofs.Common.{◌≡◌, ℕ, zero, suc, ◌+◌, ◌≤◌, ◌⊎◌, inl, inr, Bool, List, refl, sym, ap, subst, ◌∙◌, arith}
 use Rattle.std.specs.Prelude.{IsTrue}
-use Rattle.cell_model.specs.declared.cells.Row.{Row}
-use Rattle.cell_model.specs.declared.cells.ListLine.{ListLine}
+use Rattle.cell_model.specs.declared.row.Row.{Row}
+use Rattle.cell_model.specs.declared.row.ListLine.{ListLine}
 use Rattle.cell_model.specs.declared.events.Step.TheVariants.{Open}
 use Rattle.cell_model.specs.declared.events.Reply.TheVariants.{Opened}
 use Rattle.cell_model.specs.Store.{Store}
@@ -13,7 +13,7 @@ use Rattle.cell_model.specs.History.{History, len, store_after, Had}
 use Rattle.cell_model.specs.History.History.{Base, Then}
 use Rattle.cell_model.specs.Lawful.{IsLawful}
 use Rattle.cell_solo.specs.Turns.{Turn, opening, opened, openings, entry_of, played, IsPlay, IsPlayed}
-use Rattle.cell_solo.proofs.Lower.{lines_tell_store, entry_at-last, entry_at-more}
+use Rattle.cell_laws.proofs.CallerLemmas.{lines_tell_store, entry_at-last, entry_at-more}
 use Rattle.cell_solo.proofs.Plays.{played-push, last_or_earlier}
 
 len-opened : (base : Store) (n : ℕ) → len (opened base n) ≡ n

@@ -11,13 +11,14 @@ use Rattle.std.proofs.lemmas.List.{append-nil, take-append-le, drop-append-le, l
 use Rattle.std.proofs.lemmas.List.Elements.{All-push}
 use Rattle.std.proofs.lemmas.Option.{slice_get_within}
 use Rattle.std.proofs.lemmas.List.Sums.{sum_by-cons, sum_by_push}
+use Rattle.row_key.specs.declared.hours.TheConstants.{HOUR_MILLIS}
 use Rattle.tsd_base.specs.Points.{DataPoint}
 use Rattle.qual_codec.specs.Items.{IsLength, item_bytes}
 use Rattle.qual_codec.specs.Items.IsLength.{one, two, four, eight}
-use Rattle.qual_codec.specs.Dots.{width_of}
+use Rattle.qual_codec.specs.CellDots.{width_of}
 use Rattle.qual_codec.specs.Spelling.{IsShortest, dot_of}
 use Rattle.tsd_base.specs.declared.kinds.Kind.{Kind}
-use Rattle.cell_model.specs.declared.cells.Row.{Row}
+use Rattle.cell_model.specs.declared.row.Row.{Row}
 use Rattle.cell_model.specs.Layout.{IsLayout}
 use Rattle.row_key.specs.declared.tables.Table.{Table}
 use Rattle.cell_model.specs.declared.events.Step.{Step}
@@ -26,9 +27,9 @@ use Rattle.cell_solo.specs.declared.turns.Head.{Head}
 use Rattle.cell_solo.specs.declared.turns.Head.TheVariants as head
 use Rattle.cell_solo.specs.declared.turns.Dropped.{Dropped}
 use Rattle.cell_solo.specs.Turns.{Turn}
-use Rattle.cell_solo.specs.declared.block.CellLengths.{CellLengths}
-use Rattle.cell_solo.specs.Places.{NamedRow, named_row_of, GoesOn}
-use Rattle.cell_solo.specs.Packed.{row_in, qual_in, value_in, number_in, put_at, cell_size, caller_of, step_in, size_of, drops_of, places_of, unpacked, Fills}
+use Rattle.cell_solo.specs.declared.turn_bytes.CellLengths.{CellLengths}
+use Rattle.cell_solo.specs.TurnPlaces.{NamedRow, named_row_of, GoesOn}
+use Rattle.cell_solo.specs.PackedTurns.{row_in, qual_in, value_in, number_in, put_at, cell_size, caller_of, step_in, size_of, drops_of, places_of, unpacked, Fills}
 use Rattle.cell_solo.proofs.Placing.{slice_get-append_left}
 
 none : {A : Type 0} (xs : List A) → 0 ≡ length xs → xs ≡ []
@@ -200,33 +201,33 @@ short_value value bytes shortest = at (length bytes) shortest.len
 
 -- the put of a point with this value, whose qualifier is one item
 abbrev pub point_step : DataPoint → Row → List ℕ → Step
-point_step point row value = PutPoint point row (item_bytes (record { offset = point.time % 3600000; fine = point.fine; len = length value })) value
+point_step point row value = PutPoint point row (item_bytes (record { offset = point.time % HOUR_MILLIS; fine = point.fine; len = length value })) value
 
 -- a put of a point's layout is that of its one item
 pub put_of_layout : (ids : Kind → List ℕ → ℕ) (turns new : List Turn) (caller : ℕ) (point : DataPoint) (row : Row) (qual value : List ℕ) → IsLayout ids point row.bytes qual value
     → new ≡ turns ++ record { caller = caller; step = point_step point row value } ∷ [] → new ≡ turns ++ record { caller = caller; step = PutPoint point row qual value } ∷ []
 put_of_layout ids turns new caller point row qual value layout is =
-    let item = (dot_of (point.time % 3600000) point.fine point.value (length value)).item in
+    let item = (dot_of (point.time % HOUR_MILLIS) point.fine point.value (length value)).item in
     let qual_is : qual ≡ item_bytes item = layout.dot.items.qual_is ∙ append-nil (item_bytes item) in
     is ∙ ap (λ (q : List ℕ). turns ++ record { caller = caller; step = PutPoint point row q value } ∷ []) (sym qual_is)
 
 -- a put is read back of its place, of its time within the hour, and of its value
 pub put_back : (point : DataPoint) (row : Row) (value : List ℕ) (place : ℕ) (places : List NamedRow) → IsShortest point.value value → slice_get places place ≡ Some (named_row_of point row)
-    → put_at point.fine (point.time % 3600000) value (slice_get places place) ≡ point_step point row value
+    → put_at point.fine (point.time % HOUR_MILLIS) value (slice_get places place) ≡ point_step point row value
 put_back point row value place places shortest e =
-    let time : point.time / 3600000 * 3600000 + point.time % 3600000 ≡ point.time = omega arith in
-    ap (put_at point.fine (point.time % 3600000) value) e
-    ∙ (λ i. PutPoint (record { metric = point.metric; tags = point.tags; time = time i; fine = point.fine; value = number_back point.value value shortest i }) row (item_bytes (record { offset = point.time % 3600000; fine = point.fine; len = length value })) value)
+    let time : point.time / HOUR_MILLIS * HOUR_MILLIS + point.time % HOUR_MILLIS ≡ point.time = omega arith in
+    ap (put_at point.fine (point.time % HOUR_MILLIS) value) e
+    ∙ (λ i. PutPoint (record { metric = point.metric; tags = point.tags; time = time i; fine = point.fine; value = number_back point.value value shortest i }) row (item_bytes (record { offset = point.time % HOUR_MILLIS; fine = point.fine; len = length value })) value)
 
 -- what a put of a point makes of packed turns
 pub put_pushed : (heads : List Head) (bytes : List ℕ) (drops : List Dropped) (places : List NamedRow) (caller : ℕ) (point : DataPoint) (row : Row) (value value' : List ℕ) (place : ℕ)
     (heads' : List Head) (bytes' : List ℕ) (places' : List NamedRow)
     → Fills heads bytes drops places → IsShortest point.value value → value' ≡ value → slice_get places' place ≡ Some (named_row_of point row) → GoesOn places places'
-    → heads' ≡ heads ++ head.PutPoint caller point.fine (length value') place (point.time % 3600000) ∷ [] → bytes' ≡ bytes ++ value'
+    → heads' ≡ heads ++ head.PutPoint caller point.fine (length value') place (point.time % HOUR_MILLIS) ∷ [] → bytes' ≡ bytes ++ value'
     → Pushed heads' bytes' drops places' (unpacked heads bytes drops places) (record { caller = caller; step = point_step point row value })
 put_pushed heads bytes drops places caller point row value value' place heads' bytes' places' fills shortest v stands kept eh eb =
     let within : place < length places' = slice_get_within places' place (named_row_of point row) stands in
     let there : place + 1 ≤ length places' = omega (arith, within) in
-    pushed heads bytes drops places (head.PutPoint caller point.fine (length value') place (point.time % 3600000)) value' [] kept.0 (point_step point row value)
+    pushed heads bytes drops places (head.PutPoint caller point.fine (length value') place (point.time % HOUR_MILLIS)) value' [] kept.0 (point_step point row value)
     heads' bytes' drops places' fills (record { bytes_are = refl; drops_are = refl }) there
-    (ap (λ (bs : List ℕ). put_at point.fine (point.time % 3600000) bs (slice_get places' place)) v ∙ put_back point row value place places' shortest stands) eh eb (same drops drops refl) kept.1
+    (ap (λ (bs : List ℕ). put_at point.fine (point.time % HOUR_MILLIS) bs (slice_get places' place)) v ∙ put_back point row value place places' shortest stands) eh eb (same drops drops refl) kept.1

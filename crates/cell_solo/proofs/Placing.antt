@@ -7,13 +7,14 @@ use Rattle.std.proofs.Math.Seq.{take-append_seam, drop-append_seam, take-length}
 use Rattle.std.proofs.lemmas.List.{append-nil, take-append-le, drop-append-le, length-append, length-drop, length-map}
 use Rattle.std.proofs.lemmas.List.Elements.{All-push}
 use Rattle.std.proofs.lemmas.Option.{slice_get_read, slice_get-map}
+use Rattle.row_key.specs.declared.hours.TheConstants.{HOUR_MILLIS}
 use Rattle.row_key.specs.declared.tables.Table.{Table}
 use Rattle.tsd_base.specs.TagList.{Pair}
 use Rattle.tsd_base.specs.Points.{DataPoint}
-use Rattle.cell_model.specs.declared.cells.Row.{Row}
-use Rattle.cell_solo.specs.declared.places.Place.{Place}
-use Rattle.cell_solo.specs.Names.{told, told_tags, told_names, first_name, behind_name, tags_in, behind_tags}
-use Rattle.cell_solo.specs.Places.{NamedRow, named_row_of, named_row_in, part_of, named_row_at, places_in, IsWithin, AreWithin}
+use Rattle.cell_model.specs.declared.row.Row.{Row}
+use Rattle.cell_solo.specs.declared.turn_places.Place.{Place}
+use Rattle.cell_solo.specs.TurnNames.{told, told_tags, told_names, first_name, behind_name, tags_in, behind_tags}
+use Rattle.cell_solo.specs.TurnPlaces.{NamedRow, named_row_of, named_row_in, part_of, named_row_at, places_in, IsWithin, AreWithin}
 
 -- one part and then another
 pub written_twice : (old middle new a b x y : List ℕ) → middle ≡ old ++ x → new ≡ middle ++ y → x ≡ a → y ≡ b → new ≡ old ++ (a ++ b)
@@ -67,7 +68,7 @@ told_next pairs i p old before middle new lt e b m n =
     ∙ ap (λ (xs : List ℕ). old ++ xs) (sym (told_more pairs i p lt e)) ∙ ap (λ (k : ℕ). old ++ told_tags (take k pairs)) (sym next)
 
 -- names and row are read back
-pub named_row_back : (point : DataPoint) (row : Row) (hour : ℕ) (table : Table) (n : ℕ) (bytes : List ℕ) → hour ≡ point.time / 3600000 → table ≡ row.table → n ≡ length point.tags → bytes ≡ told_names point.metric point.tags ++ row.bytes
+pub named_row_back : (point : DataPoint) (row : Row) (hour : ℕ) (table : Table) (n : ℕ) (bytes : List ℕ) → hour ≡ point.time / HOUR_MILLIS → table ≡ row.table → n ≡ length point.tags → bytes ≡ told_names point.metric point.tags ++ row.bytes
     → named_row_in hour table n bytes ≡ named_row_of point row
 named_row_back point row hour table n bytes h t m b =
     let whole = told_names point.metric point.tags ++ row.bytes in
@@ -76,7 +77,7 @@ named_row_back point row hour table n bytes h t m b =
     let tags : tags_in (length point.tags) (behind_name whole) ≡ point.tags =
     ap (λ (xs : List ℕ). tags_in (length point.tags) (behind_name xs)) spread ∙ ap (tags_in (length point.tags)) (read_behind point.metric _) ∙ tags_back point.tags row.bytes in
     (λ i. named_row_in (h i) (t i) (m i) (b i))
-    ∙ (λ i. record { metric = metric i; tags = tags i; hour = point.time / 3600000; row = record { table = row.table; bytes = names_behind point.metric point.tags row.bytes i } })
+    ∙ (λ i. record { metric = metric i; tags = tags i; hour = point.time / HOUR_MILLIS; row = record { table = row.table; bytes = names_behind point.metric point.tags row.bytes i } })
 
 -- a place keeps its bytes
 part_kept : (p : Place) (block more : List ℕ) → IsWithin block p → part_of p (block ++ more) ≡ part_of p block
@@ -99,7 +100,7 @@ pub record Added (places : List Place) (block : List ℕ) (was : List NamedRow) 
 
 pub added : (places : List Place) (block : List ℕ) (point : DataPoint) (row : Row) (p : Place) (places' : List Place) (middle block' : List ℕ)
     → AreWithin places block → middle ≡ block ++ told_names point.metric point.tags → block' ≡ middle ++ row.bytes → places' ≡ places ++ p ∷ []
-    → p.start ≡ length block → p.len ≡ length (told_names point.metric point.tags) + length row.bytes → p.hour ≡ point.time / 3600000 → p.table ≡ row.table → p.tags ≡ length point.tags
+    → p.start ≡ length block → p.len ≡ length (told_names point.metric point.tags) + length row.bytes → p.hour ≡ point.time / HOUR_MILLIS → p.table ≡ row.table → p.tags ≡ length point.tags
     → Added places' block' (places_in places block) (named_row_of point row)
 added places block point row p places' middle block' within em eb ep start len hour table tags =
     let part = told_names point.metric point.tags ++ row.bytes in

@@ -4,7 +4,7 @@ use Rattle.std.specs.Prelude.{Some, nat_eq, if◌then◌else◌, Contains, IsTru
 use Rattle.std.proofs.lemmas.List.Sums.{sum_by-cons}
 use Rattle.row_key.specs.declared.tables.Table.{Table}
 use Rattle.row_key.specs.declared.tables.Table.TheVariants.{Ids, Names, Points}
-use Rattle.cell_model.specs.declared.cells.Row.{Row}
+use Rattle.cell_model.specs.declared.row.Row.{Row}
 use Rattle.cell_model.specs.declared.events.Step.{Step}
 use Rattle.cell_model.specs.declared.events.Step.TheVariants.{Open, Read, NextRow, Bump, Claim, PutPoint, PutMerged, DropCells}
 use Rattle.cell_model.specs.declared.events.Reply.{Reply}
@@ -20,7 +20,9 @@ use Rattle.cell_model.specs.declared.answers.RowsFault.{RowsFault}
 use Rattle.cell_model.specs.declared.answers.RowsFault.TheVariants.{OutOfMemory}
 use Rattle.cell_model.specs.Seen.{Fits, Stepped, Waited, IsPossible, Knows, HasSeenOpening, RoseIfStopped}
 use Rattle.cell_solo.specs.Turns.{Turn, opening, entry_of, entries_of, played, all_placed, whole_seen, Play, history_of, sight, IsPlay, IsPlayed, Steps, Stays}
-use Rattle.cell_solo.proofs.Lower.{known_is_allowed, not_Some, nat_eq_is, bounded, entry_at-last, entry_at-more, claimed_name, Names_Ids, not_zero, here, there, split}
+use Rattle.cell_laws.proofs.CallerLemmas.{known_is_allowed, nothing_waited, bounded, entry_at-last, entry_at-more, claimed_name, Names_Ids, not_zero}
+use Rattle.list_lemmas.proofs.BoolTests.{not_Some, nat_eq_is}
+use Rattle.list_lemmas.proofs.ListMembers.{here, there, split}
 
 -- a place up to n + 1 is that, or up to n
 pub last_or_earlier : (place n : ℕ) → place ≤ n + 1 → (place ≡ n + 1) ⊎ (place ≤ n)
@@ -47,7 +49,8 @@ entries-played h (t ∷ turns) caller =
     at true = omega arith
     at false = omega arith
 
-placed_at : (h : History) (place : ℕ) (e : Entry) → Contains (all_placed h) (record { place = place; entry = e }) → entry_at h place ≡ Some e
+-- what was placed stands there, and what stands there was placed
+pub placed_at : (h : History) (place : ℕ) (e : Entry) → Contains (all_placed h) (record { place = place; entry = e }) → entry_at h place ≡ Some e
 placed_at (Base base) place e c = absurd (omega (arith, c.1))
 placed_at (Then h last) place e c =
     elim (split (record { place = len h + 1; entry = last }) (record { place = place; entry = e }) (all_placed h) c) [
@@ -206,12 +209,9 @@ no_counter_in_points row t e = Ids_Points (sym (ap (λ (r : Row). r.table) e) �
 pub entries-begun : (base : Store) (turns : List Turn) (caller : ℕ) → entries_of (played (Base base) turns) caller ≡ count_by (λ (t : Turn). nat_eq t.caller caller) turns
 entries-begun base turns caller = entries-played (Base base) turns caller ∙ omega arith
 
-waited_whole : (h : History) (caller : ℕ) (alone : Bool) → Waited (whole_seen h caller alone) (whole_seen h caller alone)
-waited_whole h caller alone = record { base = refl; caller = refl; absorbed = refl; length = omega arith; kept = λ place e saw. saw; no_own = λ place e saw own. saw; alone = refl; still = λ a. refl }
-
 -- what stays as it was has waited
 pub stayed : (old new : Play) → Stays old new → Waited (sight old) (sight new)
-stayed old new is = subst (λ (p : Play). Waited (sight old) (sight p)) (sym is) (waited_whole (history_of old) old.caller (nat_eq old.callers 1))
+stayed old new is = subst (λ (p : Play). Waited (sight old) (sight p)) (sym is) (nothing_waited (sight old))
 
 pub lives_on : (old new : Play) → Stays old new → IsPossible (sight old) → IsPossible (sight new)
 lives_on old new is p = subst (λ (q : Play). IsPossible (sight q)) (sym is) p

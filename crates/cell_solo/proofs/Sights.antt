@@ -7,7 +7,8 @@ use Rattle.cell_model.specs.History.History.{Base, Then}
 use Rattle.cell_model.specs.Seen.{Saw}
 use Rattle.cell_solo.specs.Turns.{whole_seen}
 use Rattle.cell_solo.specs.Laws.{EachSightExtends}
-use Rattle.cell_solo.proofs.Lower.{not_Some, nat_eq_is, entry_at-last, entry_at-more}
+use Rattle.list_lemmas.proofs.BoolTests.{not_Some, nat_eq_is}
+use Rattle.cell_laws.proofs.CallerLemmas.{entry_at-last, entry_at-more}
 use Rattle.cell_solo.proofs.Plays.{at_placed, last_or_earlier}
 
 -- places count from 1

@@ -1,5 +1,5 @@
-pub mod Names
+pub mod TurnNames
 pub mod Turns
-pub mod Places
-pub mod Packed
+pub mod TurnPlaces
+pub mod PackedTurns
 pub mod Laws

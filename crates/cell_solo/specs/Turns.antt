@@ -1,7 +1,7 @@
 -- Callers of one store, in turns, and the history that their steps make: the replies follow from the steps.
 use Rattle.std.specs.Prelude.{◌≡◌, ℕ, zero, suc, ◌+◌, ◌≤◌, Bool, IsTrue, nat_eq, if◌then◌else◌, List, [], ◌∷◌, ◌++◌}
-use Rattle.cell_model.specs.declared.cells.Row.{Row}
-use Rattle.cell_model.specs.declared.cells.ListLine.{ListLine}
+use Rattle.cell_model.specs.declared.row.Row.{Row}
+use Rattle.cell_model.specs.declared.row.ListLine.{ListLine}
 use Rattle.cell_model.specs.declared.events.Step.{Step}
 use Rattle.cell_model.specs.declared.events.Step.TheVariants.{Open}
 use Rattle.cell_model.specs.declared.events.Reply.{Reply}

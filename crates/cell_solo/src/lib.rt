@@ -1,10 +1,10 @@
 //! Several callers of one body, in turns.
 #![tactic(auto)]
 
-mod block;
 pub mod laws;
-mod places;
 pub mod solo;
+mod turn_bytes;
+mod turn_places;
 mod turns;
 
 pub use solo::Solo;

@@ -1,6 +1,6 @@
 //! Several callers of one body, in turns.
 ghost use Rattle.std.specs.Prelude.{◌≡◌, ◌≢◌, ℕ, ◌≤◌, ◌<◌, ◌^◌, ◌+◌, length, min, IfOk, IfErr, IsOk, OnOk, OnErr, nat_eq, IsTrue};
-ghost use Rattle.cell_model.specs.declared.cells.Row.{Row as AnyRow};
+ghost use Rattle.cell_model.specs.declared.row.Row.{Row as AnyRow};
 ghost use Rattle.cell_model.specs.Sound.{IsBase};
 ghost use Rattle.cell_model.specs.Machine.{after, counter_row};
 ghost use Rattle.cell_model.specs.History.{store_after};
@@ -13,13 +13,13 @@ ghost use Rattle.cell_model.specs.declared.events.Step.TheVariants.{Read, NextRo
 ghost use Rattle.cell_model.specs.declared.events.Reply.TheVariants.{Shown, Next, BumpReply, ClaimReply, Written, Removed};
 ghost use Rattle.cell_solo.specs.Turns.{opened, openings, entries_of, whole_seen, history_of, sight, Steps, Stays};
 
-use crate::block::MOST_NAMES;
+use crate::turn_bytes::MOST_NAMES;
 use crate::turns::Turns;
 use cell_model::answers::{Bumped, Claimed, RowsFault, Stopped};
 use cell_model::body::Body;
-use cell_model::cells::{Cells, Drops, Found, Listing, Row};
+use cell_model::row::{Cells, Drops, Found, Listing, Row};
 use cell_model::rows::Rows;
-use cell_model::stamping::{bump_at, claim_at, put_at};
+use cell_model::stamp::{bump_at, claim_at, put_at};
 use qual_codec::Bytes;
 use row_key::Table;
 use std::alloc::{AllocError, Global};

@@ -5,14 +5,14 @@ ghost use Rattle.cell_model.specs.declared.events.Step.TheVariants.{Open, Read, 
 ghost use Rattle.qual_codec.specs.Items.{item_bytes};
 ghost use Rattle.qual_codec.specs.Spelling.{IsShortest};
 ghost use Rattle.cell_solo.specs.declared.turns.Head.{Head};
-ghost use Rattle.cell_solo.specs.Packed.{caller_of};
+ghost use Rattle.cell_solo.specs.PackedTurns.{caller_of};
 ghost use Rattle.cell_solo.specs.Turns.{Turn};
 
-use crate::block::{CellLengths, write, write_cell};
-use crate::places::{HOUR, Places};
-use cell_model::cells::{Drops, Row};
+use crate::turn_bytes::{CellLengths, write, write_cell};
+use crate::turn_places::Places;
+use cell_model::row::{Drops, Row};
 use qual_codec::Bytes;
-use row_key::Table;
+use row_key::{HOUR_MILLIS, Table};
 use std::alloc::{AllocError, Global};
 use std::marker::Model;
 use tsd_base::kinds::Kind;
@@ -117,7 +117,7 @@ fn count_heads(heads: &[Head], caller: u8) -> usize
 
 impl Model for Turns {
     ghost use Rattle.std.specs.Prelude.{◌-◌, min, vec_len, vec_capacity};
-    ghost use Rattle.cell_solo.specs.Packed.{TurnList, unpacked, Fills};
+    ghost use Rattle.cell_solo.specs.PackedTurns.{TurnList, unpacked, Fills};
 
     ghost Value = { TurnList };
 
@@ -242,13 +242,13 @@ impl Turns {
     }
 
     /// Adds a put of a point in its shortest value, whose qualifier is its one item. The room is that of its row and its value,
-    /// and [`crate::block::MOST_NAMES`] for its names.
+    /// and [`crate::turn_bytes::MOST_NAMES`] for its names.
     pub fn add_point(&mut self, caller: u8, point: &Point, row: &Row, value: &Bytes)
         requires spare { 1 ≤ self.old.spare }
         requires room { 4352 + (length row.now.bytes + length value.now) ≤ self.old.room }
         requires fits { 4352 + (length row.now.bytes + length value.now) < 2 ^ 32 }
         requires shortest { IsShortest point.now.value value.now }
-        ensures list { self.new.list ≡ self.old.list ++ record { caller = caller; step = PutPoint (data_point point.now) row.now (item_bytes (record { offset = point.now.time % 3600000; fine = point.now.fine; len = length value.now })) value.now } ∷ [] }
+        ensures list { self.new.list ≡ self.old.list ++ record { caller = caller; step = PutPoint (data_point point.now) row.now (item_bytes (record { offset = point.now.time % HOUR_MILLIS; fine = point.now.fine; len = length value.now })) value.now } ∷ [] }
         ensures spare { self.old.spare ≤ self.new.spare + 1 }
     {
         let place = self.places.find_or_add(point, row);
@@ -259,7 +259,7 @@ impl Turns {
             fine: point.fine,
             value: bytes.len() as u8,
             place,
-            offset: (point.time % HOUR) as u32,
+            offset: (point.time % HOUR_MILLIS) as u32,
         });
     }
 

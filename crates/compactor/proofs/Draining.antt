@@ -5,15 +5,15 @@ use Rattle.std.proofs.lemmas.List.{append-nil, length-append, length_push}
 use Rattle.std.proofs.lemmas.List.Elements.{All-push}
 use mir.Val.{bool_byte}
 use Rattle.row_key.specs.declared.tables.Table.TheVariants.{Points}
-use Rattle.cell_model.specs.declared.cells.Row.{Row}
+use Rattle.cell_model.specs.declared.row.Row.{Row}
 use Rattle.cell_model.specs.declared.events.Placed.{Placed}
 use Rattle.cell_model.specs.declared.answers.Stored.{Stored}
 use Rattle.cell_model.specs.declared.answers.RowsFault.{RowsFault}
 use Rattle.cell_model.specs.declared.answers.RowsFault.TheVariants as rows
-use Rattle.cell_model.specs.Seen.{Seen, RoseIfStopped}
+use Rattle.cell_model.specs.Seen.{Seen}
 use Rattle.cell_model.specs.Deeds.{Made, MadeSo}
-use Rattle.compactor.specs.declared.answers.CompactFault.TheVariants.{Conflict}
-use Rattle.compactor.specs.Faults.{fault_of_rows}
+use Rattle.compactor.specs.declared.compaction.CompactFault.TheVariants.{Conflict}
+use Rattle.compactor.specs.CompactFaults.{fault_of_rows}
 use Rattle.compactor.specs.Compaction.WroteNothing.{unread as nothing_unread}
 use Rattle.compactor.specs.Queues.{AreQueued}
 use Rattle.compactor.specs.Drains.{NoneBelow, IsNextBelow, OneMade, RowMade, RowsMade, Drains, DrainMade}
@@ -166,11 +166,6 @@ module _ (before : ℕ) (start mid now : Seen) (stops later last : ℕ) (old que
   pub broken_few : (max : ℕ) (fault : RowsFault) → done < max → MadeSo mid (OneMade before queue (Err fault) new) now → MadeSo start (λ (l : List Placed). length l ≤ 3 * max) now
   broken_few max fault lt (list, made, (row, n, same, m)) =
       (d.list ++ list, lower.made_joined start mid now d.list list d.made made, let few = d.few in let le = few_broken row fault list m in let sum = length-append d.list list in omega (arith, few, le, sum, lt))
-
-  -- the count of stops rose in the last of the calls, and so in all of them
-  pub rose_since : (fault : RowsFault) → RoseIfStopped later last fault → RoseIfStopped stops last fault
-  rose_since rows.OutOfMemory rose = tt
-  rose_since rows.Stopped rose = let grows = d.grows in omega (arith, rose, grows)
 
 -- ---- all of them
 

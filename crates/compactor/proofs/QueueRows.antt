@@ -14,7 +14,7 @@ use Rattle.std.proofs.lemmas.Map.Keys.{Less-from_sorted}
 use Rattle.std.proofs.lemmas.Map.Lookups.{CmpEqualImpliesEq, exact_pairs, exact_unsigned, exact_bytes}
 use Rattle.std.proofs.lemmas.Map.Views.{btree_set_contains_iff}
 use Rattle.row_key.specs.declared.tables.Table.TheVariants.{Points}
-use Rattle.cell_model.specs.declared.cells.Row.{Row}
+use Rattle.cell_model.specs.declared.row.Row.{Row}
 use Rattle.cell_model.specs.declared.answers.Stored.{Stored}
 use Rattle.compactor.specs.Queues.{stored_of, stored_cmp, AreQueued, AddMade}
 use Rattle.compactor.specs.Drains.{IsNextBelow, NoneBelow}

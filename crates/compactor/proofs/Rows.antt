@@ -7,25 +7,25 @@ use Rattle.std.specs.Ordering.{is_eq}
 use Rattle.std.specs.Cmp.Lexicographic.{nat_list_eq_equiv, texts_ties}
 use Rattle.row_key.specs.declared.tables.Table.TheVariants.{Points}
 use Rattle.qual_codec.specs.declared.cells.Cell.{Cell}
-use Rattle.qual_codec.specs.Dots.{Reads}
+use Rattle.qual_codec.specs.CellDots.{Reads}
 use Rattle.qual_codec.specs.Merge.{IsMerged}
-use Rattle.cell_model.specs.declared.cells.Row.{Row}
+use Rattle.cell_model.specs.declared.row.Row.{Row}
 use Rattle.cell_model.specs.declared.events.Step.TheVariants.{Read}
 use Rattle.cell_model.specs.declared.events.Reply.TheVariants.{Shown}
 use Rattle.cell_model.specs.declared.events.Placed.{Placed}
 use Rattle.cell_model.specs.declared.answers.RowsFault.{RowsFault}
 use Rattle.cell_model.specs.declared.answers.RowsFault.TheVariants as rows
-use Rattle.cell_model.specs.Order.{bytes_cmp}
+use Rattle.list_lemmas.specs.BytesOrder.{bytes_cmp}
 use Rattle.cell_model.specs.Rising.{RiseByQual}
 use Rattle.cell_model.specs.Store.{same_bytes, value_among}
 use Rattle.cell_model.specs.Seen.{Seen, Waited, Stepped, IsPossible}
 use Rattle.cell_model.specs.Seen.Shows.{by_read}
 use Rattle.cell_model.specs.Deeds.{Made, MadeSo, placed}
-use Rattle.compactor.specs.declared.answers.Compacted.{Compacted}
-use Rattle.compactor.specs.declared.answers.Compacted.TheVariants.{Nothing, Merged}
-use Rattle.compactor.specs.declared.answers.CompactFault.{CompactFault}
-use Rattle.compactor.specs.declared.answers.CompactFault.TheVariants.{Conflict, OutOfMemory, Stopped}
-use Rattle.compactor.specs.Faults.{fault_of_rows}
+use Rattle.compactor.specs.declared.compaction.Compacted.{Compacted}
+use Rattle.compactor.specs.declared.compaction.Compacted.TheVariants.{Nothing, Merged}
+use Rattle.compactor.specs.declared.compaction.CompactFault.{CompactFault}
+use Rattle.compactor.specs.declared.compaction.CompactFault.TheVariants.{Conflict, OutOfMemory, Stopped}
+use Rattle.compactor.specs.CompactFaults.{fault_of_rows}
 use Rattle.compactor.specs.Compaction.{CompactMade, Merges, WroteNothing, CameTo}
 use Rattle.compactor.specs.Compaction.WroteNothing.{unread as nothing_unread, read as nothing_read}
 use Rattle.compactor.specs.Compaction.CameTo.{unread as came_unread, read as came_read, put as came_put}

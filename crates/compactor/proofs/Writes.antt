@@ -7,7 +7,7 @@ use Rattle.row_key.specs.declared.tables.Table.TheVariants.{Points}
 use Rattle.qual_codec.specs.declared.cells.Cell.{Cell}
 use Rattle.qual_codec.specs.Order.{IsAtMost, IsBelow}
 use Rattle.qual_codec.specs.Merge.{IsMerged}
-use Rattle.cell_model.specs.declared.cells.Row.{Row}
+use Rattle.cell_model.specs.declared.row.Row.{Row}
 use Rattle.cell_model.specs.declared.events.Step.TheVariants.{PutMerged, DropCells}
 use Rattle.cell_model.specs.declared.events.Reply.TheVariants.{Written, Removed}
 use Rattle.cell_model.specs.declared.answers.RowsFault.{RowsFault}
@@ -16,9 +16,9 @@ use Rattle.cell_model.specs.Store.{same_bytes}
 use Rattle.cell_model.specs.Seen.{Seen, Waited, Stepped, IsPossible, Knows, KnowsCell}
 use Rattle.cell_model.specs.Seen.Shows.{by_merged}
 use Rattle.cell_model.specs.Deeds.{MadeSo}
-use Rattle.compactor.specs.declared.answers.Compacted.TheVariants.{Merged}
-use Rattle.compactor.specs.declared.answers.CompactFault.TheVariants.{Stopped}
-use Rattle.compactor.specs.Faults.{fault_of_rows}
+use Rattle.compactor.specs.declared.compaction.Compacted.TheVariants.{Merged}
+use Rattle.compactor.specs.declared.compaction.CompactFault.TheVariants.{Stopped}
+use Rattle.compactor.specs.CompactFaults.{fault_of_rows}
 use Rattle.compactor.specs.Compaction.{others}
 use Rattle.compactor.specs.Plans.{KnowsEach, WriteMade}
 use Rattle.compactor.proofs.Lower as lower

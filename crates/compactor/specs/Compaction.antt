@@ -1,18 +1,19 @@
 -- What a compaction makes of a row, by its answer.
 use Rattle.std.specs.Prelude.{◌≡◌, ℕ, ℤ, ◌<◌, ◌≤◌, not, List, [], ◌∷◌, length, map, reverse, filter, Result, Ok, Err}
+use Rattle.row_key.specs.declared.hours.TheConstants.{LAST_OFFSET}
 use Rattle.qual_codec.specs.declared.cells.Cell.{Cell}
 use Rattle.qual_codec.specs.declared.cells.MergeFault.TheVariants as merge
-use Rattle.qual_codec.specs.Merge.{IsMerged, IsUnmerged}
-use Rattle.cell_model.specs.declared.cells.Row.{Row}
+use Rattle.qual_codec.specs.Merge.{IsMerged, TellsConflict}
+use Rattle.cell_model.specs.declared.row.Row.{Row}
 use Rattle.cell_model.specs.declared.events.Step.TheVariants.{Read, PutMerged, DropCells}
 use Rattle.cell_model.specs.declared.events.Reply.TheVariants.{Shown, Written, Removed}
 use Rattle.cell_model.specs.declared.events.Placed.{Placed}
 use Rattle.cell_model.specs.Store.{same_bytes}
 use Rattle.cell_model.specs.Deeds.{Did}
-use Rattle.compactor.specs.declared.answers.Compacted.{Compacted}
-use Rattle.compactor.specs.declared.answers.Compacted.TheVariants.{Nothing, Merged}
-use Rattle.compactor.specs.declared.answers.CompactFault.{CompactFault}
-use Rattle.compactor.specs.declared.answers.CompactFault.TheVariants.{Conflict, OutOfMemory, Stopped}
+use Rattle.compactor.specs.declared.compaction.Compacted.{Compacted}
+use Rattle.compactor.specs.declared.compaction.Compacted.TheVariants.{Nothing, Merged}
+use Rattle.compactor.specs.declared.compaction.CompactFault.{CompactFault}
+use Rattle.compactor.specs.declared.compaction.CompactFault.TheVariants.{Conflict, OutOfMemory, Stopped}
 
 -- the entry is a read of the row, which showed these cells
 abbrev pub DidRead : Placed → Row → List Cell → Type 0
@@ -65,7 +66,7 @@ pub record HadConflict (row : Row) (offset : ℕ) (a b : ℤ) (list : List Place
   pub list_is : list ≡ read ∷ []
   pub did : DidRead read row cells
   pub several : 2 ≤ length cells
-  pub conflict : IsUnmerged cells 0 3599999 (merge.Conflict offset a b)
+  pub conflict : TellsConflict cells 0 LAST_OFFSET (merge.Conflict offset a b)
 
 -- no entry that writes: none, or a read that showed several cells
 pub data WroteNothing (row : Row) : List Placed → Type 0 where

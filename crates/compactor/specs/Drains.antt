@@ -1,13 +1,13 @@
 -- Draining a queue.
 use Rattle.std.specs.Prelude.{◌≡◌, ℕ, ℤ, suc, ◌<◌, ◌≤◌, Bool, true, false, List, [], ◌∷◌, ◌++◌, length, All, Option, None, Some, Result, Ok, Err}
-use Rattle.cell_model.specs.declared.cells.Row.{Row}
+use Rattle.cell_model.specs.declared.row.Row.{Row}
 use Rattle.cell_model.specs.declared.events.Placed.{Placed}
 use Rattle.cell_model.specs.declared.answers.Stored.{Stored}
 use Rattle.cell_model.specs.declared.answers.RowsFault.{RowsFault}
-use Rattle.compactor.specs.declared.answers.Compacted.{Compacted}
-use Rattle.compactor.specs.declared.answers.CompactFault.TheVariants.{Conflict}
-use Rattle.compactor.specs.declared.answers.Drained.{Drained}
-use Rattle.compactor.specs.Faults.{fault_of_rows}
+use Rattle.compactor.specs.declared.compaction.Compacted.{Compacted}
+use Rattle.compactor.specs.declared.compaction.CompactFault.TheVariants.{Conflict}
+use Rattle.compactor.specs.declared.compaction.Drained.{Drained}
+use Rattle.compactor.specs.CompactFaults.{fault_of_rows}
 use Rattle.compactor.specs.Compaction.{CompactMade}
 
 -- no row's hour begins before this second

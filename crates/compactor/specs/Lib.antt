@@ -1,4 +1,4 @@
-pub mod Faults
+pub mod CompactFaults
 pub mod Compaction
 pub mod Plans
 pub mod Queues

@@ -1,16 +1,17 @@
 -- What is to be written of a row, and what writing it makes.
 use Rattle.std.specs.Prelude.{◌≡◌, ◌⊎◌, ℕ, List, [], ◌∷◌, length, All, Contains, Result, Ok, Err}
+use Rattle.row_key.specs.declared.hours.TheConstants.{LAST_OFFSET}
 use Rattle.qual_codec.specs.declared.cells.Cell.{Cell}
 use Rattle.qual_codec.specs.declared.cells.MergeFault.TheVariants as merge
 use Rattle.qual_codec.specs.Order.{IsAtMost}
-use Rattle.qual_codec.specs.Merge.{IsMerged, IsUnmerged}
-use Rattle.cell_model.specs.declared.cells.Row.{Row}
+use Rattle.qual_codec.specs.Merge.{IsMerged, TellsConflict}
+use Rattle.cell_model.specs.declared.row.Row.{Row}
 use Rattle.cell_model.specs.declared.events.Placed.{Placed}
 use Rattle.cell_model.specs.Seen.{Seen, KnowsCell}
-use Rattle.compactor.specs.declared.answers.Compacted.{Compacted}
-use Rattle.compactor.specs.declared.answers.Compacted.TheVariants.{Nothing, Merged}
-use Rattle.compactor.specs.declared.answers.CompactFault.{CompactFault}
-use Rattle.compactor.specs.declared.answers.CompactFault.TheVariants.{Conflict, OutOfMemory, Stopped}
+use Rattle.compactor.specs.declared.compaction.Compacted.{Compacted}
+use Rattle.compactor.specs.declared.compaction.Compacted.TheVariants.{Nothing, Merged}
+use Rattle.compactor.specs.declared.compaction.CompactFault.{CompactFault}
+use Rattle.compactor.specs.declared.compaction.CompactFault.TheVariants.{Conflict, OutOfMemory, Stopped}
 use Rattle.compactor.specs.declared.plan.Plan.{Plan}
 use Rattle.compactor.specs.Compaction.{others, DidPut, DidDrop}
 
@@ -23,7 +24,7 @@ pub record IsPlan (row : Row) (cells : List Cell) (p : Plan) : Type 0 where
 
 -- why there is no plan
 abbrev pub CannotPlan : List Cell → CompactFault → Type 0
-CannotPlan cells (Conflict offset a b) = IsUnmerged cells 0 3599999 (merge.Conflict offset a b)
+CannotPlan cells (Conflict offset a b) = TellsConflict cells 0 LAST_OFFSET (merge.Conflict offset a b)
 CannotPlan cells OutOfMemory = Unit {0}
 CannotPlan cells Stopped = ⊥
 

@@ -1,15 +1,15 @@
 //! Compacting one row.
-ghost use Rattle.std.specs.Prelude.{◌≡◌, ◌≤◌, length, OnOk, IfErr};
+ghost use Rattle.std.specs.Prelude.{◌≡◌, ◌≤◌, length};
 ghost use Rattle.row_key.specs.declared.tables.Table.TheVariants.{Points};
-ghost use Rattle.cell_model.specs.Seen.{IsPossible};
 ghost use Rattle.cell_model.specs.Deeds.{MadeSo};
-ghost use Rattle.compactor.specs.Faults.{CompactRose};
+ghost use Rattle.cell_model.specs.Calls.{Leaves};
+ghost use Rattle.compactor.specs.CompactFaults.{is_stop};
 ghost use Rattle.compactor.specs.Compaction.{CompactMade};
 ghost use Rattle.compactor.specs.Plans.{IsPlan, KnowsEach, WriteMade};
 
-use crate::answers::{CompactFault, Compacted};
+use crate::compaction::{CompactFault, Compacted};
 use crate::plan::{Plan, make_plan};
-use cell_model::cells::{Cells, Row};
+use cell_model::row::{Cells, Row};
 use cell_model::rows::Rows;
 use std::alloc::Global;
 
@@ -24,9 +24,7 @@ fn write<R: Rows>(
     requires plan { IsPlan plan.row cells.now plan }
     requires known { KnowsEach (R.seen rows.old) plan.row cells.now }
     ensures made { MadeSo (R.seen rows.old) (WriteMade plan.row cells.now plan.merged.qual plan.merged.value result) (R.seen rows.new) }
-    ensures possible { OnOk result (IsPossible (R.seen rows.new)) }
-    ensures grows { R.stops rows.old ≤ R.stops rows.new }
-    ensures stopped { IfErr result (CompactRose (R.stops rows.old) (R.stops rows.new)) }
+    ensures leaves { Leaves is_stop result (R.seen rows.new) (R.stops rows.old) (R.stops rows.new) }
 {
     let Plan { row, merged, drops } = plan;
     rows.put_merged(alloc, &row, &merged.qual, &merged.value)?;
@@ -51,9 +49,7 @@ pub fn compact_row<R: Rows>(
     requires { row.now.table ≡ Points }
     ensures made { MadeSo (R.seen rows.old) (CompactMade row.now result) (R.seen rows.new) }
     ensures few { MadeSo (R.seen rows.old) (λ list. length list ≤ 3) (R.seen rows.new) }
-    ensures possible { OnOk result (IsPossible (R.seen rows.new)) }
-    ensures grows { R.stops rows.old ≤ R.stops rows.new }
-    ensures stopped { IfErr result (CompactRose (R.stops rows.old) (R.stops rows.new)) }
+    ensures leaves { Leaves is_stop result (R.seen rows.new) (R.stops rows.old) (R.stops rows.new) }
 {
     let cells = rows.read(alloc, row)?;
     if cells.len() < 2 {

@@ -1,11 +1,11 @@
 //! What is to be written of a row, made before any of it is.
 ghost use Rattle.std.specs.Prelude.{◌≡◌, ◌≤◌, length, All, IfOk, IfErr};
-ghost use Rattle.qual_codec.specs.Dots.{Reads};
+ghost use Rattle.qual_codec.specs.CellDots.{Reads};
 ghost use Rattle.compactor.specs.Compaction.{others as others_of};
 ghost use Rattle.compactor.specs.Plans.{CannotPlan, IsPlan};
 
-use crate::answers::CompactFault;
-use cell_model::cells::{Cells, Drops, Row};
+use crate::compaction::CompactFault;
+use cell_model::row::{Cells, Drops, Row};
 use qual_codec::{Bytes, CellRef, Merged, merge_cells};
 use std::alloc::{AllocError, Global};
 

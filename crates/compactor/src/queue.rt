@@ -2,12 +2,12 @@
 ghost use Rattle.std.specs.Prelude.{◌≡◌, ◌∷◌, [], length, IfOk, OnErr, MatchOption};
 ghost use Rattle.row_key.specs.declared.tables.Table.TheVariants.{Points};
 ghost use Rattle.cell_model.specs.declared.answers.Stored.{Stored};
-ghost use Rattle.cell_model.specs.declared.cells.Row.{Row};
+ghost use Rattle.cell_model.specs.declared.row.Row.{Row};
 ghost use Rattle.compactor.specs.Queues.{AddMade, AreQueued};
 ghost use Rattle.compactor.specs.Drains.{IsNextBelow, NoneBelow};
 
 use cell_model::answers::Stored;
-use cell_model::cells::Row;
+use cell_model::row::Row;
 use qual_codec::Bytes;
 use row_key::Table;
 use std::alloc::{AllocError, Global};

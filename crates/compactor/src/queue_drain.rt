@@ -1,15 +1,15 @@
 //! Compacting the rows of a queue.
-ghost use Rattle.std.specs.Prelude.{◌≡◌, ◌≤◌, ◌*◌, length, IfErr};
+ghost use Rattle.std.specs.Prelude.{◌≡◌, ◌≤◌, ◌*◌, length};
 ghost use Rattle.row_key.specs.declared.tables.Table.TheVariants.{Points};
-ghost use Rattle.cell_model.specs.Seen.{RoseIfStopped};
+ghost use Rattle.cell_model.specs.Stops.{CountsStops, is_stop};
 ghost use Rattle.cell_model.specs.Deeds.{MadeSo};
 ghost use Rattle.compactor.specs.Drains.{DrainMade, OneMade, RowMade};
 
-use crate::answers::{CompactFault, Drained};
 use crate::compact::compact_row;
+use crate::compaction::{CompactFault, Drained};
 use crate::queue::Queue;
 use cell_model::answers::RowsFault;
-use cell_model::cells::Row;
+use cell_model::row::Row;
 use cell_model::rows::Rows;
 use std::alloc::Global;
 
@@ -17,8 +17,7 @@ use std::alloc::Global;
 fn compact_queued<R: Rows>(alloc: Global, rows: &mut R, row: &Row) -> Result<bool, RowsFault>
     requires { row.now.table ≡ Points }
     ensures made { MadeSo (R.seen rows.old) (RowMade row.now result) (R.seen rows.new) }
-    ensures grows { R.stops rows.old ≤ R.stops rows.new }
-    ensures stopped { IfErr result (RoseIfStopped (R.stops rows.old) (R.stops rows.new)) }
+    ensures stops { CountsStops is_stop result (R.stops rows.old) (R.stops rows.new) }
 {
     match compact_row(alloc, rows, row) {
         Ok(_) => Ok(false),
@@ -37,8 +36,7 @@ fn drain_one<R: Rows>(
     before: u32,
 ) -> Result<Option<bool>, RowsFault>
     ensures made { MadeSo (R.seen rows.old) (OneMade before queue.old result queue.new) (R.seen rows.new) }
-    ensures grows { R.stops rows.old ≤ R.stops rows.new }
-    ensures stopped { IfErr result (RoseIfStopped (R.stops rows.old) (R.stops rows.new)) }
+    ensures stops { CountsStops is_stop result (R.stops rows.old) (R.stops rows.new) }
 {
     let Ok(next) = queue.next_below(alloc, before) else {
         return Err(RowsFault::OutOfMemory);
@@ -64,8 +62,7 @@ pub fn drain<R: Rows>(
 ) -> Result<Drained, RowsFault>
     ensures made { MadeSo (R.seen rows.old) (DrainMade before max queue.old result queue.new) (R.seen rows.new) }
     ensures few { MadeSo (R.seen rows.old) (λ list. length list ≤ 3 * max) (R.seen rows.new) }
-    ensures grows { R.stops rows.old ≤ R.stops rows.new }
-    ensures stopped { IfErr result (RoseIfStopped (R.stops rows.old) (R.stops rows.new)) }
+    ensures stops { CountsStops is_stop result (R.stops rows.old) (R.stops rows.new) }
 {
     let mut conflicts = 0;
     for done in 0..max {

@@ -1,4 +1,3 @@
-mod Lower
 pub mod Multiples
 pub mod Splits
 pub mod Loops

@@ -13,7 +13,7 @@ use Rattle.lerp_aggregate.specs.Aggregation.{value_at}
 use Rattle.lerp_aggregate.specs.Laws.{AreAlike}
 use Rattle.downsample.specs.declared.downsampling.DownFault.{DownFault}
 use Rattle.downsample.specs.Downsampling.{in_order, valued, buckets_for, downsampled, GivesDown}
-use Rattle.downsample.proofs.Lower.{sorted_from_rising}
+use Rattle.list_lemmas.proofs.EntryLemmas.{sorted_from_rising}
 
 sorted : (points : List (ℕ × ℤ)) → IsRising points → T (is_sorted nat_cmp points)
 sorted points rising = sorted_from_rising nat_cmp points (λ i j d before inside. sym (nat_cmp_is _ _ Less (rising i j d before inside)))

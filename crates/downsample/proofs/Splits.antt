@@ -6,6 +6,7 @@ use Rattle.std.proofs.lemmas.Bool.{cond-true, cond-false, cases_lt}
 use Rattle.std.proofs.lemmas.Bool.Decides.{nat_tests}
 use Rattle.std.proofs.lemmas.List.{get_or-take, get_or-drop, length-take, length-drop, take-append-drop, drop-drop, append-nil}
 use Rattle.std.proofs.lemmas.List.Elements.{filter-append, All-filter, All-cons, All-nil}
+use Rattle.list_lemmas.proofs.BoolTests.{nat_eq-same}
 use Rattle.tsd_base.specs.Dots.{IsRising}
 use Rattle.downsample.specs.Buckets.{bucket_of, buckets_of, values_in}
 use Rattle.downsample.proofs.Multiples.{Begins, bucket_below, bucket_same, bucket_later, next_begins}
@@ -56,9 +57,6 @@ differ a b lt = grind (arith, nat_tests, lt)
 exceed : (a b : ℕ) → b < a → nat_eq a b ≡ false
 exceed a b lt = grind (arith, nat_tests, lt)
 
-equal : (a b : ℕ) → a ≡ b → nat_eq a b ≡ true
-equal a b e = grind (arith, nat_tests, e)
-
 -- where the points of a bucket lie
 pub record Lies (i b at behind : ℕ) (points : List (ℕ × ℤ)) : Type 0 where
   pub some : 1 ≤ i
@@ -88,7 +86,7 @@ module _ (i b at behind : ℕ) (points : List (ℕ × ℤ)) (lies : Lies i b at 
       let none : filter test (take at points) ≡ [] = filter_none test (take at points) (within_take (λ p. test p ≡ false) points at at_inside (λ k d low high.
       let before : (get_or points k d).0 < b = lies.early k d low high in
       differ (bucket_of i (get_or points k d).0) b (omega (arith, before, bucket_below i (get_or points k d).0)))) in
-      let all : filter test (part at behind points) ≡ part at behind points = filter_all test (part at behind points) (λ k d lt. equal _ b (in_part k d lt)) in
+      let all : filter test (part at behind points) ≡ part at behind points = filter_all test (part at behind points) (λ k d lt. nat_eq-same _ b (in_part k d lt)) in
       let over : filter test (drop behind points) ≡ [] = filter_none test (drop behind points) (λ k d lt.
       let l : b + i ≤ bucket_of i (get_or (drop behind points) k d).0 = behind_part k d lt in
       let s = lies.some in exceed (bucket_of i (get_or (drop behind points) k d).0) b (omega (arith, l, s))) in
@@ -117,7 +115,7 @@ first_bucket i b (p ∷ []) rest some all other =
 first_bucket i b (p ∷ q ∷ run) rest some all other =
     ap (λ (c : ℕ). c ∷ filter (λ x. not (nat_eq x c)) (buckets_of i ((q ∷ run) ++ rest))) (all zero p (omega arith))
     ∙ ap (λ (bs : List ℕ). b ∷ filter (λ x. not (nat_eq x b)) bs) (first_bucket i b (q ∷ run) rest (omega arith) (λ k d lt. all (suc k) d (omega (arith, lt))) other)
-    ∙ ap (λ (bs : List ℕ). b ∷ bs) (cond-false _ _ _ (ap not (equal b b refl)) ∙ without i b rest other)
+    ∙ ap (λ (bs : List ℕ). b ∷ bs) (cond-false _ _ _ (ap not (nat_eq-same b b refl)) ∙ without i b rest other)
 
 -- the bucket is the first of those of the points from here on
 pub buckets_on : (i b at behind : ℕ) (points : List (ℕ × ℤ)) → Lies i b at behind points → at < behind → buckets_of i (drop at points) ≡ b ∷ buckets_of i (drop behind points)

@@ -4,11 +4,11 @@ ghost use Rattle.tsd_base.specs.Dots.{IsRising};
 ghost use Rattle.downsample.specs.Buckets.{all_buckets, buckets_of};
 ghost use Rattle.downsample.specs.Downsampling.{downsampled, valued, GivesDown};
 
+use crate::bucket_values::value_of;
 use crate::intervals::{behind_bucket, bucket_of, buckets};
-use crate::values::value_of;
 use std::alloc::{AllocError, Global};
+use tsd_base::dots::Dots;
 use tsd_base::kinds::{Down, Fill, Function};
-use tsd_base::series::Dots;
 
 /// Why a series isn't downsampled.
 #[derive(Clone, Copy, Debug, PartialEq, Eq)]

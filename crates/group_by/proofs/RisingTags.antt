@@ -4,7 +4,8 @@ use Rattle.std.specs.Prelude.{filter}
 use Rattle.std.proofs.lemmas.List.{take_all}
 use Rattle.std.proofs.lemmas.List.Elements.{All-map}
 use Rattle.std.proofs.lemmas.List.Kept.{AllPairs-cons, AllPairs-filter}
-use Rattle.tsd_base.specs.TagList.{Pair, IsTags, RiseByKey, bytes_cmp}
+use Rattle.tsd_base.specs.TagList.{Pair, IsTags, RiseByKey}
+use Rattle.list_lemmas.specs.BytesOrder.{bytes_cmp}
 
 map_pairs : {X Y : Type 0} (R : Y → Y → Type 0) (f : X → Y) (xs : List X) → AllPairs (λ x y. R (f x) (f y)) xs → AllPairs R (map f xs)
 map_pairs R f [] h = λ i j d below within. absurd (omega arith)

@@ -1,9 +1,9 @@
 //! Which series pass the filters of a sub query, which of them make one group, and the tags of a group.
 #![tactic(auto)]
 
-pub mod filtering;
-pub mod shared;
+pub mod shared_tags;
+pub mod tag_filters;
 #[cfg(test)]
-mod tagging;
+mod test_tags;
 
-pub use filtering::{group_key, passes};
+pub use tag_filters::{group_key, passes};

@@ -9,7 +9,7 @@ use Rattle.std.specs.FinMap.{put, empty, entries-insert, from_entries, len-empty
 use Rattle.std.specs.FinMap.Entries.{by_order}
 use Rattle.std.specs.Cmp.Lexicographic.{nat_list_cmp_total}
 use Rattle.std.proofs.lemmas.List.{drop_all}
-use Rattle.tsd_base.specs.TagList.{bytes_cmp}
+use Rattle.list_lemmas.specs.BytesOrder.{bytes_cmp}
 use Rattle.json_reply.specs.Texts.{keyed, time_text, under_texts, texts_of, Rise}
 
 no_entries : {A : Type 0} (es : List A) → length es ≡ 0 → es ≡ []

@@ -1,7 +1,8 @@
 -- The text of a reply: one JSON array without blanks.
 use Rattle.std.specs.Prelude.{◌≡◌, ℕ, ◌%◌, ℤ, Bool, false, List, ◌++◌, map, All, AllPairs, codes}
 use Rattle.std.specs.declared.cmp.Ordering.TheVariants.{Less}
-use Rattle.tsd_base.specs.TagList.{Pair, RiseByKey, bytes_cmp}
+use Rattle.tsd_base.specs.TagList.{Pair, RiseByKey}
+use Rattle.list_lemmas.specs.BytesOrder.{bytes_cmp}
 use Rattle.json_reply.specs.declared.reply.Group as code
 use Rattle.json_reply.specs.Texts.{quoted, listed, tag_text, dot_text, keyed}
 

@@ -4,7 +4,8 @@ use Rattle.std.specs.List.{join_with_byte}
 use Rattle.std.specs.Fmt.{signed_decimal}
 use Rattle.std.specs.FinMap.{from_entries, entries}
 use Rattle.std.specs.declared.cmp.Ordering.TheVariants.{Less}
-use Rattle.tsd_base.specs.TagList.{Pair, bytes_cmp}
+use Rattle.tsd_base.specs.TagList.{Pair}
+use Rattle.list_lemmas.specs.BytesOrder.{bytes_cmp}
 
 -- names need no escapes
 abbrev pub quoted : List ℕ → List ℕ

@@ -1,6 +1,6 @@
 //! The text of a reply: one JSON array without blanks.
 #![tactic(auto)]
 
+mod json_text;
 pub mod reply;
-mod times;
-mod writing;
+mod time_text;

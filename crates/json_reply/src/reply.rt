@@ -2,10 +2,10 @@
 ghost use Rattle.std.specs.Prelude.{◌≡◌, map, All, IfOk};
 ghost use Rattle.json_reply.specs.Replies.{IsReady, plain, text_of};
 
-use crate::writing::write_groups;
+use crate::json_text::write_groups;
 use std::alloc::{AllocError, Global};
+use tsd_base::dots::Dots;
 use tsd_base::names::Name;
-use tsd_base::series::Dots;
 
 /// The answer for one group of series.
 #[derive(Drop)]

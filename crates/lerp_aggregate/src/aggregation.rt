@@ -6,8 +6,8 @@ ghost use Rattle.lerp_aggregate.specs.Walks.{walked, StandAt};
 use crate::cursors::Walk;
 use crate::tally::Tally;
 use std::alloc::{AllocError, Global};
+use tsd_base::dots::Dots;
 use tsd_base::kinds::Aggregator;
-use tsd_base::series::Dots;
 
 /// Why a group of series makes no points.
 #[derive(Clone, Copy, Debug, PartialEq, Eq)]

@@ -10,7 +10,7 @@ ghost use Rattle.lerp_aggregate.specs.Walks.{earlier, earliest, first_time, is_d
 use crate::interpolation::lerp_at;
 use crate::tally::Tally;
 use std::alloc::{AllocError, Global};
-use tsd_base::series::Dots;
+use tsd_base::dots::Dots;
 
 /// A place in a series: the points before it are done.
 #[derive(Drop)]

@@ -5,7 +5,8 @@ use Rattle.std.proofs.lemmas.List.{take-append-drop, length-take-le}
 use Rattle.std.proofs.Math.Seq.{drop-cons}
 use Rattle.std.proofs.Common.{add-one, get_or}
 use Rattle.std.specs.List.{onto_first, slice_split}
-use Rattle.line_stream.specs.Lines.{Line, LONGEST_LINE, has_line_end, last_line, lines_in, lines_of, whole_line}
+use Rattle.line_stream.specs.declared.line.TheConstants.{LONGEST_LINE}
+use Rattle.line_stream.specs.Lines.{Line, has_line_end, last_line, lines_in, lines_of, whole_line}
 use Rattle.line_stream.specs.Reads.{IsFirstTooLong}
 
 pub neither : (a b : Bool) → (a || b) ≡ false → (a ≡ false) × (b ≡ false)

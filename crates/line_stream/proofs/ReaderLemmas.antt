@@ -4,8 +4,9 @@ use Rattle.std.specs.Prelude.{Option, Some, None, Ok, Err, nat_lt}
 use Rattle.std.specs.Io.KnownBytes.{Appends, Consumes}
 use Rattle.std.proofs.KnownBytes.{Appends-nil, Consumes-nil, Appends-trans, Consumes-trans}
 use Rattle.std.proofs.lemmas.Bool.Decides.{nat_tests}
-use Rattle.line_stream.specs.Lines.{EndsLine, LONGEST_LINE, is_too_long}
-use Rattle.line_stream.specs.Readings.{Reading}
+use Rattle.line_stream.specs.declared.line.TheConstants.{LONGEST_LINE}
+use Rattle.line_stream.specs.Lines.{EndsLine, is_too_long}
+use Rattle.line_stream.specs.LineReadings.{Reading}
 use Rattle.line_stream.specs.Reads.{FirstLine, Feeds, Finds, IsFront, NextLineIs, TakesPiece, front, line_to, with_bytes}
 use Rattle.line_stream.specs.declared.reader.InputFault.{InputFault}
 use Rattle.line_stream.specs.declared.reader.InputFault.TheVariants as fault

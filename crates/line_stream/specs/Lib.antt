@@ -1,4 +1,4 @@
 pub mod Lines
 pub mod Searched
-pub mod Readings
+pub mod LineReadings
 pub mod Reads

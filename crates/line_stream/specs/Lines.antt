@@ -1,6 +1,7 @@
 -- Lines of bytes.
 use Rattle.std.specs.Prelude.{◌≡◌, ℕ, ◌-◌, ◌<◌, Bool, true, false, nat_eq, nat_lt, List, [], ◌∷◌, ◌++◌, length, take, slice_index, slice_index_or, Option, MatchOption, if◌then◌else◌}
 use Rattle.std.specs.List.{list_all, list_any, slice_split}
+use Rattle.line_stream.specs.declared.line.TheConstants.{LONGEST_LINE}
 
 -- the bytes of a line without its LF, and whether it has one
 pub record Line : Type 0 where
@@ -37,10 +38,6 @@ text_of line = if line.ended then without_cr line.bytes else line.bytes
 -- nothing but spaces
 abbrev pub is_blank : List ℕ → Bool
 is_blank text = list_all (λ b. nat_eq b 32) text
-
--- the most bytes of a line, without its LF and with its CR
-abbrev pub LONGEST_LINE : ℕ
-LONGEST_LINE = 8192
 
 abbrev pub is_too_long : List ℕ → Bool
 is_too_long bytes = nat_lt LONGEST_LINE (length bytes)

@@ -1,8 +1,9 @@
 -- What the next line of an input is.
 use Rattle.std.specs.Prelude.{◌≡◌, ℕ, ◌+◌, ◌^◌, ◌<◌, ◌≤◌, false, List, [], ◌∷◌, ◌++◌, length, take, drop, nat_lt, Option, None, Some, Result, Ok, Err, if◌then◌else◌}
 use Rattle.std.specs.Io.KnownBytes.{Appends, Consumes, IsAtEnd}
-use Rattle.line_stream.specs.Lines.{Line, LONGEST_LINE, Splits, has_line_end, is_too_long, lines_of, whole_line}
-use Rattle.line_stream.specs.Readings.{Reading}
+use Rattle.line_stream.specs.declared.line.TheConstants.{LONGEST_LINE}
+use Rattle.line_stream.specs.Lines.{Line, Splits, has_line_end, is_too_long, lines_of, whole_line}
+use Rattle.line_stream.specs.LineReadings.{Reading}
 use Rattle.line_stream.specs.declared.reader.InputFault.{InputFault}
 use Rattle.line_stream.specs.declared.reader.InputFault.TheVariants.{Failed, Full, OutOfMemory}
 use Rattle.line_stream.specs.declared.reader.NextLine.{NextLine}

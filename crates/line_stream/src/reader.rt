@@ -66,7 +66,7 @@ pub struct LineReader {
 
 impl Model for LineReader {
     ghost use Rattle.std.specs.Prelude.{◌≡◌, ◌+◌, ◌^◌, ◌≤◌, length};
-    ghost use Rattle.line_stream.specs.Readings.{Reading};
+    ghost use Rattle.line_stream.specs.LineReadings.{Reading};
 
     ghost Value = { Reading };
 

@@ -11,25 +11,29 @@ use Rattle.std.specs.FinMap.{find, is_sorted, entries, from_entries, empty, get,
 use Rattle.std.proofs.lemmas.Bool.Decides.{nat_tests}
 use Rattle.std.proofs.lemmas.List.{get_or_default, length-set}
 use Rattle.std.proofs.lemmas.List.Sums.{sum_by-cons}
+use Rattle.list_lemmas.proofs.ListCuts.{filter_alike}
+use Rattle.list_lemmas.proofs.BoolTests.{T_left, T_right}
 use Rattle.row_key.specs.declared.tables.Table.{Table}
 use Rattle.row_key.specs.declared.tables.Table.TheVariants.{Ids, Names, Points}
 use Rattle.tsd_base.specs.declared.kinds.Kind.{Kind}
 use Rattle.qual_codec.specs.declared.cells.Cell.{Cell}
-use Rattle.cell_model.specs.declared.cells.Row.{Row}
-use Rattle.cell_model.specs.declared.cells.Found.{Found}
+use Rattle.cell_model.specs.declared.row.Row.{Row}
+use Rattle.cell_model.specs.declared.row.Found.{Found}
 use Rattle.cell_model.specs.declared.events.Place.{Place}
 use Rattle.cell_model.specs.declared.events.Content.{Content}
 use Rattle.cell_model.specs.declared.answers.Bumped.TheVariants.{Given, Full}
-use Rattle.cell_model.specs.Store.{Store, bytes_cmp, row_cmp, place_cmp, table_number, written, stamped, dropped, cells_of, next_row_of, is_between, cell_of}
+use Rattle.cell_model.specs.Store.{Store, row_cmp, place_cmp, table_number, written, stamped, dropped, cells_of, next_row_of, is_between, cell_of}
+use Rattle.list_lemmas.specs.BytesOrder.{bytes_cmp}
 use Rattle.cell_model.specs.Machine.{counter_row, counter_of, kind_qual, bump_reply, MOST_IDS}
 use Rattle.cell_model.specs.Counts.{point_entries, point_rows}
 use Rattle.cell_model.specs.Sound.{CountersRead, IsCounter}
 use Rattle.cell_model.specs.Ranges.{InOneRange}
 use Rattle.packed_cells.specs.Keyed.{CellMap, cells_in}
 use Rattle.packed_cells.specs.Keyed as cells
-use Rattle.map_body.specs.Rows.{Rows, row_in, ChangesRow, NoneEmpty, left, is_within, cells_among}
+use Rattle.map_body.specs.TableRows.{Rows, row_in, ChangesRow, NoneEmpty, left, is_within, cells_among}
 use Rattle.map_body.specs.Counting.{number_in, AllCounters}
-use Rattle.map_body.proofs.Orders.{rows_total, places_total, exact_rows, exact_places, one_or_other}
+use Rattle.cell_model.proofs.CallerLemmas.{rows_total, places_total, exact_rows, exact_places}
+use Rattle.map_body.proofs.Orders.{one_or_other}
 use Rattle.map_body.specs.Whole.{rows_at, content_of, tagged, all_rows, flat, store_in, NoCounterRow}
 use Rattle.map_body.proofs.Maps.{tied, untied, same_or_not, no_some}
 use Rattle.map_body.proofs.Flat.{AllSome, flat_entries, filter_flat, cells_of_flat, head_of, find_head, head_flat, length_flat, keys_flat, find_none}
@@ -127,11 +131,6 @@ counter_cells_read tables counters row none is = sym (ap (cells_of (store_in tab
 pub row_cells_read : (tables : List Rows) (counters : CellMap) (row : Row) → row ≢ counter_row → cells_in (row_in (rows_at tables row.table) row.bytes) ≡ cells_of (store_in tables counters) row
 row_cells_read tables counters row apart = sym (cells_of_row tables counters row ∙ ap cells_in (row_of_other tables counters row apart))
 
--- tests that answer alike
-filter_alike : {A : Type 0} (p q : A → Bool) → ((x : A) → p x ≡ q x) → (xs : List A) → filter p xs ≡ filter q xs
-filter_alike p q e [] = refl
-filter_alike {A = A} p q e (x ∷ xs) = λ i. cond (e x i) (x ∷ filter_alike p q e xs i) (filter_alike p q e xs i)
-
 filter_true : {A : Type 0} (xs : List A) → filter (λ (x : A). true) xs ≡ xs
 filter_true [] = refl
 filter_true {A = A} (x ∷ xs) = ap (λ (l : List A). x ∷ l) (filter_true xs)
@@ -180,23 +179,15 @@ found_passes {A = A} p (y ∷ xs) x is = at (p y) refl is (found_passes p xs x)
     at true e h rest = ap p (sym (ap (λ o. unwrap_or o y) h)) ∙ e
     at false e h rest = rest h
 
-first : (a b : Bool) → T (a && b) → T a
-first true b p = tt
-first false b p = p
-
-second : (a b : Bool) → T (a && b) → T b
-second true b p = p
-second false b p = absurd p
-
 found_stands : (p : List ℕ → Bool) (es : List (List ℕ × CellMap)) (e : List ℕ × CellMap) → T (is_sorted bytes_cmp es) → std.find (λ (x : List ℕ × CellMap). p x.0) es ≡ Some e → find bytes_cmp e.0 es ≡ Some e.1
 found_stands p [] e up is = absurd (no_some e is)
-found_stands p (y ∷ es) e up is = at (p y.0) is (found_stands p es e (second _ _ up))
+found_stands p (y ∷ es) e up is = at (p y.0) is (found_stands p es e (T_right _ _ up))
   where
     later : find bytes_cmp e.0 es ≡ Some e.1 → find bytes_cmp e.0 (y ∷ es) ≡ Some e.1
     later h = one (same_or_not e.0 y.0)
       where
         one : (e.0 ≡ y.0) ⊎ (e.0 ≢ y.0) → find bytes_cmp e.0 (y ∷ es) ≡ Some e.1
-        one (inl same) = absurd (no_some e.1 (sym (ap (λ (x : List ℕ). find bytes_cmp x es) same ∙ find_none bytes_cmp y.0 es (first _ _ up)) ∙ h))
+        one (inl same) = absurd (no_some e.1 (sym (ap (λ (x : List ℕ). find bytes_cmp x es) same ∙ find_none bytes_cmp y.0 es (T_left _ _ up)) ∙ h))
         one (inr ne) = ap (λ b. cond b (Some y.1) (find bytes_cmp e.0 es)) (untied e.0 y.0 ne) ∙ h
 
     at : (b : Bool) → cond b (Some y) (std.find (λ (x : List ℕ × CellMap). p x.0) es) ≡ Some e → (std.find (λ (x : List ℕ × CellMap). p x.0) es ≡ Some e → find bytes_cmp e.0 es ≡ Some e.1) → find bytes_cmp e.0 (y ∷ es) ≡ Some e.1

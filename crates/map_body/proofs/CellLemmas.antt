@@ -4,9 +4,9 @@ use Rattle.std.specs.Prelude.{Option, None, Some, nat_lt, is_some, slice_index_o
 use Rattle.std.specs.Cmp.Lexicographic.{nat_list_cmp_total}
 use Rattle.std.specs.FinMap.{empty, insert, remove, get, get-empty, len, len-insert, len-remove, len-empty, empty_of_len, contains_key}
 use Rattle.std.proofs.lemmas.Bool.Decides.{nat_tests}
-use Rattle.packed_cells.specs.Seeks.{bytes_cmp}
+use Rattle.list_lemmas.specs.BytesOrder.{bytes_cmp}
 use Rattle.packed_cells.specs.Keyed.{CellMap, goes, without, stamped, stamped_over}
-use Rattle.map_body.specs.Rows.{left, gone}
+use Rattle.map_body.specs.TableRows.{left, gone}
 
 grown : (n m : ℕ) (there : Bool) → m ≡ cond there n (n + 1) → m ≡ n + cond (nat_lt n m) 1 0
 grown n m true e = grind (arith, nat_tests, e)

@@ -7,16 +7,18 @@ use Rattle.std.specs.FinMap.{get, insert, remove, get-insert, get-remove, same_m
 use Rattle.std.proofs.lemmas.List.{get_or-set_same, get_or-set_other}
 use Rattle.row_key.specs.declared.tables.Table.{Table}
 use Rattle.row_key.specs.declared.tables.Table.TheVariants.{Ids, Names, Points}
-use Rattle.cell_model.specs.declared.cells.Row.{Row}
+use Rattle.cell_model.specs.declared.row.Row.{Row}
 use Rattle.cell_model.specs.declared.events.Place.{Place}
 use Rattle.cell_model.specs.declared.events.Content.{Content}
-use Rattle.cell_model.specs.Store.{Store, bytes_cmp, place_cmp, place_of, table_number, content_at, value_at, written, stamped, stamped_over, is_dropped, dropped, drop_count}
+use Rattle.cell_model.specs.Store.{Store, place_cmp, place_of, table_number, content_at, value_at, written, stamped, stamped_over, is_dropped, dropped, drop_count}
+use Rattle.list_lemmas.specs.BytesOrder.{bytes_cmp}
 use Rattle.cell_model.specs.Machine.{counter_row}
 use Rattle.packed_cells.specs.Keyed.{CellMap, goes, without}
 use Rattle.packed_cells.specs.Keyed as cells
-use Rattle.map_body.specs.Rows.{Rows, row_in, ChangesRow, left, gone}
+use Rattle.map_body.specs.TableRows.{Rows, row_in, ChangesRow, left, gone}
 use Rattle.map_body.specs.Whole.{rows_at, content_of, store_in, NoCounterRow}
-use Rattle.map_body.proofs.Orders.{rows_total, places_total, exact_rows, exact_places, same_row, parts, one_or_other}
+use Rattle.cell_model.proofs.CallerLemmas.{rows_total, places_total, exact_rows, exact_places}
+use Rattle.map_body.proofs.Orders.{same_row, parts, one_or_other}
 use Rattle.map_body.proofs.Tables.{row_of, look, row_of_counters, row_of_other}
 
 -- the row has these cells in the store

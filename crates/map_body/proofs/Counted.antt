@@ -8,10 +8,12 @@ use Rattle.std.proofs.lemmas.Bool.Decides.{nat_tests}
 use Rattle.std.specs.Ordering.{eq_by_cmp}
 use Rattle.std.specs.Cmp.Lexicographic.{nat_list_cmp_total}
 use Rattle.std.specs.FinMap.{find, is_sorted, entries, insert, get, get-insert, get-from_entries, same_map}
+use Rattle.list_lemmas.proofs.ListCuts.{joined, map_join}
 use Rattle.tsd_base.specs.declared.kinds.Kind.{Kind}
 use Rattle.tsd_base.specs.declared.kinds.Kind.TheVariants.{Metric, TagKey, TagValue}
 use Rattle.qual_codec.specs.declared.cells.Cell.{Cell}
-use Rattle.cell_model.specs.declared.cells.ListLine.{ListLine}
+use Rattle.row_key.specs.declared.ids.TheConstants.{MOST_IDS}
+use Rattle.cell_model.specs.declared.row.ListLine.{ListLine}
 use Rattle.cell_model.specs.declared.events.Place.{Place}
 use Rattle.cell_model.specs.declared.events.Content.{Content}
 use Rattle.cell_model.specs.Counts.{line_of}
@@ -19,7 +21,7 @@ use Rattle.map_body.specs.Whole.{placed}
 use Rattle.cell_model.specs.Machine.{kind_qual, counter_row}
 use Rattle.cell_model.specs.Sound.{IsCounter}
 use Rattle.cell_model.specs.Rising.{IsAboveCells}
-use Rattle.packed_cells.specs.Seeks.{bytes_cmp}
+use Rattle.list_lemmas.specs.BytesOrder.{bytes_cmp}
 use Rattle.packed_cells.specs.Keyed.{CellMap, cell_from, cells_in, stamped, stamped_over}
 use Rattle.map_body.specs.declared.counters.Counter.{Counter}
 use Rattle.map_body.specs.Counting.{shown, counter_cells, number_in, AllCounters}
@@ -185,7 +187,7 @@ pub number_is : (kind : Kind) (m k v : Counter) → (pick kind m k v).number < 2
 number_is kind m k v small = number_shown (pick kind m k v) small ∙ ap (λ o. option_map_or (from_be_bytes w64) (option_map (λ (p : List ℕ × ℕ). p.0) o) 0) (sym (get_kind kind m k v))
 
 -- each cell is a counter
-some_counter : (kind : Kind) (c : Counter) (value : List ℕ) (version : ℕ) → c.number ≤ 16777215 → value_of c ≡ Some (value, version) → IsCounter (kind_qual kind) value
+some_counter : (kind : Kind) (c : Counter) (value : List ℕ) (version : ℕ) → c.number ≤ MOST_IDS → value_of c ≡ Some (value, version) → IsCounter (kind_qual kind) value
 some_counter kind c value version most e = at (nat_eq c.number 0) refl e
   where
     at : (b : Bool) → nat_eq c.number 0 ≡ b → ◌≡◌ {A = Option (List ℕ × ℕ)} (cond b None (Some (to_be_bytes w64 c.number, c.version))) (Some (value, version)) → IsCounter (kind_qual kind) value
@@ -202,10 +204,10 @@ some_counter kind c value version most e = at (nat_eq c.number 0) refl e
       value_is = sym (ap (λ o. option_map_or (λ (p : List ℕ × ℕ). p.0) o value) is);
     }
 
-pub all_counters : (m k v : Counter) → m.number ≤ 16777215 → k.number ≤ 16777215 → v.number ≤ 16777215 → AllCounters (counter_cells m k v)
+pub all_counters : (m k v : Counter) → m.number ≤ MOST_IDS → k.number ≤ MOST_IDS → v.number ≤ MOST_IDS → AllCounters (counter_cells m k v)
 all_counters m k v mm km vm q = by_kind (λ q. (value : List ℕ) (version : ℕ) → get (counter_cells m k v) q ≡ Some (value, version) → IsCounter q value) each rest q
   where
-    most : (kind : Kind) → (pick kind m k v).number ≤ 16777215
+    most : (kind : Kind) → (pick kind m k v).number ≤ MOST_IDS
     most Metric = mm
     most TagKey = km
     most TagValue = vm
@@ -230,21 +232,13 @@ in_order false true false x y z = tt
 in_order false false true x y z = tt
 in_order false false false x y z = tt
 
-map_append : {A B : Type 0} (f : A → B) (xs ys : List A) → map f (xs ++ ys) ≡ map f xs ++ map f ys
-map_append f [] ys = refl
-map_append {B = B} f (x ∷ xs) ys = ap (λ (rest : List B). f x ∷ rest) (map_append f xs ys)
-
-joined : {A : Type 0} (xs ys zs : List A) → (xs ++ ys) ++ zs ≡ xs ++ (ys ++ zs)
-joined [] ys zs = refl
-joined {A = A} (x ∷ xs) ys zs = ap (λ (rest : List A). x ∷ rest) (joined xs ys zs)
-
 pub cells_shown : (m k v : Counter) (one two three : List Cell) → one ≡ [] ++ map cell_from (shown Metric m) → two ≡ one ++ map cell_from (shown TagKey k) → three ≡ two ++ map cell_from (shown TagValue v) → three ≡ cells_in (counter_cells m k v)
 cells_shown m k v one two three a b c =
     let x = map cell_from (shown Metric m) in
     let y = map cell_from (shown TagKey k) in
     let z = map cell_from (shown TagValue v) in
     c ∙ ap (λ (l : List Cell). l ++ z) (b ∙ ap (λ (l : List Cell). l ++ y) a) ∙ joined x y z
-    ∙ sym (map_append cell_from (shown Metric m) (shown TagKey k ++ shown TagValue v) ∙ ap (λ (l : List Cell). x ++ l) (map_append cell_from (shown TagKey k) (shown TagValue v)))
+    ∙ sym (map_join cell_from (shown Metric m) (shown TagKey k ++ shown TagValue v) ∙ ap (λ (l : List Cell). x ++ l) (map_join cell_from (shown TagKey k) (shown TagValue v)))
     ∙ ap (map cell_from) (sym (entries_sorted_list (shown Metric m ++ (shown TagKey k ++ shown TagValue v))
     (in_order (nat_eq m.number 0) (nat_eq k.number 0) (nat_eq v.number 0) (to_be_bytes w64 m.number, m.version) (to_be_bytes w64 k.number, k.version) (to_be_bytes w64 v.number, v.version))))
 
@@ -281,9 +275,9 @@ lines_shown m k v old one two three a b c =
     let z = map line_of (map (placed counter_row) (shown TagValue v)) in
     let es = shown Metric m ++ (shown TagKey k ++ shown TagValue v) in
     let parts : map line_of (map (placed counter_row) es) ≡ x ++ (y ++ z) =
-    ap (map line_of) (map_append (placed counter_row) (shown Metric m) (shown TagKey k ++ shown TagValue v) ∙ ap (λ (l : List (Place × Content)). map (placed counter_row) (shown Metric m) ++ l) (map_append (placed counter_row) (shown TagKey k) (shown TagValue v)))
-    ∙ map_append line_of (map (placed counter_row) (shown Metric m)) (map (placed counter_row) (shown TagKey k) ++ map (placed counter_row) (shown TagValue v))
-    ∙ ap (λ (l : List ListLine). x ++ l) (map_append line_of (map (placed counter_row) (shown TagKey k)) (map (placed counter_row) (shown TagValue v))) in
+    ap (map line_of) (map_join (placed counter_row) (shown Metric m) (shown TagKey k ++ shown TagValue v) ∙ ap (λ (l : List (Place × Content)). map (placed counter_row) (shown Metric m) ++ l) (map_join (placed counter_row) (shown TagKey k) (shown TagValue v)))
+    ∙ map_join line_of (map (placed counter_row) (shown Metric m)) (map (placed counter_row) (shown TagKey k) ++ map (placed counter_row) (shown TagValue v))
+    ∙ ap (λ (l : List ListLine). x ++ l) (map_join line_of (map (placed counter_row) (shown TagKey k)) (map (placed counter_row) (shown TagValue v))) in
     c ∙ ap (λ (l : List ListLine). l ++ z) (b ∙ ap (λ (l : List ListLine). l ++ y) a) ∙ joined (old ++ x) y z ∙ joined old x (y ++ z) ∙ ap (λ (l : List ListLine). old ++ l) (sym parts)
     ∙ ap (λ (l : List (List ℕ × (List ℕ × ℕ))). old ++ map line_of (map (placed counter_row) l)) (sym (entries_sorted_list es
     (in_order (nat_eq m.number 0) (nat_eq k.number 0) (nat_eq v.number 0) (to_be_bytes w64 m.number, m.version) (to_be_bytes w64 k.number, k.version) (to_be_bytes w64 v.number, v.version))))

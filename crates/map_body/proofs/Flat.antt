@@ -3,37 +3,24 @@ use Rattle.std.proofs.Common.{◌≡◌, ◌≢◌, ◌⊎◌, inl, inr, ℕ, su
 use Rattle.std.specs.Prelude.{Option, None, Some, unwrap_or, option_map, map, filter, sum_by, ◌&&◌, is_some}
 use Rattle.std.specs.Prelude as std
 use Rattle.std.specs.declared.cmp.Ordering.{Ordering}
-use Rattle.std.specs.declared.cmp.Ordering.TheVariants.{Less, Equal, Greater}
+use Rattle.std.specs.declared.cmp.Ordering.TheVariants.{Less}
 use Rattle.std.specs.Ordering.{eq_by_cmp, is_eq, is_lt, ordering_then}
 use Rattle.std.specs.Cmp.{IsTotalOrder}
 use Rattle.std.specs.FinMap.{FinMap, find, put, is_sorted, entries, from_entries, from_sorted, empty, get, get-empty, get-entries, get-from_entries, get-from_sorted, entries-from_sorted, entries-insert, entries_sorted, same_map, len, len-entries, empty_of_len, IsAntisymmetric, keys}
 use Rattle.std.specs.FinMap.Entries.{below_all}
-use Rattle.cell_model.specs.declared.cells.Row.{Row}
+use Rattle.cell_model.specs.declared.row.Row.{Row}
 use Rattle.cell_model.specs.declared.events.Place.{Place}
 use Rattle.cell_model.specs.declared.events.Content.{Content}
 use Rattle.qual_codec.specs.declared.cells.Cell.{Cell}
 use Rattle.std.proofs.lemmas.List.Sums.{sum_by-cons}
-use Rattle.cell_model.specs.Store.{bytes_cmp, row_cmp, place_cmp, place_of, cell_of}
+use Rattle.list_lemmas.proofs.ListCuts.{filter_join, map_join, nothing_behind}
+use Rattle.list_lemmas.proofs.BoolTests.{T_both, T_left, T_right, T_less}
+use Rattle.list_lemmas.specs.BytesOrder.{bytes_cmp}
+use Rattle.cell_model.specs.Store.{row_cmp, place_cmp, place_of, cell_of}
 use Rattle.packed_cells.specs.Keyed.{CellMap, cell_from, cells_in}
 use Rattle.map_body.specs.Whole.{content_of, placed, flat}
-use Rattle.map_body.proofs.Orders.{rows_total, places_total, exact_rows, exact_places, same_row, ties, parts, one_or_other}
-
-both : (a b : Bool) → T a → T b → T (a && b)
-both true b p q = q
-both false b p q = p
-
-first : (a b : Bool) → T (a && b) → T a
-first true b p = tt
-first false b p = p
-
-second : (a b : Bool) → T (a && b) → T b
-second true b p = p
-second false b p = absurd p
-
-less : (o : Ordering) → T (is_lt o) → o ≡ Less
-less Less p = refl
-less Equal p = absurd p
-less Greater p = absurd p
+use Rattle.cell_model.proofs.CallerLemmas.{rows_total, places_total, exact_rows, exact_places}
+use Rattle.map_body.proofs.Orders.{same_row, ties, parts, one_or_other}
 
 -- sorted lists, one behind the other
 module _ {K X : Type 0} (R : K → K → Ordering) where
@@ -43,11 +30,11 @@ module _ {K X : Type 0} (R : K → K → Ordering) where
 
   below_join : (k : K) (xs ys : List (K × X)) → T (below_all R k xs) → T (below_all R k ys) → T (below_all R k (xs ++ ys))
   below_join k [] ys p q = q
-  below_join k (x ∷ xs) ys p q = both _ _ (first _ _ p) (below_join k xs ys (second _ _ p) q)
+  below_join k (x ∷ xs) ys p q = T_both _ _ (T_left _ _ p) (below_join k xs ys (T_right _ _ p) q)
 
   pub sorted_join : (xs ys : List (K × X)) → T (is_sorted R xs) → T (is_sorted R ys) → AllBelow xs ys → T (is_sorted R (xs ++ ys))
   sorted_join [] ys p q b = q
-  sorted_join (x ∷ xs) ys p q b = both _ _ (below_join x.0 xs ys (first _ _ p) b.0) (sorted_join xs ys (second _ _ p) q b.1)
+  sorted_join (x ∷ xs) ys p q b = T_both _ _ (below_join x.0 xs ys (T_left _ _ p) b.0) (sorted_join xs ys (T_right _ _ p) q b.1)
 
   -- what is found in one list, or else in the next
   abbrev pub or_else : Option X → Option X → Option X
@@ -64,7 +51,7 @@ module _ {K X : Type 0} (R : K → K → Ordering) where
 
   pub find_none : (q : K) (es : List (K × X)) → T (below_all R q es) → find R q es ≡ None
   find_none q [] h = refl
-  find_none q (e ∷ es) h = ap (λ r. cond (is_eq r) (Some e.1) (find R q es)) (less _ (first _ _ h)) ∙ find_none q es (second _ _ h)
+  find_none q (e ∷ es) h = ap (λ r. cond (is_eq r) (Some e.1) (find R q es)) (T_less _ (T_left _ _ h)) ∙ find_none q es (T_right _ _ h)
 
   pub entries_in_order : IsTotalOrder R → IsAntisymmetric R → (es : List (K × X)) → T (is_sorted R es) → entries (from_entries {R = R} es) ≡ es
   entries_in_order o exact es up =
@@ -79,19 +66,19 @@ cells_at rows row = unwrap_or (find row_cmp row rows) empty
 placed_below : (row : Row) (q : List ℕ) (es : List (List ℕ × (List ℕ × ℕ))) → T (below_all bytes_cmp q es) → T (below_all place_cmp (place_of row q) (map (placed row) es))
 placed_below row q [] h = tt
 placed_below row q (e ∷ es) h =
-    both _ _ (subst (λ r. T (is_lt (ordering_then r (bytes_cmp q e.0)))) (sym (same_row row)) (first _ _ h)) (placed_below row q es (second _ _ h))
+    T_both _ _ (subst (λ r. T (is_lt (ordering_then r (bytes_cmp q e.0)))) (sym (same_row row)) (T_left _ _ h)) (placed_below row q es (T_right _ _ h))
 
 placed_sorted : (row : Row) (es : List (List ℕ × (List ℕ × ℕ))) → T (is_sorted bytes_cmp es) → T (is_sorted place_cmp (map (placed row) es))
 placed_sorted row [] h = tt
-placed_sorted row (e ∷ es) h = both _ _ (placed_below row e.0 es (first _ _ h)) (placed_sorted row es (second _ _ h))
+placed_sorted row (e ∷ es) h = T_both _ _ (placed_below row e.0 es (T_left _ _ h)) (placed_sorted row es (T_right _ _ h))
 
 other_below : (row other : Row) (q : List ℕ) (es : List (List ℕ × (List ℕ × ℕ))) → row_cmp row other ≡ Less → T (below_all place_cmp (place_of row q) (map (placed other) es))
 other_below row other q [] h = tt
-other_below row other q (e ∷ es) h = both _ _ (subst (λ r. T (is_lt (ordering_then r (bytes_cmp q e.0)))) (sym h) tt) (other_below row other q es h)
+other_below row other q (e ∷ es) h = T_both _ _ (subst (λ r. T (is_lt (ordering_then r (bytes_cmp q e.0)))) (sym h) tt) (other_below row other q es h)
 
 flat_below : (row : Row) (q : List ℕ) (rows : List (Row × CellMap)) → T (below_all row_cmp row rows) → T (below_all place_cmp (place_of row q) (flat rows))
 flat_below row q [] h = tt
-flat_below row q (r ∷ rows) h = below_join place_cmp (place_of row q) (map (placed r.0) (entries r.1)) (flat rows) (other_below row r.0 q (entries r.1) (less _ (first _ _ h))) (flat_below row q rows (second _ _ h))
+flat_below row q (r ∷ rows) h = below_join place_cmp (place_of row q) (map (placed r.0) (entries r.1)) (flat rows) (other_below row r.0 q (entries r.1) (T_less _ (T_left _ _ h))) (flat_below row q rows (T_right _ _ h))
 
 row_below : (row : Row) (es : List (List ℕ × (List ℕ × ℕ))) (rows : List (Row × CellMap)) → T (below_all row_cmp row rows) → AllBelow place_cmp (map (placed row) es) (flat rows)
 row_below row [] rows h = tt
@@ -100,7 +87,7 @@ row_below row (e ∷ es) rows h = (flat_below row e.0 rows h, row_below row es r
 pub flat_sorted : (rows : List (Row × CellMap)) → T (is_sorted row_cmp rows) → T (is_sorted place_cmp (flat rows))
 flat_sorted [] h = tt
 flat_sorted (r ∷ rows) h =
-    sorted_join place_cmp (map (placed r.0) (entries r.1)) (flat rows) (placed_sorted r.0 (entries r.1) (entries_sorted r.1)) (flat_sorted rows (second _ _ h)) (row_below r.0 (entries r.1) rows (first _ _ h))
+    sorted_join place_cmp (map (placed r.0) (entries r.1)) (flat rows) (placed_sorted r.0 (entries r.1) (entries_sorted r.1)) (flat_sorted rows (T_right _ _ h)) (row_below r.0 (entries r.1) rows (T_left _ _ h))
 
 pub flat_entries : (rows : List (Row × CellMap)) → T (is_sorted row_cmp rows) → entries (from_entries {R = place_cmp} (flat rows)) ≡ flat rows
 flat_entries rows h = entries_in_order place_cmp places_total exact_places (flat rows) (flat_sorted rows h)
@@ -126,7 +113,7 @@ find_elsewhere row other q (e ∷ es) ne =
 pub find_flat : (rows : List (Row × CellMap)) (row : Row) (q : List ℕ) → T (is_sorted row_cmp rows) → find place_cmp (place_of row q) (flat rows) ≡ option_map content_of (get (cells_at rows row) q)
 find_flat [] row q h = ap (option_map content_of) (sym (get-empty {X = List ℕ × ℕ} bytes_cmp q))
 find_flat (r ∷ rows) row q h =
-    find_join place_cmp (place_of row q) (map (placed r.0) (entries r.1)) (flat rows) ∙ at (one_or_other rows_total exact_rows row r.0) (find_flat rows row q (second _ _ h))
+    find_join place_cmp (place_of row q) (map (placed r.0) (entries r.1)) (flat rows) ∙ at (one_or_other rows_total exact_rows row r.0) (find_flat rows row q (T_right _ _ h))
   where
     found : Option Content
     found = find place_cmp (place_of row q) (map (placed r.0) (entries r.1))
@@ -135,7 +122,7 @@ find_flat (r ∷ rows) row q h =
         → or_else place_cmp (find place_cmp (place_of row q) (map (placed r.0) (entries r.1))) (find place_cmp (place_of row q) (flat rows)) ≡ option_map content_of (get (cells_at (r ∷ rows) row) q)
     at (inl same) rest =
         (λ i. or_else place_cmp ((ap (λ (x : Row). find place_cmp (place_of x q) (map (placed r.0) (entries r.1))) same ∙ find_here r.0 q (entries r.1)) i)
-        ((ap (λ (x : Row). find place_cmp (place_of x q) (flat rows)) same ∙ find_none place_cmp (place_of r.0 q) (flat rows) (flat_below r.0 q rows (first _ _ h))) i))
+        ((ap (λ (x : Row). find place_cmp (place_of x q) (flat rows)) same ∙ find_none place_cmp (place_of r.0 q) (flat rows) (flat_below r.0 q rows (T_left _ _ h))) i))
         ∙ none_after (option_map content_of (find bytes_cmp q (entries r.1)))
         ∙ ap (option_map content_of) (sym (get-entries r.1 q))
         ∙ ap (λ b. option_map content_of (get (unwrap_or (cond b (Some r.1) (find row_cmp row rows)) empty) q)) (sym (ap (λ (x : Row). eq_by_cmp row_cmp x r.0) same ∙ ties rows_total exact_rows r.0))
@@ -148,14 +135,6 @@ find_flat (r ∷ rows) row q h =
         ∙ ap (λ b. option_map content_of (get (unwrap_or (cond b (Some r.1) (find row_cmp row rows)) empty) q)) (sym (parts rows_total exact_rows row r.0 ne))
 
 -- the entries of some rows
-filter_join : {A : Type 0} (p : A → Bool) (xs ys : List A) → filter p (xs ++ ys) ≡ filter p xs ++ filter p ys
-filter_join p [] ys = refl
-filter_join {A = A} p (x ∷ xs) ys = at (p x) (filter_join p xs ys)
-  where
-    at : (b : Bool) → filter p (xs ++ ys) ≡ filter p xs ++ filter p ys → cond b (x ∷ filter p (xs ++ ys)) (filter p (xs ++ ys)) ≡ cond b (x ∷ filter p xs) (filter p xs) ++ filter p ys
-    at true e = ap (λ (l : List A). x ∷ l) e
-    at false e = e
-
 filter_placed : (p : Row → Bool) (row : Row) (b : Bool) → p row ≡ b → (es : List (List ℕ × (List ℕ × ℕ))) → filter (λ (e : Place × Content). p e.0.row) (map (placed row) es) ≡ cond b (map (placed row) es) []
 filter_placed p row true is [] = refl
 filter_placed p row false is [] = refl
@@ -181,16 +160,12 @@ filter_flat p (r ∷ rows) =
 no_such : (row : Row) (rows : List (Row × CellMap)) → T (below_all row_cmp row rows) → filter (λ (r : Row × CellMap). eq_by_cmp row_cmp row r.0) rows ≡ []
 no_such row [] h = refl
 no_such row (r ∷ rows) h =
-    ap (λ o. cond (is_eq o) (r ∷ filter (λ (x : Row × CellMap). eq_by_cmp row_cmp row x.0) rows) (filter (λ (x : Row × CellMap). eq_by_cmp row_cmp row x.0) rows)) (less _ (first _ _ h))
-    ∙ no_such row rows (second _ _ h)
+    ap (λ o. cond (is_eq o) (r ∷ filter (λ (x : Row × CellMap). eq_by_cmp row_cmp row x.0) rows) (filter (λ (x : Row × CellMap). eq_by_cmp row_cmp row x.0) rows)) (T_less _ (T_left _ _ h))
+    ∙ no_such row rows (T_right _ _ h)
 
 cells_placed : (row : Row) (es : List (List ℕ × (List ℕ × ℕ))) → map cell_of (map (placed row) es) ≡ map cell_from es
 cells_placed row [] = refl
 cells_placed row (e ∷ es) = ap (λ (l : List Cell). cell_from e ∷ l) (cells_placed row es)
-
-pub none_behind : {A : Type 0} (xs : List A) → xs ++ [] ≡ xs
-none_behind [] = refl
-none_behind {A = A} (x ∷ xs) = ap (λ (l : List A). x ∷ l) (none_behind xs)
 
 pub cells_of_flat : (rows : List (Row × CellMap)) (row : Row) → T (is_sorted row_cmp rows) → map cell_of (flat (filter (λ (r : Row × CellMap). eq_by_cmp row_cmp row r.0) rows)) ≡ cells_in (cells_at rows row)
 cells_of_flat [] row h = sym (ap (map cell_from) (no_entries empty (len_none)))
@@ -204,7 +179,7 @@ cells_of_flat [] row h = sym (ap (map cell_from) (no_entries empty (len_none)))
         nil : (es : List (List ℕ × (List ℕ × ℕ))) → length es ≡ 0 → es ≡ []
         nil [] e = refl
         nil (x ∷ es) e = absurd (omega (arith, e))
-cells_of_flat (r ∷ rows) row h = at (one_or_other rows_total exact_rows row r.0) (cells_of_flat rows row (second _ _ h))
+cells_of_flat (r ∷ rows) row h = at (one_or_other rows_total exact_rows row r.0) (cells_of_flat rows row (T_right _ _ h))
   where
     rest : List (Row × CellMap)
     rest = filter (λ (x : Row × CellMap). eq_by_cmp row_cmp row x.0) rows
@@ -213,9 +188,9 @@ cells_of_flat (r ∷ rows) row h = at (one_or_other rows_total exact_rows row r.
         → map cell_of (flat (cond (eq_by_cmp row_cmp row r.0) (r ∷ filter (λ (x : Row × CellMap). eq_by_cmp row_cmp row x.0) rows) (filter (λ (x : Row × CellMap). eq_by_cmp row_cmp row x.0) rows))) ≡ cells_in (cells_at (r ∷ rows) row)
     at (inl same) _ =
         let tie : eq_by_cmp row_cmp row r.0 ≡ true = ap (λ (x : Row). eq_by_cmp row_cmp x r.0) same ∙ ties rows_total exact_rows r.0 in
-        let none : filter (λ (x : Row × CellMap). eq_by_cmp row_cmp row x.0) rows ≡ [] = ap (λ (y : Row). filter (λ (x : Row × CellMap). eq_by_cmp row_cmp y x.0) rows) same ∙ no_such r.0 rows (first _ _ h) in
+        let none : filter (λ (x : Row × CellMap). eq_by_cmp row_cmp row x.0) rows ≡ [] = ap (λ (y : Row). filter (λ (x : Row × CellMap). eq_by_cmp row_cmp y x.0) rows) same ∙ no_such r.0 rows (T_left _ _ h) in
         (λ i. map cell_of (flat (cond (tie i) (r ∷ none i) (none i))))
-        ∙ ap (map cell_of) (none_behind (map (placed r.0) (entries r.1)))
+        ∙ ap (map cell_of) (nothing_behind (map (placed r.0) (entries r.1)))
         ∙ cells_placed r.0 (entries r.1)
         ∙ ap (λ b. cells_in (unwrap_or (cond b (Some r.1) (find row_cmp row rows)) empty)) (sym tie)
     at (inr ne) e =
@@ -274,10 +249,6 @@ abbrev first_qual : List (List ℕ × (List ℕ × ℕ)) → List ℕ
 first_qual [] = []
 first_qual (e ∷ es) = e.0
 
-map_join : {A B : Type 0} (f : A → B) (xs ys : List A) → map f (xs ++ ys) ≡ map f xs ++ map f ys
-map_join f [] ys = refl
-map_join {B = B} f (x ∷ xs) ys = ap (λ (l : List B). f x ∷ l) (map_join f xs ys)
-
 find_named_other : (row other : Row) (es : List (List ℕ × (List ℕ × ℕ))) → row ≢ other → find row_cmp row (map (λ (e : Place × Content). (e.0.row, e.0.qual)) (map (placed other) es)) ≡ None
 find_named_other row other [] ne = refl
 find_named_other row other (e ∷ es) ne =
@@ -311,11 +282,11 @@ find_named (r ∷ rows) row some =
 
 named_below : (row : Row) (rows : List (Row × CellMap)) → T (below_all row_cmp row rows) → T (below_all row_cmp row (map (λ (r : Row × CellMap). (r.0, first_qual (entries r.1))) rows))
 named_below row [] h = tt
-named_below row (r ∷ rows) h = both _ _ (first _ _ h) (named_below row rows (second _ _ h))
+named_below row (r ∷ rows) h = T_both _ _ (T_left _ _ h) (named_below row rows (T_right _ _ h))
 
 named_sorted : (rows : List (Row × CellMap)) → T (is_sorted row_cmp rows) → T (is_sorted row_cmp (map (λ (r : Row × CellMap). (r.0, first_qual (entries r.1))) rows))
 named_sorted [] h = tt
-named_sorted (r ∷ rows) h = both _ _ (named_below r.0 rows (first _ _ h)) (named_sorted rows (second _ _ h))
+named_sorted (r ∷ rows) h = T_both _ _ (named_below r.0 rows (T_left _ _ h)) (named_sorted rows (T_right _ _ h))
 
 named_keys : (rows : List (Row × CellMap)) → map (λ (e : Row × List ℕ). e.0) (map (λ (r : Row × CellMap). (r.0, first_qual (entries r.1))) rows) ≡ map (λ (r : Row × CellMap). r.0) rows
 named_keys [] = refl

@@ -5,7 +5,7 @@ pub mod Orders
 pub mod Flat
 pub mod Tables
 pub mod Changes
-pub mod Lists
+pub mod CellLines
 pub mod Bodies
 pub mod Ranges
 pub mod Listings

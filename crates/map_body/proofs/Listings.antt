@@ -1,6 +1,6 @@
 -- The lines of all rows.
 use Rattle.std.proofs.Common.{◌≡◌, ℕ, zero, suc, ◌+◌, ◌≤◌, ◌<◌, Bool, true, false, cond, T, List, [], ◌∷◌, ◌++◌, length, map, refl, sym, ap, subst, ◌∙◌, arith, nat_eq}
-use Rattle.std.specs.Prelude.{Option, None, Some, unwrap_or, take, slice_index_or, not, ◌&&◌, MatchOption, option_map}
+use Rattle.std.specs.Prelude.{Option, None, Some, unwrap_or, take, slice_index_or, not, MatchOption, option_map, All, Result, Ok, Err, IfOk, OnErr}
 use Rattle.std.specs.declared.cmp.Ordering.{Ordering}
 use Rattle.std.specs.declared.cmp.Ordering.TheVariants.{Less, Equal, Greater}
 use Rattle.std.specs.Ordering.{is_eq, is_lt, is_le, ordering_reverse}
@@ -11,63 +11,47 @@ use Rattle.std.proofs.lemmas.Bool.Decides.{nat_tests}
 use Rattle.std.proofs.lemmas.List.{get_or-take, get_or_default}
 use Rattle.row_key.specs.declared.tables.Table.{Table}
 use Rattle.row_key.specs.declared.tables.Table.TheVariants.{Ids, Names, Points}
-use Rattle.cell_model.specs.declared.cells.Row.{Row}
-use Rattle.cell_model.specs.declared.cells.ListLine.{ListLine}
+use Rattle.cell_model.specs.declared.row.Row.{Row}
+use Rattle.cell_model.specs.declared.row.ListLine.{ListLine}
 use Rattle.cell_model.specs.declared.events.Place.{Place}
 use Rattle.cell_model.specs.declared.events.Content.{Content}
-use Rattle.cell_model.specs.Store.{bytes_cmp, place_cmp}
+use Rattle.list_lemmas.specs.BytesOrder.{bytes_cmp}
+use Rattle.cell_model.specs.Store.{place_cmp}
 use Rattle.cell_model.specs.Counts.{line_of, lines_of}
 use Rattle.cell_model.specs.Rising.{LinesRise, place_of_line, Adds}
-use Rattle.std.specs.Prelude.{All, Result, Ok, Err, IfOk, OnErr}
 use Rattle.std.proofs.lemmas.List.Elements.{All-push}
+use Rattle.list_lemmas.proofs.BoolTests.{T_both, T_left, T_right, T_less}
 use Rattle.cell_model.specs.Listed.{store_of, entry_of_line}
 use Rattle.cell_model.specs.Machine.{counter_row}
 use Rattle.packed_cells.specs.Keyed.{CellMap}
-use Rattle.map_body.specs.Rows.{Rows, row_in, NoneEmpty, rows_below, rows_from}
+use Rattle.map_body.specs.TableRows.{Rows, row_in, NoneEmpty, rows_below, rows_from}
 use Rattle.map_body.specs.Whole.{rows_at, tagged, all_rows, placed, flat, store_in, lines_in, NoCounterRow, HasNoFlaw}
 use Rattle.map_body.proofs.Maps.{no_some}
-use Rattle.map_body.proofs.Orders.{places_total, exact_places}
+use Rattle.cell_model.proofs.CallerLemmas.{places_total, exact_places}
 use Rattle.map_body.proofs.Flat.{flat_entries, head_of}
 use Rattle.map_body.proofs.Tables.{sheet, all_sorted}
-use Rattle.map_body.proofs.Lists.{joined, take_next}
-
-first : (a b : Bool) → T (a && b) → T a
-first true b p = tt
-first false b p = p
-
-second : (a b : Bool) → T (a && b) → T b
-second true b p = p
-second false b p = absurd p
-
-both : (a b : Bool) → T a → T b → T (a && b)
-both true b p q = q
-both false b p q = p
-
-less : (o : Ordering) → T (is_lt o) → o ≡ Less
-less Less p = refl
-less Equal p = absurd p
-less Greater p = absurd p
+use Rattle.list_lemmas.proofs.ListCuts.{joined, take_next, map_join}
 
 further : (x y : List ℕ) (es : List (List ℕ × CellMap)) → bytes_cmp x y ≡ Less → T (below_all bytes_cmp y es) → T (below_all bytes_cmp x es)
 further x y [] p h = tt
-further x y (e ∷ es) p h = both _ _ (subst (λ r. T (is_lt r)) (sym (nat_list_cmp_total.trans x y e.0 p (less _ (first _ _ h)))) tt) (further x y es p (second _ _ h))
+further x y (e ∷ es) p h = T_both _ _ (subst (λ r. T (is_lt r)) (sym (nat_list_cmp_total.trans x y e.0 p (T_less _ (T_left _ _ h)))) tt) (further x y es p (T_right _ _ h))
 
 -- the rows behind a key
 behind : (k : List ℕ) (es : List (List ℕ × CellMap)) → T (below_all bytes_cmp k es) → (rows_below k es ≡ []) × (rows_from k es ≡ es)
 behind k [] h = (refl, refl)
 behind k (e ∷ es) h =
-    let rest = behind k es (second _ _ h) in
-    let is : bytes_cmp k e.0 ≡ Less = less _ (first _ _ h) in
+    let rest = behind k es (T_right _ _ h) in
+    let is : bytes_cmp k e.0 ≡ Less = T_less _ (T_left _ _ h) in
     (ap (λ r. cond (not (is_le r)) (e ∷ rows_below k es) (rows_below k es)) is ∙ rest.0, ap (λ r. cond (is_le r) (e ∷ rows_from k es) (rows_from k es)) is ∙ ap (λ (l : List (List ℕ × CellMap)). e ∷ l) rest.1)
 
 -- rows are those below a key and those from it on, and a new row stands between
 split_rows : (k : List ℕ) (v : CellMap) (es : List (List ℕ × CellMap)) → T (is_sorted bytes_cmp es) → find bytes_cmp k es ≡ None → (es ≡ rows_below k es ++ rows_from k es) × (put bytes_cmp k v es ≡ rows_below k es ++ (k, v) ∷ rows_from k es)
 split_rows k v [] up none = (refl, refl)
-split_rows k v (e ∷ es) up none = at (bytes_cmp k e.0) refl (split_rows k v es (second _ _ up))
+split_rows k v (e ∷ es) up none = at (bytes_cmp k e.0) refl (split_rows k v es (T_right _ _ up))
   where
     at : (r : Ordering) → bytes_cmp k e.0 ≡ r → (find bytes_cmp k es ≡ None → (es ≡ rows_below k es ++ rows_from k es) × (put bytes_cmp k v es ≡ rows_below k es ++ (k, v) ∷ rows_from k es)) → (e ∷ es ≡ rows_below k (e ∷ es) ++ rows_from k (e ∷ es)) × (put bytes_cmp k v (e ∷ es) ≡ rows_below k (e ∷ es) ++ (k, v) ∷ rows_from k (e ∷ es))
     at Less is _ =
-        let b = behind k (e ∷ es) (both _ _ (subst (λ r. T (is_lt r)) (sym is) tt) (further k e.0 es is (first _ _ up))) in (
+        let b = behind k (e ∷ es) (T_both _ _ (subst (λ r. T (is_lt r)) (sym is) tt) (further k e.0 es is (T_left _ _ up))) in (
           (λ i. sym b.0 i ++ sym b.1 i),
           ap (λ r. by_order r ((k, v) ∷ e ∷ es) ((e.0, v) ∷ es) (e ∷ put bytes_cmp k v es)) is ∙ (λ i. sym b.0 i ++ (k, v) ∷ sym b.1 i),
         )
@@ -89,10 +73,6 @@ from_none (e ∷ es) = at e.0 (from_none es)
     at (x ∷ q) h = ap (λ (l : List (List ℕ × CellMap)). e ∷ l) h
 
 -- lines of rows behind rows
-map_join : {A B : Type 0} (f : A → B) (xs ys : List A) → map f (xs ++ ys) ≡ map f xs ++ map f ys
-map_join f [] ys = refl
-map_join {B = B} f (x ∷ xs) ys = ap (λ (l : List B). f x ∷ l) (map_join f xs ys)
-
 flat_join : (xs ys : List (Row × CellMap)) → flat (xs ++ ys) ≡ flat xs ++ flat ys
 flat_join [] ys = refl
 flat_join (x ∷ xs) ys = ap (λ (l : List (Place × Content)). map (placed x.0) (entries x.1) ++ l) (flat_join xs ys) ∙ sym (joined (map (placed x.0) (entries x.1)) (flat xs) (flat ys))

@@ -1,10 +1,8 @@
 -- A tree of rows as a finite map.
 use Rattle.std.proofs.Common.{◌≡◌, ◌≢◌, ◌⊎◌, inl, inr, ℕ, ◌+◌, Bool, true, false, cond, T, List, [], ◌∷◌, refl, sym, ap, subst, ◌∙◌, arith}
-use Rattle.std.specs.Prelude.{None, Some, unwrap_or, ◌&&◌, sum_by, IsSome, is_some, option_map}
-use Rattle.std.specs.declared.cmp.Ordering.{Ordering}
-use Rattle.std.specs.declared.cmp.Ordering.TheVariants.{Less, Equal, Greater}
+use Rattle.std.specs.Prelude.{None, Some, unwrap_or, sum_by, IsSome, is_some, option_map, Result, Ok, Err, OnErr}
+use Rattle.std.specs.declared.cmp.Ordering.TheVariants.{Less}
 use Rattle.std.specs.Ordering.{eq_by_cmp, is_eq, is_lt}
-use Rattle.std.specs.Prelude.{Result, Ok, Err, OnErr}
 use Rattle.std.specs.Cmp.{eq_by_cmp_equiv, tied_itself}
 use Rattle.std.specs.Cmp.Lexicographic.{nat_list_cmp_total}
 use Rattle.std.specs.List.{AllByRecursion}
@@ -15,17 +13,13 @@ use Rattle.std.specs.BTreeMap.{BTreeMap, is_at, IsOrdered, WritesThrough}
 use Rattle.std.specs.BTreeMap as tree
 use Rattle.std.specs.FinMap.{find, is_sorted, entries, from_entries, from_sorted, empty, insert, remove, get, get-empty, get-insert, get-remove, get-from_entries, get-from_sorted, entries-from_sorted, same_map, slice_cmp-IsAntisymmetric, nat_cmp-IsAntisymmetric, IsAntisymmetric, len, len-insert, len-empty}
 use Rattle.std.specs.FinMap.Entries.{below_all}
-use Rattle.packed_cells.specs.Seeks.{bytes_cmp}
+use Rattle.list_lemmas.proofs.BoolTests.{T_both, is_equal}
+use Rattle.list_lemmas.specs.BytesOrder.{bytes_cmp}
 use Rattle.packed_cells.specs.Keyed.{CellMap}
-use Rattle.map_body.specs.Rows.{Rows, rows_of, count_of, row_in, NoneEmpty, ChangesRow}
+use Rattle.map_body.specs.TableRows.{Rows, rows_of, count_of, row_in, NoneEmpty, ChangesRow}
 
 pub exact : IsAntisymmetric bytes_cmp
 exact = slice_cmp-IsAntisymmetric nat_cmp-IsAntisymmetric
-
-pub equal : (r : Ordering) → is_eq r ≡ true → r ≡ Equal
-equal Less e = cc
-equal Equal e = refl
-equal Greater e = cc
 
 pub tied : (q : List ℕ) → eq_by_cmp bytes_cmp q q ≡ true
 tied q = ap is_eq (tied_itself nat_list_cmp_total q)
@@ -34,19 +28,15 @@ pub untied : (p q : List ℕ) → p ≢ q → eq_by_cmp bytes_cmp p q ≡ false
 untied p q ne = at (eq_by_cmp bytes_cmp p q) refl
   where
     at : (b : Bool) → eq_by_cmp bytes_cmp p q ≡ b → b ≡ false
-    at true e = absurd (ne (exact p q (equal _ e)))
+    at true e = absurd (ne (exact p q (is_equal _ e)))
     at false e = refl
 
 pub same_or_not : (p q : List ℕ) → (p ≡ q) ⊎ (p ≢ q)
 same_or_not p q = at (eq_by_cmp bytes_cmp p q) refl
   where
     at : (b : Bool) → eq_by_cmp bytes_cmp p q ≡ b → (p ≡ q) ⊎ (p ≢ q)
-    at true e = inl (exact p q (equal _ e))
+    at true e = inl (exact p q (is_equal _ e))
     at false e = inr (λ same. let t : true ≡ false = sym (tied q) ∙ ap (λ x. eq_by_cmp bytes_cmp x q) (sym same) ∙ e in cc)
-
-both : (a b : Bool) → T a → T b → T (a && b)
-both true b p q = q
-both false b p q = p
 
 pub no_some : {X : Type 0} (x : X) → None ≡ Some x → ⊥
 no_some x h = cc
@@ -72,12 +62,12 @@ module _ {X : Type 0} where
   -- a tree in order is its map's entries
   below_keys : (x : List ℕ) (es : List (List ℕ × X)) → AllByRecursion (λ y. bytes_cmp x y ≡ Less) (keys_of es) → T (below_all bytes_cmp x es)
   below_keys x [] all = tt
-  below_keys x (e ∷ es) all = both _ _ (subst (λ r. T (is_lt r)) (sym all.0) tt) (below_keys x es all.1)
+  below_keys x (e ∷ es) all = T_both _ _ (subst (λ r. T (is_lt r)) (sym all.0) tt) (below_keys x es all.1)
 
   pub sorted_tree : (es : List (List ℕ × X)) → IsStrictlySortedBy bytes_cmp (keys_of es) → T (is_sorted bytes_cmp es)
   unfolding IsStrictlySortedBy
   sorted_tree [] up = tt
-  sorted_tree (e ∷ es) up = both _ _ (below_keys e.0 es up.0) (sorted_tree es up.1)
+  sorted_tree (e ∷ es) up = T_both _ _ (below_keys e.0 es up.0) (sorted_tree es up.1)
 
   pub entries_sorted_list : (es : List (List ℕ × X)) → T (is_sorted bytes_cmp es) → entries (from_entries {R = bytes_cmp} es) ≡ es
   entries_sorted_list es up =

@@ -10,9 +10,10 @@ use Rattle.std.specs.Map.{values_of}
 use Rattle.std.specs.BTreeMap.{BTreeMap, IsOrdered}
 use Rattle.std.specs.FinMap.{entries, len}
 use Rattle.std.proofs.lemmas.List.Sums.{sum_by-cons}
-use Rattle.packed_cells.specs.Seeks.{bytes_cmp}
+use Rattle.list_lemmas.proofs.ListCuts.{filter_alike}
+use Rattle.list_lemmas.specs.BytesOrder.{bytes_cmp}
 use Rattle.packed_cells.specs.Keyed.{CellMap}
-use Rattle.map_body.specs.Rows.{rows_of, count_of, cells_among, is_within, rows_below, rows_from}
+use Rattle.map_body.specs.TableRows.{rows_of, count_of, cells_among, is_within, rows_below, rows_from}
 use Rattle.map_body.proofs.Maps.{entries_tree}
 use Rattle.map_body.proofs.Flat.{head_of, find_head}
 
@@ -40,10 +41,6 @@ alike Greater Greater = refl
 
 pub within_alike : (from to q : List ℕ) → (is_le (bytes_cmp from q) && not (is_le (bytes_cmp to q))) ≡ is_within from to q
 within_alike from to q = alike (bytes_cmp from q) (bytes_cmp to q) ∙ (λ i. not (is_lt (sym (back q from) i)) && is_lt (sym (back q to) i))
-
-filter_alike : {A : Type 0} (p q : A → Bool) → ((x : A) → p x ≡ q x) → (xs : List A) → filter p xs ≡ filter q xs
-filter_alike p q e [] = refl
-filter_alike {A = A} p q e (x ∷ xs) = λ i. cond (e x i) (x ∷ filter_alike p q e xs i) (filter_alike p q e xs i)
 
 pub first_within : (m : BTreeMap (List ℕ) CellMap) (from to : List ℕ) (part : List (List ℕ × CellMap)) → IsOrdered bytes_cmp m → part ≡ filter (λ (e : List ℕ × CellMap). is_le (bytes_cmp from e.0) && not (is_le (bytes_cmp to e.0))) m.entries
     → head_of part ≡ std.find (λ (r : List ℕ × CellMap). is_within from to r.0) (entries (rows_of m))

@@ -1,8 +1,7 @@
 -- Lines that are added in their order.
 use Rattle.std.proofs.Common.{◌≡◌, ℕ, zero, suc, ◌<◌, Bool, true, false, cond, T, List, [], ◌∷◌, ◌++◌, length, get_or, map, refl, sym, ap, subst, ◌∙◌, arith}
-use Rattle.std.specs.Prelude.{take, filter, slice_index_or, not, ◌&&◌}
-use Rattle.std.specs.declared.cmp.Ordering.{Ordering}
-use Rattle.std.specs.declared.cmp.Ordering.TheVariants.{Less, Equal, Greater}
+use Rattle.std.specs.Prelude.{take, filter, slice_index_or, not}
+use Rattle.std.specs.declared.cmp.Ordering.TheVariants.{Less}
 use Rattle.std.specs.Ordering.{is_lt, is_le}
 use Rattle.std.specs.FinMap.{entries, is_sorted, entries_sorted}
 use Rattle.std.specs.FinMap.Entries.{below_all}
@@ -12,18 +11,20 @@ use Rattle.std.proofs.lemmas.List.Sums.{list_all-from_AllPass}
 use Rattle.row_key.specs.declared.tables.Table.{Table}
 use Rattle.row_key.specs.declared.tables.Table.TheVariants.{Ids, Names, Points}
 use Rattle.qual_codec.specs.declared.cells.Cell.{Cell}
-use Rattle.cell_model.specs.declared.cells.ListLine.{ListLine}
+use Rattle.cell_model.specs.declared.row.ListLine.{ListLine}
 use Rattle.cell_model.specs.declared.events.Place.{Place}
 use Rattle.cell_model.specs.declared.events.Content.{Content}
-use Rattle.cell_model.specs.Store.{Store, bytes_cmp, place_cmp}
+use Rattle.cell_model.specs.Store.{Store, place_cmp}
+use Rattle.list_lemmas.specs.BytesOrder.{bytes_cmp}
 use Rattle.cell_model.specs.Counts.{line_of, lines_of}
 use Rattle.cell_model.specs.Rising.{LinesRise, is_above, place_of_line}
 use Rattle.packed_cells.specs.Keyed.{CellMap, cells_in}
-use Rattle.map_body.specs.Rows.{Rows, NoneEmpty, rows_below, rows_from}
+use Rattle.map_body.specs.TableRows.{Rows, NoneEmpty, rows_below, rows_from}
 use Rattle.map_body.specs.Whole.{rows_at, NoCounterRow, store_in, placed, tagged, flat, lines_in}
 use Rattle.tsd_base.specs.declared.kinds.Kind.{Kind}
 use Rattle.tsd_base.specs.declared.kinds.Kind.TheVariants.{Metric, TagKey, TagValue}
 use Rattle.std.specs.Int.{w64, to_be_bytes}
+use Rattle.list_lemmas.proofs.BoolTests.{T_both, T_left, T_right, T_less}
 use Rattle.cell_model.specs.Machine.{kind_qual, counter_row}
 use Rattle.map_body.specs.declared.counters.Counter.{Counter}
 use Rattle.map_body.specs.Counting.{shown, counter_cells}
@@ -31,24 +32,8 @@ use Rattle.map_body.proofs.Counted.{one_shown, lines_shown}
 use Rattle.map_body.proofs.Listings.{all_listed}
 use Rattle.map_body.proofs.Flat.{flat_sorted}
 use Rattle.map_body.proofs.Tables.{tagged_sorted}
-use Rattle.map_body.proofs.Lists.{joined, line_at, same_lines, lines_next}
-
-first : (a b : Bool) → T (a && b) → T a
-first true b p = tt
-first false b p = p
-
-second : (a b : Bool) → T (a && b) → T b
-second true b p = p
-second false b p = absurd p
-
-both : (a b : Bool) → T a → T b → T (a && b)
-both true b p q = q
-both false b p q = p
-
-less : (o : Ordering) → T (is_lt o) → o ≡ Less
-less Less p = refl
-less Equal p = absurd p
-less Greater p = absurd p
+use Rattle.list_lemmas.proofs.ListCuts.{joined}
+use Rattle.map_body.proofs.CellLines.{line_at, same_lines, lines_next}
 
 longer : {A : Type 0} (xs ys : List A) (n : ℕ) → n < length xs → n < length (xs ++ ys)
 longer [] ys n lt = absurd (omega (arith, lt))
@@ -76,15 +61,15 @@ above_prefix xs y ys up =
 -- the lines of sorted entries rise
 below_at : (p : Place) (es : List (Place × Content)) → T (below_all place_cmp p es) → (j : ℕ) (d : ListLine) → j < length (map line_of es) → place_cmp p (place_of_line (get_or (map line_of es) j d)) ≡ Less
 below_at p [] h j d lt = absurd (omega (arith, lt))
-below_at p (e ∷ es) h zero d lt = less _ (first _ _ h)
-below_at p (e ∷ es) h (suc j) d lt = below_at p es (second _ _ h) j d (omega (arith, lt))
+below_at p (e ∷ es) h zero d lt = T_less _ (T_left _ _ h)
+below_at p (e ∷ es) h (suc j) d lt = below_at p es (T_right _ _ h) j d (omega (arith, lt))
 
 pub lines_rise : (es : List (Place × Content)) → T (is_sorted place_cmp es) → LinesRise (map line_of es)
 lines_rise [] up i j d lt within = absurd (omega (arith, within))
 lines_rise (e ∷ es) up zero zero d lt within = absurd (omega (arith, lt))
 lines_rise (e ∷ es) up (suc i) zero d lt within = absurd (omega (arith, lt))
-lines_rise (e ∷ es) up zero (suc j) d lt within = below_at e.0 es (first _ _ up) j d (omega (arith, within))
-lines_rise (e ∷ es) up (suc i) (suc j) d lt within = lines_rise es (second _ _ up) i j d (omega (arith, lt)) (omega (arith, within))
+lines_rise (e ∷ es) up zero (suc j) d lt within = below_at e.0 es (T_left _ _ up) j d (omega (arith, within))
+lines_rise (e ∷ es) up (suc i) (suc j) d lt within = lines_rise es (T_right _ _ up) i j d (omega (arith, lt)) (omega (arith, within))
 
 pub store_rises : (s : Store) → LinesRise (lines_of s)
 store_rises s = lines_rise (entries s) (entries_sorted s)
@@ -92,18 +77,18 @@ store_rises s = lines_rise (entries s) (entries_sorted s)
 -- so do those of some of a table's rows
 some_below : (p : List ℕ × CellMap → Bool) (k : List ℕ) (es : List (List ℕ × CellMap)) → T (below_all bytes_cmp k es) → T (below_all bytes_cmp k (filter p es))
 some_below p k [] h = tt
-some_below p k (e ∷ es) h = at (p e) (some_below p k es (second _ _ h))
+some_below p k (e ∷ es) h = at (p e) (some_below p k es (T_right _ _ h))
   where
     at : (b : Bool) → T (below_all bytes_cmp k (filter p es)) → T (below_all bytes_cmp k (cond b (e ∷ filter p es) (filter p es)))
-    at true rest = both _ _ (first _ _ h) rest
+    at true rest = T_both _ _ (T_left _ _ h) rest
     at false rest = rest
 
 some_sorted : (p : List ℕ × CellMap → Bool) (es : List (List ℕ × CellMap)) → T (is_sorted bytes_cmp es) → T (is_sorted bytes_cmp (filter p es))
 some_sorted p [] h = tt
-some_sorted p (e ∷ es) h = at (p e) (some_sorted p es (second _ _ h))
+some_sorted p (e ∷ es) h = at (p e) (some_sorted p es (T_right _ _ h))
   where
     at : (b : Bool) → T (is_sorted bytes_cmp (filter p es)) → T (is_sorted bytes_cmp (cond b (e ∷ filter p es) (filter p es)))
-    at true rest = both _ _ (some_below p e.0 es (first _ _ h)) rest
+    at true rest = T_both _ _ (some_below p e.0 es (T_left _ _ h)) rest
     at false rest = rest
 
 pub below_rise : (t : Table) (to : List ℕ) (rows : Rows) → LinesRise (lines_in t (rows_below to (entries rows)))

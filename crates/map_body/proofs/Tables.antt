@@ -9,29 +9,20 @@ use Rattle.std.specs.Cmp.Lexicographic.{nat_list_cmp_total}
 use Rattle.std.specs.FinMap.{find, put, is_sorted, entries-insert, entries, empty, get, get-entries, get-insert, get-from_entries, entries_sorted, insert, len, empty_of_len}
 use Rattle.std.specs.FinMap.Entries.{below_all, by_order}
 use Rattle.std.proofs.lemmas.Bool.Decides.{nat_tests}
+use Rattle.list_lemmas.proofs.BoolTests.{T_both, T_left, T_right}
 use Rattle.row_key.specs.declared.tables.Table.{Table}
 use Rattle.row_key.specs.declared.tables.Table.TheVariants.{Ids, Names, Points}
-use Rattle.cell_model.specs.declared.cells.Row.{Row}
-use Rattle.cell_model.specs.Store.{bytes_cmp, row_cmp, place_of, table_number, content_at}
+use Rattle.cell_model.specs.declared.row.Row.{Row}
+use Rattle.list_lemmas.specs.BytesOrder.{bytes_cmp}
+use Rattle.cell_model.specs.Store.{row_cmp, place_of, table_number, content_at}
 use Rattle.cell_model.specs.Machine.{counter_row}
 use Rattle.packed_cells.specs.Keyed.{CellMap}
-use Rattle.map_body.specs.Rows.{Rows, row_in, NoneEmpty}
+use Rattle.map_body.specs.TableRows.{Rows, row_in, NoneEmpty}
 use Rattle.map_body.specs.Whole.{rows_at, with_counters, tagged, all_rows, content_of, flat, store_in, NoCounterRow}
 use Rattle.map_body.proofs.Maps.{exact, tied, untied, same_or_not, no_some}
-use Rattle.map_body.proofs.Orders.{places_total}
-use Rattle.map_body.proofs.Flat.{AllBelow, AllSome, find_none, sorted_join, find_join, or_else, cells_at, find_flat, none_behind}
-
-both : (a b : Bool) → T a → T b → T (a && b)
-both true b p q = q
-both false b p q = p
-
-first : (a b : Bool) → T (a && b) → T a
-first true b p = tt
-first false b p = p
-
-second : (a b : Bool) → T (a && b) → T b
-second true b p = p
-second false b p = absurd p
+use Rattle.cell_model.proofs.CallerLemmas.{places_total}
+use Rattle.map_body.proofs.Flat.{AllBelow, AllSome, find_none, sorted_join, find_join, or_else, cells_at, find_flat}
+use Rattle.list_lemmas.proofs.ListCuts.{nothing_behind as none_behind, filter_join}
 
 one_table : (t : Table) → nat_cmp (table_number t) (table_number t) ≡ Equal
 one_table t = tied_itself nat_cmp_total (table_number t)
@@ -39,16 +30,16 @@ one_table t = tied_itself nat_cmp_total (table_number t)
 -- the rows of one table are in order
 tagged_below : (t : Table) (b : List ℕ) (es : List (List ℕ × CellMap)) → T (below_all bytes_cmp b es) → T (below_all row_cmp (record { table = t; bytes = b }) (tagged t es))
 tagged_below t b [] h = tt
-tagged_below t b (e ∷ es) h = both _ _ (subst (λ r. T (is_lt (ordering_then r (bytes_cmp b e.0)))) (sym (one_table t)) (first _ _ h)) (tagged_below t b es (second _ _ h))
+tagged_below t b (e ∷ es) h = T_both _ _ (subst (λ r. T (is_lt (ordering_then r (bytes_cmp b e.0)))) (sym (one_table t)) (T_left _ _ h)) (tagged_below t b es (T_right _ _ h))
 
 pub tagged_sorted : (t : Table) (es : List (List ℕ × CellMap)) → T (is_sorted bytes_cmp es) → T (is_sorted row_cmp (tagged t es))
 tagged_sorted t [] h = tt
-tagged_sorted t (e ∷ es) h = both _ _ (tagged_below t e.0 es (first _ _ h)) (tagged_sorted t es (second _ _ h))
+tagged_sorted t (e ∷ es) h = T_both _ _ (tagged_below t e.0 es (T_left _ _ h)) (tagged_sorted t es (T_right _ _ h))
 
 -- tables are in order
 later_below : (row : Row) (t : Table) (es : List (List ℕ × CellMap)) → nat_cmp (table_number row.table) (table_number t) ≡ Less → T (below_all row_cmp row (tagged t es))
 later_below row t [] h = tt
-later_below row t (e ∷ es) h = both _ _ (subst (λ r. T (is_lt (ordering_then r (bytes_cmp row.bytes e.0)))) (sym h) tt) (later_below row t es h)
+later_below row t (e ∷ es) h = T_both _ _ (subst (λ r. T (is_lt (ordering_then r (bytes_cmp row.bytes e.0)))) (sym h) tt) (later_below row t es h)
 
 tagged_apart : (s t : Table) (es fs : List (List ℕ × CellMap)) → nat_cmp (table_number s) (table_number t) ≡ Less → AllBelow row_cmp (tagged s es) (tagged t fs)
 tagged_apart s t [] fs h = tt
@@ -56,7 +47,7 @@ tagged_apart s t (e ∷ es) fs h = (later_below (record { table = s; bytes = e.0
 
 below_both : (row : Row) (xs ys : List (Row × CellMap)) → T (below_all row_cmp row xs) → T (below_all row_cmp row ys) → T (below_all row_cmp row (xs ++ ys))
 below_both row [] ys p q = q
-below_both row (x ∷ xs) ys p q = both _ _ (first _ _ p) (below_both row xs ys (second _ _ p) q)
+below_both row (x ∷ xs) ys p q = T_both _ _ (T_left _ _ p) (below_both row xs ys (T_right _ _ p) q)
 
 apart_both : (xs ys zs : List (Row × CellMap)) → AllBelow row_cmp xs ys → AllBelow row_cmp xs zs → AllBelow row_cmp xs (ys ++ zs)
 apart_both [] ys zs p q = tt
@@ -173,13 +164,13 @@ entries_some rows none t p = each (entries rows) (entries_sorted rows) (λ q c i
   where
     each : (es : List (List ℕ × CellMap)) → T (is_sorted bytes_cmp es) → ((q : List ℕ) (c : CellMap) → find bytes_cmp q es ≡ Some c → c ≢ empty) → AllSome (tagged t (filter (λ (e : List ℕ × CellMap). p e.0) es))
     each [] up some = tt
-    each (e ∷ es) up some = at (p e.0) (each es (second _ _ up) later)
+    each (e ∷ es) up some = at (p e.0) (each es (T_right _ _ up) later)
       where
         later : (q : List ℕ) (c : CellMap) → find bytes_cmp q es ≡ Some c → c ≢ empty
         later q c is = one (same_or_not q e.0)
           where
             one : (q ≡ e.0) ⊎ (q ≢ e.0) → c ≢ empty
-            one (inl same) = absurd (no_some c (sym (ap (λ (x : List ℕ). find bytes_cmp x es) same ∙ find_none bytes_cmp e.0 es (first _ _ up)) ∙ is))
+            one (inl same) = absurd (no_some c (sym (ap (λ (x : List ℕ). find bytes_cmp x es) same ∙ find_none bytes_cmp e.0 es (T_left _ _ up)) ∙ is))
             one (inr ne) = some q c (ap (λ b. cond b (Some e.1) (find bytes_cmp q es)) (untied q e.0 ne) ∙ is)
 
         here : e.1 ≢ empty
@@ -190,14 +181,6 @@ entries_some rows none t p = each (entries rows) (entries_sorted rows) (λ q c i
         at false rest = rest
 
 -- the rows that pass a test
-filter_join : {A : Type 0} (p : A → Bool) (xs ys : List A) → filter p (xs ++ ys) ≡ filter p xs ++ filter p ys
-filter_join p [] ys = refl
-filter_join {A = A} p (x ∷ xs) ys = at (p x) (filter_join p xs ys)
-  where
-    at : (b : Bool) → filter p (xs ++ ys) ≡ filter p xs ++ filter p ys → cond b (x ∷ filter p (xs ++ ys)) (filter p (xs ++ ys)) ≡ cond b (x ∷ filter p xs) (filter p xs) ++ filter p ys
-    at true e = ap (λ (l : List A). x ∷ l) e
-    at false e = e
-
 filter_tagged : (p : Row → Bool) (t : Table) (es : List (List ℕ × CellMap)) → filter (λ (r : Row × CellMap). p r.0) (tagged t es) ≡ tagged t (filter (λ (e : List ℕ × CellMap). p (record { table = t; bytes = e.0 })) es)
 filter_tagged p t [] = refl
 filter_tagged p t (e ∷ es) = at (p (record { table = t; bytes = e.0 })) (filter_tagged p t es)

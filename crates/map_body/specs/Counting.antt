@@ -1,14 +1,19 @@
 -- The cells of the counters' row.
-use Rattle.std.specs.Prelude.{◌≡◌, ℕ, List, [], ◌∷◌, ◌++◌, Some, nat_eq, option_map, if◌then◌else◌}
+use Rattle.std.specs.Prelude.{◌≡◌, ◌≤◌, ℕ, List, [], ◌∷◌, ◌++◌, Some, nat_eq, option_map, if◌then◌else◌}
 use Rattle.std.specs.Option.{option_map_or}
 use Rattle.std.specs.Int.{w64, to_be_bytes, from_be_bytes}
 use Rattle.std.specs.FinMap.{get, from_entries}
 use Rattle.tsd_base.specs.declared.kinds.Kind.{Kind}
 use Rattle.tsd_base.specs.declared.kinds.Kind.TheVariants.{Metric, TagKey, TagValue}
+use Rattle.row_key.specs.declared.ids.TheConstants.{MOST_IDS}
 use Rattle.cell_model.specs.Machine.{kind_qual}
 use Rattle.cell_model.specs.Sound.{IsCounter}
 use Rattle.packed_cells.specs.Keyed.{CellMap}
 use Rattle.map_body.specs.declared.counters.Counter.{Counter}
+
+-- three numbers of ids given, each up to the greatest id
+abbrev pub AreCounts : ℕ → ℕ → ℕ → Type 0
+AreCounts metric tag_key tag_value = (metric ≤ MOST_IDS) × (tag_key ≤ MOST_IDS) × (tag_value ≤ MOST_IDS)
 
 -- a counter's cell: a counter that is 0 has none
 abbrev pub shown : Kind → Counter → List (List ℕ × (List ℕ × ℕ))

@@ -1,3 +1,3 @@
-pub mod Rows
+pub mod TableRows
 pub mod Counting
 pub mod Whole

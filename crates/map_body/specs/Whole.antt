@@ -3,16 +3,16 @@ use Rattle.std.specs.Prelude.{◌≡◌, ℕ, List, [], ◌∷◌, ◌++◌, map
 use Rattle.std.specs.FinMap.{empty, insert, entries, from_entries, len}
 use Rattle.row_key.specs.declared.tables.Table.{Table}
 use Rattle.row_key.specs.declared.tables.Table.TheVariants.{Ids, Names, Points}
-use Rattle.cell_model.specs.declared.cells.Row.{Row}
-use Rattle.cell_model.specs.declared.cells.ListLine.{ListLine}
+use Rattle.cell_model.specs.declared.row.Row.{Row}
+use Rattle.cell_model.specs.declared.row.ListLine.{ListLine}
 use Rattle.cell_model.specs.declared.events.Place.{Place}
 use Rattle.cell_model.specs.declared.events.Content.{Content}
-use Rattle.cell_model.specs.Order.{table_number}
+use Rattle.cell_model.specs.PlaceOrder.{table_number}
 use Rattle.cell_model.specs.Store.{Store, place_of}
 use Rattle.cell_model.specs.Counts.{line_of}
 use Rattle.cell_model.specs.Sound.{IsCounter}
 use Rattle.packed_cells.specs.Keyed.{CellMap}
-use Rattle.map_body.specs.Rows.{Rows, row_in}
+use Rattle.map_body.specs.TableRows.{Rows, row_in}
 
 -- the rows of a table among those of all
 abbrev pub rows_at : List Rows → Table → Rows

@@ -10,15 +10,12 @@ ghost use Rattle.packed_cells.specs.Keyed.{cells_in, cell_from, stamped};
 ghost use Rattle.map_body.specs.Counting.{number_in, AllCounters, shown};
 ghost use Rattle.cell_model.specs.Rising.{IsAboveCells, LinesRise};
 
-use crate::lines::add_line;
+use crate::store_lines::add_line;
 use cell_model::{Cells, Listing};
-use row_key::Table;
+use row_key::{MOST_IDS, Table};
 use std::alloc::{AllocError, Global};
 use std::marker::Model;
 use tsd_base::kinds::Kind;
-
-/// The greatest id that a kind has.
-pub const MOST_IDS: u32 = 16777215;
 
 /// The greatest id given, 0 where none was, and the version of its cell.
 #[derive(Clone, Copy, Drop)]
@@ -44,12 +41,11 @@ impl Model for Counters {
 
     ghost coded = { coded_cells };
 
-    ghost use Rattle.std.specs.Prelude.{◌≤◌};
-    ghost use Rattle.map_body.specs.Counting.{counter_cells};
+    ghost use Rattle.map_body.specs.Counting.{AreCounts, counter_cells};
 
     ghost view = { λ c. counter_cells c.metric c.tag_key c.tag_value };
 
-    ghost invariant = { λ c. (c.metric.number ≤ 16777215) × (c.tag_key.number ≤ 16777215) × (c.tag_value.number ≤ 16777215) };
+    ghost invariant = { λ c. AreCounts c.metric.number c.tag_key.number c.tag_value.number };
 }
 
 impl Counters {
@@ -71,7 +67,7 @@ impl Counters {
     /// The counter of a kind.
     pub fn number(&self, kind: Kind) -> u32
         ensures number { result ≡ number_in self.now kind }
-        ensures most { result ≤ 16777215 }
+        ensures most { result ≤ MOST_IDS }
         ensures counters { AllCounters self.now }
     {
         match kind {
@@ -84,7 +80,7 @@ impl Counters {
     /// Sets the counter of a kind and the version of its cell.
     pub fn set(&mut self, kind: Kind, number: u32, version: u64)
         requires least { 1 ≤ number }
-        requires most { number ≤ 16777215 }
+        requires most { number ≤ MOST_IDS }
         ensures { self.new ≡ insert self.old (kind_qual kind) (to_be_bytes w64 number, version) }
     {
         let counter = Counter { number, version };
@@ -182,10 +178,10 @@ pub fn kind_of(qual: &[u8]) -> Kind
 
 /// The number of a counter's value.
 pub fn number_of(value: &[u8]) -> u32
-    requires { (number : ℕ) × (1 ≤ number) × (number ≤ 16777215) × (value.now ≡ to_be_bytes w64 number) }
+    requires { (number : ℕ) × (1 ≤ number) × (number ≤ MOST_IDS) × (value.now ≡ to_be_bytes w64 number) }
     ensures value { value.now ≡ to_be_bytes w64 result }
     ensures least { 1 ≤ result }
-    ensures most { result ≤ 16777215 }
+    ensures most { result ≤ MOST_IDS }
 {
     match value.first_chunk::<8>() {
         Some(bytes) => u64::from_be_bytes(*bytes) as u32,

@@ -1,12 +1,12 @@
 //! A store in memory: for each table a map from rows to their packed cells, and the counters beside them.
 #![tactic(auto)]
 
-pub mod body;
 mod counters;
-mod lines;
+mod store_lines;
+pub mod store_maps;
 mod table_rows;
 
-pub use body::MapBody;
+pub use store_maps::MapBody;
 
 #[cfg(test)]
 mod tests;

@@ -5,12 +5,12 @@ ghost use Rattle.std.specs.FinMap.{empty, get, insert, len, entries};
 ghost use Rattle.std.specs.BTreeMap.{IsUnchanged};
 ghost use Rattle.cell_model.specs.Rising.{LinesRise};
 ghost use Rattle.packed_cells.specs.Keyed.{CellMap, stamped};
-ghost use Rattle.map_body.specs.Rows.{Rows, rows_of, count_of, row_in, NoneEmpty, ChangesRow, left, gone, is_within, cells_among, rows_below, rows_from};
+ghost use Rattle.map_body.specs.TableRows.{Rows, rows_of, count_of, row_in, NoneEmpty, ChangesRow, left, gone, is_within, cells_among, rows_below, rows_from};
 ghost use Rattle.map_body.specs.Whole.{lines_in};
 
-use crate::lines::add_rows;
+use crate::store_lines::add_rows;
 use cell_model::Listing;
-use packed_cells::rows::RowCells;
+use packed_cells::row_cells::RowCells;
 use qual_codec::Bytes;
 use row_key::Table;
 use std::alloc::{AllocError, Global};
@@ -28,14 +28,14 @@ pub struct TableRows {
 }
 
 impl Model for TableRows {
-    ghost use Rattle.map_body.specs.Rows.{Rows, coded_rows};
+    ghost use Rattle.map_body.specs.TableRows.{Rows, coded_rows};
 
     ghost Value = { Rows };
 
     ghost coded = { coded_rows };
 
     ghost use Rattle.std.specs.Prelude.{◌≡◌};
-    ghost use Rattle.map_body.specs.Rows.{rows_of, count_of, NoneEmpty};
+    ghost use Rattle.map_body.specs.TableRows.{rows_of, count_of, NoneEmpty};
 
     ghost view = { λ t. rows_of t.rows };
 

@@ -4,10 +4,10 @@ ghost use Rattle.map_body.specs.Whole.{HasNoFlaw};
 
 use crate::MapBody;
 use crate::counters::name;
-use cell_model::stamping::{bump_at, claim_at, put_at};
+use cell_model::stamp::{bump_at, claim_at, put_at};
 use cell_model::{Body, Bumped, Claimed, Drops, ListLine, Listing, Row, Tally};
 use qual_codec::Bytes;
-use row_key::Table;
+use row_key::{MOST_IDS, Table};
 use std::alloc::{AllocError, Global};
 use std::process::Abort;
 use std::test::Fail;
@@ -114,7 +114,7 @@ fn add_counter(
     number: u32,
 ) -> Result<bool, AllocError>
     requires least { 1 ≤ number }
-    requires most { number ≤ 16777215 }
+    requires most { number ≤ MOST_IDS }
     requires read { All HasNoFlaw listing.old }
     ensures { All HasNoFlaw listing.new }
 {
@@ -140,7 +140,7 @@ fn sample(alloc: Global) -> Result<Listing, AllocError>
 {
     let mut listing = Listing::none(alloc);
     add_counter(&mut listing, alloc, Kind::Metric, 2)?;
-    add_counter(&mut listing, alloc, Kind::TagValue, 16777215)?;
+    add_counter(&mut listing, alloc, Kind::TagValue, MOST_IDS)?;
     for line in &CELLS {
         add_cell(&mut listing, alloc, line)?;
     }
@@ -231,7 +231,7 @@ fn a_counter_ends(rt: HostRuntime) -> Result<(), Fail> {
     assert_eq!(rt; body.bump(Kind::TagValue), Bumped::Full);
     assert_eq!(rt; body.bump(Kind::Metric), Bumped::Given { id: 3 });
     let tally = Tally {
-        ids: [3, 0, 16777215],
+        ids: [3, 0, u64::from(MOST_IDS)],
         point_rows: 1,
         point_cells: 2,
     };

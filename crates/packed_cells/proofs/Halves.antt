@@ -6,7 +6,8 @@ use Rattle.std.specs.declared.cmp.Ordering.TheVariants.{Less, Greater}
 use Rattle.std.specs.Ordering.{ordering_reverse}
 use Rattle.std.specs.Cmp.Lexicographic.{nat_list_cmp_total}
 use Rattle.qual_codec.specs.declared.cells.Cell.{Cell}
-use Rattle.packed_cells.specs.Seeks.{bytes_cmp, Rises, AllBefore, AllBehind}
+use Rattle.list_lemmas.specs.BytesOrder.{bytes_cmp}
+use Rattle.packed_cells.specs.Seeks.{Rises, AllBefore, AllBehind}
 
 pub turn : (x y : List ℕ) (r : Ordering) → bytes_cmp y x ≡ r → bytes_cmp x y ≡ ordering_reverse r
 turn x y r is = nat_list_cmp_total.antisymm x y ∙ ap ordering_reverse is

@@ -1,10 +1,9 @@
 -- Edits of cells that rise are those of their map.
 use Rattle.std.proofs.Common.{◌≡◌, ℕ, zero, suc, ◌≤◌, ◌<◌, Bool, true, false, cond, T, List, [], ◌∷◌, length, map, refl, sym, ap, subst, ◌∙◌, arith}
-use Rattle.std.specs.Prelude.{Option, None, Some, slice_index_or, slice_set, ◌&&◌, IsTrue, nat_eq}
+use Rattle.std.specs.Prelude.{Option, None, Some, slice_index_or, slice_set, IsTrue, nat_eq}
 use Rattle.std.specs.Option.{option_map_or}
 use Rattle.std.specs.List.{insert as insert_at, remove as remove_at}
-use Rattle.std.specs.declared.cmp.Ordering.{Ordering}
-use Rattle.std.specs.declared.cmp.Ordering.TheVariants.{Less, Equal, Greater}
+use Rattle.std.specs.declared.cmp.Ordering.TheVariants.{Less, Greater}
 use Rattle.std.specs.Ordering.{eq_by_cmp, is_eq, is_lt}
 use Rattle.std.specs.Cmp.Lexicographic.{nat_list_cmp_total}
 use Rattle.std.specs.FinMap.{entries, from_entries, from_sorted, find, put, is_sorted, entries-from_sorted, entries-insert, get-from_entries, get-from_sorted, same_map, same_entries_map, slice_cmp-IsAntisymmetric, nat_cmp-IsAntisymmetric, IsAntisymmetric}
@@ -12,10 +11,12 @@ use Rattle.std.specs.FinMap.Entries.{below_all, by_order}
 use Rattle.std.specs.FinMap as fin
 use Rattle.qual_codec.specs.declared.cells.Cell.{Cell}
 use Rattle.packed_cells.specs.Packed.{stamped_at}
-use Rattle.packed_cells.specs.Seeks.{bytes_cmp, Rises, IsCellAt, IsCellGap}
+use Rattle.list_lemmas.specs.BytesOrder.{bytes_cmp}
+use Rattle.packed_cells.specs.Seeks.{Rises, IsCellAt, IsCellGap}
 use Rattle.packed_cells.specs.Keyed.{CellMap, entry_of, cell_from, map_of, cells_in, stamped, stamped_over, goes, without}
 use Rattle.std.proofs.lemmas.Bool.Decides.{nat_tests}
 use Rattle.std.proofs.lemmas.List.{length-map}
+use Rattle.list_lemmas.proofs.BoolTests.{T_both, is_equal}
 use Rattle.packed_cells.proofs.Halves.{turn}
 
 pub exact : IsAntisymmetric bytes_cmp
@@ -45,19 +46,15 @@ head_before q c cells i up at =
     let same : q ≡ (slice_index_or cells i none).qual = exact q (slice_index_or cells i none).qual (at.here none) in
     ap (λ (x : List ℕ). bytes_cmp x c.qual) same ∙ turn (slice_index_or cells i none).qual c.qual Less less
 
-both : (a b : Bool) → T a → T b → T (a && b)
-both true b p q = q
-both false b p q = p
-
 below : (x : List ℕ) (cells : List Cell) → ((k : ℕ) → k < length cells → bytes_cmp x (slice_index_or cells k none).qual ≡ Less) → T (below_all bytes_cmp x (map entry_of cells))
 below x [] all = tt
 below x (c ∷ cells) all =
-    both _ _ (subst (λ r. T (is_lt r)) (sym (all 0 (omega arith))) tt) (below x cells (λ k lt. all (suc k) (omega arith)))
+    T_both _ _ (subst (λ r. T (is_lt r)) (sym (all 0 (omega arith))) tt) (below x cells (λ k lt. all (suc k) (omega arith)))
 
 pub rising_entries : (cells : List Cell) → Rises cells → T (is_sorted bytes_cmp (map entry_of cells))
 rising_entries [] up = tt
 rising_entries (c ∷ cells) up =
-    both _ _ (below c.qual cells (λ k lt. up 0 (suc k) (omega arith) (omega arith) none)) (rising_entries cells (rises_tail c cells up))
+    T_both _ _ (below c.qual cells (λ k lt. up 0 (suc k) (omega arith) (omega arith) none)) (rising_entries cells (rises_tail c cells up))
 
 -- the map's entries are the cells
 pub entries-map_of : (cells : List Cell) → Rises cells → entries (map_of cells) ≡ map entry_of cells
@@ -159,25 +156,20 @@ pub gap_is_stamped : (q : List ℕ) (n : ℕ) (old : List Cell) (i : ℕ) → Is
 gap_is_stamped q n old i gap = ap (λ o. stamped_over o (map_of old) q n) (sym (get_gap q old i gap))
 
 -- a list without the cell where the qualifier stands
-equal : (r : Ordering) → is_eq r ≡ true → r ≡ Equal
-equal Less e = cc
-equal Equal e = refl
-equal Greater e = cc
-
 apart : (q x y : List ℕ) → bytes_cmp q y ≡ Greater → eq_by_cmp bytes_cmp x y ≡ true → eq_by_cmp bytes_cmp x q ≡ false
 apart q x y greater e = at (eq_by_cmp bytes_cmp x q) refl
   where
     at : (b : Bool) → eq_by_cmp bytes_cmp x q ≡ b → b ≡ false
     at false p = refl
     at true p =
-        let same : x ≡ q = exact x q (equal _ p) in
+        let same : x ≡ q = exact x q (is_equal _ p) in
         let is : bytes_cmp x y ≡ Greater = ap (λ (z : List ℕ). bytes_cmp z y) same ∙ greater in
         let e2 : is_eq Greater ≡ true = ap is_eq (sym is) ∙ e in
         cc
 
 no_other : (q x : List ℕ) (c : Cell) (cells : List Cell) → Rises (c ∷ cells) → q ≡ c.qual → eq_by_cmp bytes_cmp x q ≡ true → find bytes_cmp x (map entry_of cells) ≡ None
 no_other q x c cells up same e =
-    let is : x ≡ c.qual = exact x q (equal _ e) ∙ same in
+    let is : x ≡ c.qual = exact x q (is_equal _ e) ∙ same in
     ap (λ (z : List ℕ). find bytes_cmp z (map entry_of cells)) is
     ∙ not_found c.qual cells 0 (record { in_range = omega arith; before = λ k lt d. absurd (omega (arith, lt)); behind = λ k le lt d. up 0 (suc k) (omega arith) (omega arith) d })
 

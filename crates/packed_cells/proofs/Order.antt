@@ -8,7 +8,8 @@ use Rattle.std.proofs.lemmas.List.{get_or-set_same, get_or-set_other, length-set
 use Rattle.std.proofs.lemmas.List.Edits.{length-insert, length-remove, get_or-remove_below, get_or-remove_above, get_or-insert_below, get_or-insert_at, get_or-insert_above}
 use Rattle.qual_codec.specs.declared.cells.Cell.{Cell}
 use Rattle.packed_cells.specs.Packed.{stamped_at}
-use Rattle.packed_cells.specs.Seeks.{bytes_cmp, Rises, IsCellAt, IsCellGap}
+use Rattle.list_lemmas.specs.BytesOrder.{bytes_cmp}
+use Rattle.packed_cells.specs.Seeks.{Rises, IsCellAt, IsCellGap}
 use Rattle.packed_cells.proofs.Halves.{turn}
 
 tri : (a i : ℕ) → (a < i) ⊎ ((a ≡ i) ⊎ (i < a))

@@ -3,7 +3,7 @@ use Rattle.std.specs.Prelude.{ℕ, Bool, false, List, map, nat_le, Option, None,
 use Rattle.std.specs.Coded.{Coded, coded×, coded_ℕ, coded_list}
 use Rattle.std.specs.FinMap.{FinMap, code, get, insert, remove, entries, from_entries}
 use Rattle.qual_codec.specs.declared.cells.Cell.{Cell}
-use Rattle.packed_cells.specs.Seeks.{bytes_cmp}
+use Rattle.list_lemmas.specs.BytesOrder.{bytes_cmp}
 
 -- a row's cells: at each qualifier a value and a version
 abbrev pub CellMap : Type 0

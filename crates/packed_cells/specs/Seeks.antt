@@ -1,13 +1,8 @@
 -- Where a qualifier stands among cells, or would stand.
 use Rattle.std.specs.Prelude.{◌≡◌, ℕ, ◌<◌, ◌≤◌, List, length, slice_index_or}
-use Rattle.std.specs.declared.cmp.Ordering.{Ordering}
 use Rattle.std.specs.declared.cmp.Ordering.TheVariants.{Less, Equal, Greater}
-use Rattle.std.specs.Ordering.{nat_cmp}
-use Rattle.std.specs.Cmp.Lexicographic.{slice_cmp}
+use Rattle.list_lemmas.specs.BytesOrder.{bytes_cmp}
 use Rattle.qual_codec.specs.declared.cells.Cell.{Cell}
-
-abbrev pub bytes_cmp : List ℕ → List ℕ → Ordering
-bytes_cmp = slice_cmp nat_cmp
 
 -- qualifiers strictly rise
 abbrev pub Rises : List Cell → Type 0

@@ -2,5 +2,5 @@
 #![tactic(auto)]
 
 pub mod block;
-pub mod rows;
+pub mod row_cells;
 pub mod seeks;

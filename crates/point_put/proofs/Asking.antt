@@ -1,37 +1,37 @@
 -- The names of a point, one after the other.
-use Rattle.std.proofs.Common.{◌≡◌, ◌⊎◌, inl, inr, ℕ, true, false, List, [], ◌∷◌, ◌++◌, refl, sym, ap, subst, ◌∙◌, append_assoc, rules}
+use Rattle.std.proofs.Common.{◌≡◌, ◌⊎◌, inl, inr, ℕ, true, false, List, [], ◌∷◌, ◌++◌, refl, sym, ap, subst, ◌∙◌, append_assoc}
 use Rattle.std.proofs.lemmas.Result.{err_from_is_err_and}
 use Rattle.std.specs.Prelude.{Contains, None, Result, Ok, Err, IsErrAnd}
+use Rattle.uid_table.proofs.CallerLemmas.{shown_kept}
+use Rattle.list_lemmas.proofs.ListCuts.{nothing_behind}
 use Rattle.tsd_base.specs.declared.kinds.Kind.{Kind}
 use Rattle.cell_model.specs.declared.events.Placed.{Placed}
 use Rattle.cell_model.specs.declared.answers.Claimed.{Claimed}
 use Rattle.cell_model.specs.declared.answers.Claimed.TheVariants.{Done, Held}
-use Rattle.cell_model.specs.Ids.{id_bytes}
+use Rattle.cell_model.specs.IdRows.{id_bytes}
 use Rattle.cell_model.specs.Seen.{Seen}
 use Rattle.cell_model.specs.Deeds.{Extends}
-use Rattle.uid_table.specs.declared.answers.Assigned.{Assigned}
-use Rattle.uid_table.specs.declared.answers.Assigned.TheVariants.{Fresh, Existing, Lost}
-use Rattle.uid_table.specs.declared.answers.AssignFault.{AssignFault}
-use Rattle.uid_table.specs.declared.answers.AssignFault.TheVariants as assign
-use Rattle.uid_table.specs.declared.answers.ResolveFault.TheVariants as resolve
-use Rattle.uid_table.specs.Answers.{answered_id}
+use Rattle.uid_table.specs.declared.id_answers.Assigned.{Assigned}
+use Rattle.uid_table.specs.declared.id_answers.Assigned.TheVariants.{Fresh, Existing, Lost}
+use Rattle.uid_table.specs.declared.id_answers.AssignFault.{AssignFault}
+use Rattle.uid_table.specs.declared.id_answers.AssignFault.TheVariants as assign
+use Rattle.uid_table.specs.declared.id_answers.ResolveFault.TheVariants as resolve
+use Rattle.uid_table.specs.IdAnswers.{answered_id}
 use Rattle.uid_table.specs.Shown.{HasShown}
-use Rattle.uid_table.specs.Steps.{MadeSo, DidLook, LookedOrKept, Gave, GaveUp, AssignMade, ResolveMade}
-use Rattle.uid_table.specs.Steps.GaveUp.{before, bumped, reversed}
+use Rattle.uid_table.specs.IdSteps.{MadeSo, DidLook, LookedOrKept, Gave, GaveUp, AssignMade, ResolveMade}
+use Rattle.uid_table.specs.IdSteps.GaveUp.{before, bumped, reversed}
 use Rattle.point_put.specs.declared.config.Config.{Config}
 use Rattle.point_put.specs.declared.fault.PutFault.{PutFault}
 use Rattle.point_put.specs.declared.fault.PutFault.TheVariants.{Unknown, Exhausted, OutOfMemory, Stopped}
 use Rattle.point_put.specs.Configs.{makes}
 use Rattle.point_put.specs.Entries.{ForName, ForNames, Before}
 use Rattle.point_put.specs.Entries.ForNames.{nil, more}
-use Rattle.point_put.specs.Shown.{AllShown, Fails, Answered, NamesAsked}
-use Rattle.point_put.proofs.Lower.{nothing_made, made_joined, extends_joined, at_front, behind, front_or_behind, in_none}
+use Rattle.point_put.specs.ShownIds.{AllShown, Fails, Answered, NamesAsked}
+use Rattle.cell_laws.proofs.CallerLemmas.{nothing_made, made_joined}
+use Rattle.list_lemmas.proofs.ListMembers.{here, there, split, not_in}
 
 abbrev Names : Type 0
 Names = List (Kind × List ℕ)
-
-no_more : {X : Type 0} (xs : List X) → xs ++ [] ≡ xs
-no_more xs = search rules
 
 -- the entries of an assignment are those of one name
 given_up : (c : Config) (kind : Kind) (name : List ℕ) (d : Placed) (rest : List Placed) → makes c kind ≡ true → DidLook d kind name None → GaveUp kind name rest → ForName c kind name (d ∷ rest)
@@ -57,20 +57,20 @@ for_assign c kind name (Err assign.Stopped) list m (inl none) = subst (ForName c
 for_assign c kind name (Err assign.Stopped) list m (inr (d, rest, is, l, g)) = subst (ForName c kind name) (sym is) (given_up c kind name d rest m l g)
 
 one_name : (c : Config) (kind : Kind) (name : List ℕ) (list : List Placed) → ForName c kind name list → ForNames c ((kind, name) ∷ []) list
-one_name c kind name list f = subst (ForNames c ((kind, name) ∷ [])) (no_more list) (more f nil)
+one_name c kind name list f = subst (ForNames c ((kind, name) ∷ [])) (nothing_behind list) (more f nil)
 
 shown_one : (s : Seen) (kind : Kind) (name : List ℕ) (id : ℕ) → HasShown s kind name id → AllShown s ((kind, name) ∷ [])
-shown_one s kind name id h k n c = at (front_or_behind (kind, name) (k, n) [] c)
+shown_one s kind name id h k n c = at (split (kind, name) (k, n) [] c)
   where
     none : List (Kind × List ℕ)
     none = []
 
     at : (◌≡◌ {A = Kind × List ℕ} (kind, name) (k, n)) ⊎ Contains none (k, n) → (i : ℕ) × HasShown s k n i
     at (inl same) = subst (λ (x : Kind × List ℕ). (i : ℕ) × HasShown s x.0 x.1 i) same (id, h)
-    at (inr later) = absurd (in_none (k, n) later)
+    at (inr later) = absurd (not_in (k, n) later)
 
 shown_none : (s : Seen) → AllShown s []
-shown_none s k n c = absurd (in_none (k, n) c)
+shown_none s k n c = absurd (not_in (k, n) c)
 
 -- one name that was assigned
 pub assigned_ok : (c : Config) (old new : Seen) (kind : Kind) (name : List ℕ) (a : Assigned) (id : ℕ) → makes c kind ≡ true → MadeSo old (AssignMade kind name (Ok a)) new → HasShown new kind name (answered_id a)
@@ -81,7 +81,7 @@ pub assigned_full : (c : Config) (old new : Seen) (kind k : Kind) (name : List �
     → NamesAsked {T = ℕ} c ((kind, name) ∷ []) old (Err (Exhausted k)) new
 assigned_full c old new kind k name m (list, made, (d, rest, is, l, (same, (b, last, did)))) =
     let entries = one_name c kind name list (for_assign c kind name (Err (assign.Exhausted k)) list m (d, rest, is, l, (same, (b, last, did)))) in
-    let among : Contains list b = subst (λ xs. Contains xs b) (sym (is ∙ ap (λ xs. d ∷ xs) last)) (behind d b (b ∷ []) (at_front b [])) in
+    let among : Contains list b = subst (λ xs. Contains xs b) (sym (is ∙ ap (λ xs. d ∷ xs) last)) (there d b (b ∷ []) (here b [])) in
     let full : NamesAsked {T = ℕ} c ((kind, name) ∷ []) old (Err (Exhausted kind)) new = record { list = list; made = made; entries = entries; answered = ((m, (b, among, did)), (name, ([], [], refl, shown_none new))) } in
     subst (λ (x : Kind). NamesAsked {T = ℕ} c ((kind, name) ∷ []) old (Err (Exhausted x)) new) (sym same) full
 
@@ -98,7 +98,7 @@ resolved_ok c old new kind name id (list, made, kept) h = record { list = list; 
 pub resolved_unknown : (c : Config) (old new : Seen) (kind k : Kind) (name n : List ℕ) → n ≡ name → makes c kind ≡ false → MadeSo old (ResolveMade kind name (Err (resolve.Unknown k))) new
     → NamesAsked {T = ℕ} c ((kind, name) ∷ []) old (Err (Unknown k n)) new
 resolved_unknown c old new kind k name n same m (list, made, (of, (d, is, l))) =
-    let among : Contains list d = subst (λ xs. Contains xs d) (sym is) (at_front d []) in
+    let among : Contains list d = subst (λ xs. Contains xs d) (sym is) (here d []) in
     let one : NamesAsked {T = ℕ} c ((kind, name) ∷ []) old (Err (Unknown kind name)) new = record {
       list = list;
       made = made;
@@ -117,34 +117,25 @@ resolved_memory c old new kind name (list, made, none) = record { list = list; m
 pub resolved_stopped : (c : Config) (old new : Seen) (kind : Kind) (name : List ℕ) → MadeSo old (ResolveMade kind name (Err resolve.Stopped)) new → NamesAsked {T = ℕ} c ((kind, name) ∷ []) old (Err Stopped) new
 resolved_stopped c old new kind name (list, made, none) = record { list = list; made = made; entries = one_name c kind name list (subst (ForName c kind name) (sym none) ForName.none); answered = tt }
 
--- what was shown stays shown
-pub shown_kept : (s t : Seen) (kind : Kind) (name : List ℕ) (id : ℕ) → Extends s t → HasShown s kind name id → HasShown t kind name id
-shown_kept s t kind name id e h = record {
-  is_id = h.is_id;
-  is_name = h.is_name;
-  known = let k = h.known in (k.0, k.1, e.kept k.0 k.1 k.2, k.3);
-  stands = λ later more. h.stands later (extends_joined s t later e more);
-}
-
 pub all_kept : (s t : Seen) (names : Names) → Extends s t → AllShown s names → AllShown t names
 all_kept s t names e all k n c = let w = all k n c in (w.0, shown_kept s t k n w.0 e w.1)
 
 -- members of two lists
 pub in_either : {X : Type 0} (xs ys : List X) (y : X) → Contains (xs ++ ys) y → Contains xs y ⊎ Contains ys y
 in_either [] ys y c = inr c
-in_either {X} (x ∷ xs) ys y c = at (front_or_behind x y (xs ++ ys) c) (in_either xs ys y)
+in_either {X} (x ∷ xs) ys y c = at (split x y (xs ++ ys) c) (in_either xs ys y)
   where
     at : (x ≡ y) ⊎ Contains (xs ++ ys) y → (Contains (xs ++ ys) y → Contains xs y ⊎ Contains ys y) → Contains (x ∷ xs) y ⊎ Contains ys y
-    at (inl same) go = inl (subst (Contains (x ∷ xs)) same (at_front x xs))
-    at (inr later) go = elim (go later) [ inl l ↦ inl (behind x y xs l) | inr r ↦ inr r ]
+    at (inl same) go = inl (subst (Contains (x ∷ xs)) same (here x xs))
+    at (inr later) go = elim (go later) [ inl l ↦ inl (there x y xs l) | inr r ↦ inr r ]
 
 pub in_right : {X : Type 0} (xs ys : List X) (y : X) → Contains ys y → Contains (xs ++ ys) y
 in_right [] ys y c = c
-in_right (x ∷ xs) ys y c = behind x y (xs ++ ys) (in_right xs ys y c)
+in_right (x ∷ xs) ys y c = there x y (xs ++ ys) (in_right xs ys y c)
 
 pub in_left : {X : Type 0} (xs ys : List X) (y : X) → Contains xs y → Contains (xs ++ ys) y
-in_left [] ys y c = absurd (in_none y c)
-in_left (x ∷ xs) ys y c = elim (front_or_behind x y xs c) [ inl same ↦ subst (Contains (x ∷ (xs ++ ys))) same (at_front x (xs ++ ys)) | inr later ↦ behind x y (xs ++ ys) (in_left xs ys y later) ]
+in_left [] ys y c = absurd (not_in y c)
+in_left (x ∷ xs) ys y c = elim (split x y xs c) [ inl same ↦ subst (Contains (x ∷ (xs ++ ys))) same (here x (xs ++ ys)) | inr later ↦ there x y (xs ++ ys) (in_left xs ys y later) ]
 
 all_joined : (s : Seen) (xs ys : Names) → AllShown s xs → AllShown s ys → AllShown s (xs ++ ys)
 all_joined s xs ys a b k n c = elim (in_either xs ys (k, n) c) [ inl l ↦ a k n l | inr r ↦ b k n r ]
@@ -176,7 +167,7 @@ fails_before c s xs ys l (Exhausted kind) (was, (name, b)) = (was, (name, behind
 fails_before c s xs ys l OutOfMemory f = tt
 fails_before c s xs ys l Stopped f = tt
 
--- names that were asked behind others
+-- names that were asked there others
 pub asked_then : {T U : Type 0} (c : Config) (xs ys : Names) (a b d : Seen) (x : T) (r : Result U PutFault) → NamesAsked {T = T} c xs a (Ok x) b → NamesAsked {T = U} c ys b r d → NamesAsked {T = U} c (xs ++ ys) a r d
 asked_then {T} {U} c xs ys a b d x r p q = record {
   list = p.list ++ q.list;
@@ -197,7 +188,7 @@ pub asked_failed : {T U : Type 0} (c : Config) (xs ys : Names) (a b : Seen) (e :
 asked_failed c xs ys a b e p = record {
   list = p.list;
   made = p.made;
-  entries = subst (ForNames c (xs ++ ys)) (no_more p.list) (names_joined c xs ys p.list [] p.entries (none_for c ys));
+  entries = subst (ForNames c (xs ++ ys)) (nothing_behind p.list) (names_joined c xs ys p.list [] p.entries (none_for c ys));
   answered = fails_before c b xs ys p.list e p.answered;
 }
 

@@ -10,8 +10,8 @@ use Rattle.cell_model.specs.Layout.{base_time}
 use Rattle.cell_model.specs.Seen.{Seen}
 use Rattle.cell_model.specs.Deeds.{Extends}
 use Rattle.uid_table.specs.Shown.{HasShown}
-use Rattle.point_put.specs.Shown.{PairsShown, KeyShown}
-use Rattle.point_put.proofs.Asking.{shown_kept}
+use Rattle.point_put.specs.ShownIds.{PairsShown, KeyShown}
+use Rattle.uid_table.proofs.CallerLemmas.{shown_kept}
 
 pub key_shown : (s t : Seen) (p : DataPoint) (key : RowKey) → Extends s t → HasShown s Metric p.metric key.metric → key.base ≡ base_time p.time → IsTime p.time p.fine → IsTags p.tags → PairsShown t p.tags key.pairs.items → KeyShown t p key
 key_shown s t p key e metric base timed tags pairs = record {

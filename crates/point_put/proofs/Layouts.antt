@@ -1,34 +1,35 @@
 -- The cell of a point, with the ids that were seen of its names.
 use Rattle.std.proofs.Common.{◌≡◌, ℕ, ◌≤◌, ◌%◌, List, [], ◌∷◌, length, refl, sym, ap, subst}
-use Rattle.std.specs.Prelude.{Contains, Result, Ok, Err, IsErrAnd, IfErr, unwrap_or}
+use Rattle.std.specs.Prelude.{Contains, Result, Ok, Err, IsErrAnd, unwrap_or}
+use Rattle.row_key.specs.declared.hours.TheConstants.{HOUR_MILLIS}
 use Rattle.tsd_base.specs.declared.kinds.Kind.{Kind}
 use Rattle.tsd_base.specs.declared.kinds.Kind.TheVariants.{Metric, TagKey, TagValue}
 use Rattle.tsd_base.specs.Points.{DataPoint}
 use Rattle.row_key.specs.declared.keys.RowKey.{RowKey}
 use Rattle.row_key.specs.Key.{key_bytes}
-use Rattle.qual_codec.specs.Dots.{IsDots}
+use Rattle.qual_codec.specs.CellDots.{IsDots}
 use Rattle.qual_codec.specs.Spelling.{IsShortest, dot_of}
 use Rattle.cell_model.specs.declared.answers.RowsFault.{RowsFault}
 use Rattle.cell_model.specs.declared.answers.RowsFault.TheVariants as rows
 use Rattle.cell_model.specs.declared.answers.Stored.{Stored}
-use Rattle.cell_model.specs.declared.cells.Row.{Row}
+use Rattle.cell_model.specs.declared.row.Row.{Row}
 use Rattle.cell_model.specs.declared.events.Step.TheVariants.{PutPoint}
 use Rattle.cell_model.specs.declared.events.Reply.TheVariants.{Written}
 use Rattle.cell_model.specs.Machine.{kind_qual, MOST_IDS}
 use Rattle.cell_model.specs.History.{first}
-use Rattle.cell_model.specs.Ids.{name_row, id_bytes, id_of}
+use Rattle.cell_model.specs.IdRows.{name_row, id_bytes, id_of}
 use Rattle.cell_model.specs.Layout.{HasKey, names_of}
 use Rattle.cell_model.specs.Lawful.{PointBasis}
 use Rattle.cell_model.specs.Readings.{point_row}
-use Rattle.cell_model.specs.Seen.{Seen, Waited, Stepped, IsPossible, KnowsCell, RoseIfStopped}
+use Rattle.cell_model.specs.Seen.{Seen, Waited, Stepped, IsPossible, KnowsCell}
 use Rattle.cell_model.specs.Deeds.{Made}
 use Rattle.uid_table.specs.Shown.{HasShown}
 use Rattle.point_put.specs.declared.fault.PutFault.{PutFault}
 use Rattle.point_put.specs.declared.fault.PutFault.TheVariants.{OutOfMemory}
-use Rattle.point_put.specs.Faults.{put_fault, PutRose}
-use Rattle.point_put.specs.Shown.{AllShown, KeyShown}
-use Rattle.point_put.specs.Putting.{StoreMade}
-use Rattle.point_put.proofs.Lower.{first_lawful, first_fits, wait_made, step_made, itself}
+use Rattle.point_put.specs.PutFaults.{put_fault}
+use Rattle.point_put.specs.ShownIds.{AllShown, KeyShown}
+use Rattle.point_put.specs.PutPoint.{StoreMade}
+use Rattle.cell_laws.proofs.CallerLemmas.{first_lawful, first_fits, wait_made, step_made, itself}
 use Rattle.point_put.proofs.Asking.{passed_on}
 
 -- the ids of names in some history that fits
@@ -55,7 +56,7 @@ pub record Laid (s : Seen) (point : DataPoint) (key : RowKey) (row : Row) (qual 
   pub names : AllShown s (names_of point)
   pub key_is : KeyShown s point key
   pub row_is : row ≡ point_row (key_bytes key)
-  pub dot : IsDots qual value (dot_of (point.time % 3600000) point.fine point.value (length value) ∷ [])
+  pub dot : IsDots qual value (dot_of (point.time % HOUR_MILLIS) point.fine point.value (length value) ∷ [])
   pub shortest : IsShortest point.value value
 
 basis : (Has : Kind → List ℕ → ℕ → Type 0) (s : Seen) (point : DataPoint) (key : RowKey) (row : Row) (qual value : List ℕ) → Laid s point key row qual value → ((kind : Kind) (name : List ℕ) (id : ℕ) → HasShown s kind name id → Has kind name id)
@@ -99,21 +100,14 @@ not_stored old new point e r is w lives = passed_on (λ x. StoreMade point old x
 pub no_memory : (s : Seen) (point : DataPoint) (r : Result Stored PutFault) → IsErrAnd r (λ y. y ≡ OutOfMemory) → Made s [] s → StoreMade point s r s
 no_memory s point r is m = passed_on (λ x. StoreMade point s x s) OutOfMemory r is m
 
-pub rose_as : {T : Type 0} (before now : ℕ) (e : RowsFault) (r : Result T PutFault) → IsErrAnd r (λ y. y ≡ put_fault e) → RoseIfStopped before now e → IfErr r (PutRose before now)
-rose_as before now e r is rose = passed_on (λ x. IfErr x (PutRose before now)) (put_fault e) r is (at e rose)
-  where
-    at : (e : RowsFault) → RoseIfStopped before now e → PutRose before now (put_fault e)
-    at rows.OutOfMemory rose = tt
-    at rows.Stopped rose = rose
-
 -- the parts of such a cell, under the names that the code has for them
 pub laid : (s : Seen) (point : DataPoint) (key : RowKey) (row : Row) (qual value list : List ℕ) → list ≡ value → KeyShown s point key → AllShown s (names_of point) → IsPossible s → row ≡ point_row (key_bytes key)
-    → IsDots qual list (dot_of (point.time % 3600000) point.fine point.value (length list) ∷ []) → IsShortest point.value value → Laid s point key row qual value
+    → IsDots qual list (dot_of (point.time % HOUR_MILLIS) point.fine point.value (length list) ∷ []) → IsShortest point.value value → Laid s point key row qual value
 laid s point key row qual value list same k names p row_is dot shortest = record {
   possible = p;
   names = names;
   key_is = k;
   row_is = row_is;
-  dot = subst (λ (v : List ℕ). IsDots qual v (dot_of (point.time % 3600000) point.fine point.value (length v) ∷ [])) same dot;
+  dot = subst (λ (v : List ℕ). IsDots qual v (dot_of (point.time % HOUR_MILLIS) point.fine point.value (length v) ∷ [])) same dot;
   shortest = shortest;
 }

@@ -1,6 +1,5 @@
 mod Asking
 mod Keying
 mod Layouts
-mod Lower
 mod Outcomes
 mod Tagging

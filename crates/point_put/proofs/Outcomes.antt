@@ -1,6 +1,7 @@
 -- What a put says, by what was asked and stored.
-use Rattle.std.proofs.Common.{◌≡◌, ℕ, ◌+◌, ◌*◌, ◌≤◌, List, [], ◌∷◌, ◌++◌, length, refl, subst, length-append, arith, rules}
+use Rattle.std.proofs.Common.{◌≡◌, ℕ, ◌+◌, ◌*◌, ◌≤◌, List, [], ◌∷◌, ◌++◌, length, refl, subst, length-append, arith}
 use Rattle.std.specs.Prelude.{Result, Ok, Err}
+use Rattle.list_lemmas.proofs.ListCuts.{nothing_behind}
 use Rattle.tsd_base.specs.declared.kinds.Kind.{Kind}
 use Rattle.tsd_base.specs.TagList.{Pair}
 use Rattle.tsd_base.specs.Points.{DataPoint}
@@ -8,30 +9,28 @@ use Rattle.row_key.specs.declared.keys.RowKey.{RowKey}
 use Rattle.cell_model.specs.declared.answers.Stored.{Stored}
 use Rattle.cell_model.specs.declared.events.Placed.{Placed}
 use Rattle.cell_model.specs.History.{History, first}
-use Rattle.cell_model.specs.Layout.{names_of}
+use Rattle.cell_model.specs.Layout.{names_of, tag_names}
 use Rattle.cell_model.specs.Lawful.{IsLawful}
 use Rattle.cell_model.specs.Seen.{Seen, Fits}
 use Rattle.cell_model.specs.Deeds.{Made}
-use Rattle.uid_table.specs.Steps.{MadeSo}
+use Rattle.uid_table.specs.IdSteps.{MadeSo}
 use Rattle.point_put.specs.declared.config.Config.{Config}
 use Rattle.point_put.specs.declared.fault.PutFault.{PutFault}
 use Rattle.point_put.specs.declared.fault.PutFault.TheVariants.{Unknown, Exhausted, OutOfMemory, Stopped}
-use Rattle.point_put.specs.Entries.{ForName, ForNames, Before, names_of_tags}
+use Rattle.point_put.specs.Entries.{ForName, ForNames, Before}
 use Rattle.point_put.specs.Entries.ForName.{none, look, full, bump, reverse, forward}
 use Rattle.point_put.specs.Entries.ForNames.{nil, more}
-use Rattle.point_put.specs.Shown.{AllShown, Fails, NamesAsked}
-use Rattle.point_put.specs.Putting.{AllResolved, PointAsked, PutSays, StoreMade}
-use Rattle.point_put.proofs.Lower.{first_lawful, first_fits, made_joined, itself}
+use Rattle.point_put.specs.ShownIds.{AllShown, Fails, NamesAsked}
+use Rattle.cell_model.specs.IdRows.{AllResolved}
+use Rattle.point_put.specs.PutPoint.{PointAsked, PutSays, StoreMade}
+use Rattle.cell_laws.proofs.CallerLemmas.{first_lawful, first_fits, made_joined, itself}
 use Rattle.point_put.proofs.Asking.{all_kept}
 
 abbrev Names : Type 0
 Names = List (Kind × List ℕ)
 
-no_more : {X : Type 0} (xs : List X) → xs ++ [] ≡ xs
-no_more xs = search rules
-
 all_resolved : (s : Seen) (h : History) (names : Names) → IsLawful h → Fits s h → AllShown s names → AllResolved (first s.length h) names
-all_resolved s h names l f all k n c = let w = all k n c in (w.0, w.1.stands s (itself s) (first s.length h) (first_lawful h s.length l) (first_fits s h f))
+all_resolved s h names l f all n c = let w = all n.0 n.1 c in (w.0, w.1.stands s (itself s) (first s.length h) (first_lawful h s.length l) (first_fits s h f))
 
 before_resolved : (s : Seen) (h : History) (names : Names) (kind : Kind) (name : List ℕ) → IsLawful h → Fits s h → Before names kind name (AllShown s) → Before names kind name (AllResolved (first s.length h))
 before_resolved s h names kind name l f (b, after, is, all) = (b, after, is, all_resolved s h b l f all)
@@ -52,8 +51,8 @@ put_done c point old mid new key (Ok stored) p (d, made, did, base) =
     (p.list ++ d ∷ [], made_joined old mid new p.list (d ∷ []) p.made made, λ h l f. record { names = p.list; put = d; list_is = refl; entries = p.entries; did = did h l f; base = base })
 put_done c point old mid new key (Err (Unknown kind name)) p s = absurd s
 put_done c point old mid new key (Err (Exhausted kind)) p s = absurd s
-put_done c point old mid new key (Err OutOfMemory) p s = (p.list, subst (λ xs. Made old xs new) (no_more p.list) (made_joined old mid new p.list [] p.made s), λ h l f. p.entries)
-put_done c point old mid new key (Err Stopped) p s = (p.list, subst (λ xs. Made old xs new) (no_more p.list) (made_joined old mid new p.list [] p.made s), λ h l f. p.entries)
+put_done c point old mid new key (Err OutOfMemory) p s = (p.list, subst (λ xs. Made old xs new) (nothing_behind p.list) (made_joined old mid new p.list [] p.made s), λ h l f. p.entries)
+put_done c point old mid new key (Err Stopped) p s = (p.list, subst (λ xs. Made old xs new) (nothing_behind p.list) (made_joined old mid new p.list [] p.made s), λ h l f. p.entries)
 
 few_for : (c : Config) (kind : Kind) (name : List ℕ) (list : List Placed) → ForName c kind name list → length list ≤ 4
 few_for c kind name _ none = omega arith
@@ -71,7 +70,7 @@ few_names c _ _ (more {kind} {name} {names} {part} {list} f rest) =
     let n = length-append part list in
     omega (arith, a, b, n)
 
-tag_count : (tags : List Pair) → length (names_of_tags tags) ≡ 2 * length tags
+tag_count : (tags : List Pair) → length (tag_names tags) ≡ 2 * length tags
 tag_count [] = refl
 tag_count (t ∷ tags) = let n = tag_count tags in omega (arith, n)
 
@@ -90,11 +89,11 @@ few_done c point old mid new key (Ok stored) p (d, made, did, base) =
     (p.list ++ d ∷ [], made_joined old mid new p.list (d ∷ []) p.made made, let n = few c point p.list p.entries in let m = length-append p.list (d ∷ []) in omega (arith, n, m))
 few_done c point old mid new key (Err (Unknown kind name)) p s = absurd s
 few_done c point old mid new key (Err (Exhausted kind)) p s = absurd s
-few_done c point old mid new key (Err OutOfMemory) p s = few_failed c point old new (Ok key) (record { list = p.list; made = subst (λ xs. Made old xs new) (no_more p.list) (made_joined old mid new p.list [] p.made s); entries = p.entries; answered = kept })
+few_done c point old mid new key (Err OutOfMemory) p s = few_failed c point old new (Ok key) (record { list = p.list; made = subst (λ xs. Made old xs new) (nothing_behind p.list) (made_joined old mid new p.list [] p.made s); entries = p.entries; answered = kept })
   where
     kept : AllShown new (names_of point)
     kept = all_kept mid new (names_of point) s.since.extends p.answered
-few_done c point old mid new key (Err Stopped) p s = few_failed c point old new (Ok key) (record { list = p.list; made = subst (λ xs. Made old xs new) (no_more p.list) (made_joined old mid new p.list [] p.made s); entries = p.entries; answered = kept })
+few_done c point old mid new key (Err Stopped) p s = few_failed c point old new (Ok key) (record { list = p.list; made = subst (λ xs. Made old xs new) (nothing_behind p.list) (made_joined old mid new p.list [] p.made s); entries = p.entries; answered = kept })
   where
     kept : AllShown new (names_of point)
     kept = all_kept mid new (names_of point) s.since.extends p.answered

@@ -10,15 +10,18 @@ use Rattle.std.proofs.lemmas.Grind.{flat_map-append}
 use Rattle.std.proofs.lemmas.Cmp.{nat_list_cmp_total, tied_itself}
 use Rattle.tsd_base.specs.declared.kinds.Kind.{Kind}
 use Rattle.tsd_base.specs.declared.kinds.Kind.TheVariants.{TagKey, TagValue}
-use Rattle.tsd_base.specs.TagList.{Pair, RiseByKey, bytes_cmp}
+use Rattle.tsd_base.specs.TagList.{Pair, RiseByKey}
+use Rattle.list_lemmas.specs.BytesOrder.{bytes_cmp}
 use Rattle.cell_model.specs.Seen.{Seen, IsPossible}
 use Rattle.cell_model.specs.Deeds.{Extends}
 use Rattle.point_put.specs.declared.config.Config.{Config}
 use Rattle.point_put.specs.declared.fault.PutFault.{PutFault}
-use Rattle.point_put.specs.Entries.{names_of_tags}
-use Rattle.point_put.specs.Shown.{NamesAsked, IdsShown, PairsShown, Rising}
-use Rattle.point_put.proofs.Lower.{one_name_each, itself, at_front, behind, front_or_behind, in_none}
-use Rattle.point_put.proofs.Asking.{shown_kept, in_either, in_right, in_left, asked_then, asked_failed, asked_ok_as}
+use Rattle.cell_model.specs.Layout.{tag_names}
+use Rattle.point_put.specs.ShownIds.{NamesAsked, IdsShown, PairsShown, Rising}
+use Rattle.cell_laws.proofs.CallerLemmas.{one_name, itself}
+use Rattle.list_lemmas.proofs.ListMembers.{here as at_front, there, split, not_in}
+use Rattle.uid_table.proofs.CallerLemmas.{shown_kept}
+use Rattle.point_put.proofs.Asking.{in_either, in_right, in_left, asked_then, asked_failed, asked_ok_as}
 
 -- a pair between those below it and those above it
 pub rises_with : (xs : List (ℕ × ℕ)) (i : ℕ) (y : ℕ × ℕ) → i ≤ length xs → Rising xs → ((k : ℕ) (d : ℕ × ℕ) → k < i → (get_or xs k d).0 < y.0) → ((k : ℕ) (d : ℕ × ℕ) → i ≤ k → k < length xs → y.0 < (get_or xs k d).0)
@@ -39,12 +42,12 @@ about xs i x lt is = sym (take-append-drop i xs) ∙ ap (λ ys. take i xs ++ ys)
 pub taken : {X : Type 0} (xs : List X) (i : ℕ) (x : X) → i < length xs → x ≡ get_or xs i x → take (i + 1) xs ≡ take i xs ++ x ∷ []
 taken xs i x lt is = take_more xs i x lt ∙ ap (λ y. take i xs ++ y ∷ []) (sym is)
 
-pub names_joined : (xs ys : List Pair) → names_of_tags (xs ++ ys) ≡ names_of_tags xs ++ names_of_tags ys
+pub names_joined : (xs ys : List Pair) → tag_names (xs ++ ys) ≡ tag_names xs ++ tag_names ys
 names_joined xs ys = flat_map-append (λ t. (TagKey, t.0) ∷ (TagValue, t.1) ∷ []) xs ys
 
 -- no pair yet
 pub pairs_none : (s : Seen) → PairsShown s [] []
-pairs_none s = record { rising = λ i j d lt more. absurd (omega (arith, more)); count = refl; each_tag = λ t c. absurd (in_none t c); each_pair = λ i c. absurd (in_none i c) }
+pairs_none s = record { rising = λ i j d lt more. absurd (omega (arith, more)); count = refl; each_tag = λ t c. absurd (not_in t c); each_pair = λ i c. absurd (not_in i c) }
 
 pub ids_kept : (s t : Seen) (tag : Pair) (ids : ℕ × ℕ) → Extends s t → IdsShown s tag ids → IdsShown t tag ids
 ids_kept s t tag ids e shown = (shown_kept s t TagKey tag.0 ids.0 e shown.0, shown_kept s t TagValue tag.1 ids.1 e shown.1)
@@ -56,7 +59,7 @@ pairs_more s t tags pairs new tag ids e old shown rising same = record {
   rising = rising;
   count = let n = length_permutation (ids ∷ pairs) new same in let m = old.count in let k = length-append tags (tag ∷ []) in omega (arith, n, m, k);
   each_tag = λ u c. of_tag u (in_either tags (tag ∷ []) u c);
-  each_pair = λ i c. of_pair i (front_or_behind ids i pairs (Contains-permutation new (ids ∷ pairs) i (IsPermutation-sym (ids ∷ pairs) new same) c));
+  each_pair = λ i c. of_pair i (split ids i pairs (Contains-permutation new (ids ∷ pairs) i (IsPermutation-sym (ids ∷ pairs) new same) c));
 }
   where
     one : List Pair
@@ -67,11 +70,11 @@ pairs_more s t tags pairs new tag ids e old shown rising same = record {
 
     here : (u : Pair) → (tag ≡ u) ⊎ Contains none u → (i : ℕ × ℕ) × Contains new i × IdsShown t u i
     here u (inl is) = (ids, Contains-permutation (ids ∷ pairs) new ids same (at_front ids pairs), subst (λ v. IdsShown t v ids) is shown)
-    here u (inr later) = absurd (in_none u later)
+    here u (inr later) = absurd (not_in u later)
 
     of_tag : (u : Pair) → Contains tags u ⊎ Contains one u → (i : ℕ × ℕ) × Contains new i × IdsShown t u i
-    of_tag u (inl before) = let w = old.each_tag u before in (w.0, Contains-permutation (ids ∷ pairs) new w.0 same (behind ids w.0 pairs w.1), ids_kept s t u w.0 e w.2)
-    of_tag u (inr last) = here u (front_or_behind tag u [] last)
+    of_tag u (inl before) = let w = old.each_tag u before in (w.0, Contains-permutation (ids ∷ pairs) new w.0 same (there ids w.0 pairs w.1), ids_kept s t u w.0 e w.2)
+    of_tag u (inr last) = here u (split tag u [] last)
 
     of_pair : (i : ℕ × ℕ) → (ids ≡ i) ⊎ Contains pairs i → (u : Pair) × Contains (tags ++ one) u × IdsShown t u i
     of_pair i (inl is) = (tag, in_right tags one tag (at_front tag []), subst (λ v. IdsShown t tag v) is shown)
@@ -79,8 +82,8 @@ pairs_more s t tags pairs new tag ids e old shown rising same = record {
 
 -- the keys before a tag are below its key
 pub below : (front back : List Pair) (tag u : Pair) → RiseByKey (front ++ tag ∷ back) → Contains front u → bytes_cmp u.0 tag.0 ≡ Less
-below [] back tag u r c = absurd (in_none u c)
-below (x ∷ front) back tag u r c = at (front_or_behind x u front c) (below front back tag u tail)
+below [] back tag u r c = absurd (not_in u c)
+below (x ∷ front) back tag u r c = at (split x u front c) (below front back tag u tail)
   where
     tail : RiseByKey (front ++ tag ∷ back)
     tail = λ i j d lt more. r (suc i) (suc j) d (omega (arith, lt)) (omega (arith, more))
@@ -107,7 +110,7 @@ new_id s t front back pairs tag ids e possible old shown rise k d lt same =
     let h = possible.history in
     let u_id = w.2.0.stands t e h possible.lawful possible.fits in
     let t_id = shown.0.stands t (itself t) h possible.lawful possible.fits in
-    let one = one_name_each h TagKey w.0.0 tag.0 ids.0 possible.lawful w.2.0.is_name shown.0.is_name (u_id ∙ ap (λ n. Some n) same) t_id in
+    let one = one_name h TagKey w.0.0 tag.0 ids.0 possible.lawful w.2.0.is_name shown.0.is_name (u_id ∙ ap (λ n. Some n) same) t_id in
     not_below_itself tag.0 (subst (λ x. bytes_cmp x tag.0 ≡ Less) one (below front back tag w.0 rise w.1))
   where
     default : (xs : List (ℕ × ℕ)) (i : ℕ) (a b : ℕ × ℕ) → i < length xs → get_or xs i b ≡ get_or xs i a
@@ -116,21 +119,21 @@ new_id s t front back pairs tag ids e possible old shown rise k d lt same =
     default (x ∷ xs) (suc i) a b lt = default xs i a b (omega (arith, lt))
 
 -- one tag more was asked
-pub tag_asked : (c : Config) (tags : List Pair) (i : ℕ) (tag : Pair) (a b d : Seen) (ids : ℕ × ℕ) → i < length tags → tag ≡ get_or tags i tag → NamesAsked {T = Unit {0}} c (names_of_tags (take i tags)) a (Ok tt) b
-    → NamesAsked {T = ℕ × ℕ} c (names_of_tags (tag ∷ [])) b (Ok ids) d → NamesAsked {T = Unit {0}} c (names_of_tags (take (i + 1) tags)) a (Ok tt) d
+pub tag_asked : (c : Config) (tags : List Pair) (i : ℕ) (tag : Pair) (a b d : Seen) (ids : ℕ × ℕ) → i < length tags → tag ≡ get_or tags i tag → NamesAsked {T = Unit {0}} c (tag_names (take i tags)) a (Ok tt) b
+    → NamesAsked {T = ℕ × ℕ} c (tag_names (tag ∷ [])) b (Ok ids) d → NamesAsked {T = Unit {0}} c (tag_names (take (i + 1) tags)) a (Ok tt) d
 tag_asked c tags i tag a b d ids lt is p q =
-    let both = asked_then c (names_of_tags (take i tags)) (names_of_tags (tag ∷ [])) a b d tt (Ok ids) p q in
-    subst (λ (ns : List (Kind × List ℕ)). NamesAsked {T = Unit {0}} c ns a (Ok tt) d) (sym (names_joined (take i tags) (tag ∷ [])) ∙ ap names_of_tags (sym (taken tags i tag lt is))) (asked_ok_as c _ a d ids tt both)
+    let both = asked_then c (tag_names (take i tags)) (tag_names (tag ∷ [])) a b d tt (Ok ids) p q in
+    subst (λ (ns : List (Kind × List ℕ)). NamesAsked {T = Unit {0}} c ns a (Ok tt) d) (sym (names_joined (take i tags) (tag ∷ [])) ∙ ap tag_names (sym (taken tags i tag lt is))) (asked_ok_as c _ a d ids tt both)
 
 -- a tag failed
-pub tag_failed : {U : Type 0} (c : Config) (tags : List Pair) (i : ℕ) (tag : Pair) (a b d : Seen) (e : PutFault) → i < length tags → tag ≡ get_or tags i tag → NamesAsked {T = Unit {0}} c (names_of_tags (take i tags)) a (Ok tt) b
-    → NamesAsked {T = ℕ × ℕ} c (names_of_tags (tag ∷ [])) b (Err e) d → NamesAsked {T = U} c (names_of_tags tags) a (Err e) d
+pub tag_failed : {U : Type 0} (c : Config) (tags : List Pair) (i : ℕ) (tag : Pair) (a b d : Seen) (e : PutFault) → i < length tags → tag ≡ get_or tags i tag → NamesAsked {T = Unit {0}} c (tag_names (take i tags)) a (Ok tt) b
+    → NamesAsked {T = ℕ × ℕ} c (tag_names (tag ∷ [])) b (Err e) d → NamesAsked {T = U} c (tag_names tags) a (Err e) d
 tag_failed {U} c tags i tag a b d e lt is p q =
-    let both = asked_then c (names_of_tags (take i tags)) (names_of_tags (tag ∷ [])) a b d tt (Err e) p q in
-    let all = asked_failed {U = U} c (names_of_tags (take i tags) ++ names_of_tags (tag ∷ [])) (names_of_tags (drop (suc i) tags)) a d e both in
-    let same : (names_of_tags (take i tags) ++ names_of_tags (tag ∷ [])) ++ names_of_tags (drop (suc i) tags) ≡ names_of_tags tags =
-    append_assoc (names_of_tags (take i tags)) (names_of_tags (tag ∷ [])) (names_of_tags (drop (suc i) tags))
-    ∙ ap (λ ns. names_of_tags (take i tags) ++ ns) (sym (names_joined (tag ∷ []) (drop (suc i) tags))) ∙ sym (names_joined (take i tags) (tag ∷ drop (suc i) tags)) ∙ ap names_of_tags (sym (about tags i tag lt is)) in
+    let both = asked_then c (tag_names (take i tags)) (tag_names (tag ∷ [])) a b d tt (Err e) p q in
+    let all = asked_failed {U = U} c (tag_names (take i tags) ++ tag_names (tag ∷ [])) (tag_names (drop (suc i) tags)) a d e both in
+    let same : (tag_names (take i tags) ++ tag_names (tag ∷ [])) ++ tag_names (drop (suc i) tags) ≡ tag_names tags =
+    append_assoc (tag_names (take i tags)) (tag_names (tag ∷ [])) (tag_names (drop (suc i) tags))
+    ∙ ap (λ ns. tag_names (take i tags) ++ ns) (sym (names_joined (tag ∷ []) (drop (suc i) tags))) ∙ sym (names_joined (take i tags) (tag ∷ drop (suc i) tags)) ∙ ap tag_names (sym (about tags i tag lt is)) in
     subst (λ (ns : List (Kind × List ℕ)). NamesAsked {T = U} c ns a (Err e) d) same all
 
 -- the pairs from one above the id on are above it

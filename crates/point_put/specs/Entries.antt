@@ -1,15 +1,12 @@
 -- The entries that a caller makes for the names of a point.
 use Rattle.std.specs.Prelude.{◌≡◌, ℕ, true, false, List, [], ◌∷◌, ◌++◌, Contains, Option, None}
-use Rattle.std.specs.List.{flat_map}
 use Rattle.tsd_base.specs.declared.kinds.Kind.{Kind}
-use Rattle.tsd_base.specs.declared.kinds.Kind.TheVariants.{TagKey, TagValue}
-use Rattle.tsd_base.specs.TagList.{Pair}
 use Rattle.cell_model.specs.declared.events.Step.TheVariants.{Bump}
 use Rattle.cell_model.specs.declared.events.Reply.TheVariants.{BumpReply}
 use Rattle.cell_model.specs.declared.events.Placed.{Placed}
 use Rattle.cell_model.specs.declared.answers.Bumped.TheVariants.{Full}
 use Rattle.cell_model.specs.declared.answers.Claimed.{Claimed}
-use Rattle.uid_table.specs.Steps.{Did, DidLook, DidBump, DidReverse, DidForward}
+use Rattle.uid_table.specs.IdSteps.{Did, DidLook, DidBump, DidReverse, DidForward}
 use Rattle.point_put.specs.declared.config.Config.{Config}
 use Rattle.point_put.specs.Configs.{makes}
 
@@ -39,7 +36,3 @@ WasExhausted c kind list = (makes c kind ≡ true) × ((d : Placed) × Contains 
 -- those of the names that stand before this one
 abbrev pub Before : List (Kind × List ℕ) → Kind → List ℕ → (List (Kind × List ℕ) → Type 0) → Type 0
 Before names kind name P = (before : List (Kind × List ℕ)) × (after : List (Kind × List ℕ)) × (names ≡ before ++ (kind, name) ∷ after) × P before
-
--- the names of tags, each key before its value
-abbrev pub names_of_tags : List Pair → List (Kind × List ℕ)
-names_of_tags tags = flat_map (λ t. (TagKey, t.0) ∷ (TagValue, t.1) ∷ []) tags

@@ -1,5 +1,5 @@
 pub mod Configs
-pub mod Faults
+pub mod PutFaults
 pub mod Entries
-pub mod Shown
-pub mod Putting
+pub mod ShownIds
+pub mod PutPoint

@@ -1,7 +1,7 @@
 //! Why a point wasn't put.
-ghost use Rattle.std.specs.Prelude.{◌≡◌};
+ghost use Rattle.std.specs.Prelude.{◌≡◌, ◌++◌, OnOk};
 ghost use Rattle.point_put.specs.declared.fault.PutFault.TheVariants.{OutOfMemory};
-ghost use Rattle.point_put.specs.Faults.{put_fault};
+ghost use Rattle.point_put.specs.PutFaults.{put_fault, put_fault_text};
 
 use cell_model::answers::RowsFault;
 use std::alloc::AllocError;
@@ -19,6 +19,30 @@ pub enum PutFault {
     OutOfMemory,
     /// The caller was stopped before one of the steps.
     Stopped,
+}
+
+impl PutFault {
+    /// Writes why a point wasn't put, behind what was written before.
+    #[tactic(auto, using(std::proofs::lemmas::List::append_assoc), unfolding(crate::specs::PutFaults::put_fault_text))]
+    pub fn write_text(&self, out: &mut Vec<u8>) -> Result<(), AllocError>
+        ensures { OnOk result (out.new.items ≡ out.old.items ++ put_fault_text self.now) }
+    {
+        match self {
+            PutFault::Unknown { kind, name } => {
+                out.extend_from_slice(b"unknown ")?;
+                out.extend_from_slice(kind.text().as_bytes())?;
+                out.extend_from_slice(b" ")?;
+                out.extend_from_slice(name.bytes())
+            }
+            PutFault::Exhausted { kind } => {
+                out.extend_from_slice(b"ids of ")?;
+                out.extend_from_slice(kind.text().as_bytes())?;
+                out.extend_from_slice(b" are exhausted")
+            }
+            PutFault::OutOfMemory => out.extend_from_slice(b"out of memory"),
+            PutFault::Stopped => out.extend_from_slice(b"stopped"),
+        }
+    }
 }
 
 impl From<RowsFault> for PutFault {

@@ -13,9 +13,9 @@ use Rattle.qual_codec.specs.Order.{IsAsGood}
 use Rattle.qual_codec.specs.Merge.{offset_of, values_at, first_conflict}
 use Rattle.qual_codec.specs.MergeSteps.{is_as_good, EndsAt, EndsElsewhere, AddsDot, AddsWithin, CannotAdd, KeepsAll, ConflictsHere, ConflictsIn}
 use Rattle.qual_codec.specs.MergeSteps.AddsDot.{behind_all, at_last}
-use Rattle.qual_codec.proofs.Lists.{pairs_push, pairs_before, pairs_behind, pairs_front, HasLast, empty_or_last}
+use Rattle.list_lemmas.proofs.ListParts.{pairs_push, pairs_before, pairs_behind, pairs_front, HasLast, empty_or_last}
 use Rattle.qual_codec.proofs.Values.{no_conflict, one_conflict, value_dot, dot_value, values_append, values_cons}
-use Rattle.qual_codec.proofs.Members.{here, there, not_in, split}
+use Rattle.list_lemmas.proofs.ListMembers.{here, there, not_in, split}
 use Rattle.qual_codec.proofs.Ordering.{good_refl, good_trans}
 
 abbrev Rise : Dot → Dot → Type 0

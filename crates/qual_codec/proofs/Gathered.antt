@@ -6,8 +6,8 @@ use Rattle.qual_codec.specs.declared.cells.Cell.{Cell}
 use Rattle.qual_codec.specs.declared.cells.Dot.{Dot}
 use Rattle.qual_codec.specs.declared.cells.CellFault.{CellFault}
 use Rattle.qual_codec.specs.declared.cells.CellFault.TheVariants.{OutOfMemory}
-use Rattle.qual_codec.specs.Dots.{IsDots, Reads}
-use Rattle.qual_codec.specs.Faults.{IsFirstFault}
+use Rattle.qual_codec.specs.CellDots.{IsDots, Reads}
+use Rattle.qual_codec.specs.CellFaults.{IsFirstFault}
 use Rattle.qual_codec.specs.Merge.{AreDots}
 use Rattle.qual_codec.specs.MergeSteps.{AddsDots}
 use Rattle.qual_codec.proofs.OneReading.{reads_once}

@@ -1,14 +1,13 @@
-pub mod Members
-pub mod Bits
-pub mod NextItem
-pub mod Progress
-pub mod OneReading
-pub mod WholeCell
-pub mod Ordering
-pub mod Lists
-pub mod Values
-pub mod Best
-pub mod Ranges
-pub mod Gathered
-pub mod Written
-pub mod Merges
+mod Bits
+mod NextItem
+mod Progress
+mod OneReading
+mod WholeCell
+mod Ordering
+mod Values
+mod Best
+mod Ranges
+mod Gathered
+mod Written
+mod Merges
+pub mod CallerLemmas

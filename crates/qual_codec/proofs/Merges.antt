@@ -3,16 +3,17 @@ use Rattle.std.proofs.Common.{◌≡◌, ◌⊎◌, inl, inr, ℕ, ◌≤◌, �
 use Rattle.std.proofs.lemmas.List.{get_or-map, length-map}
 use Rattle.std.proofs.lemmas.List.Elements.{Contains-append_left, Contains-append_cases}
 use Rattle.std.specs.Prelude.{pos, All, AllPairs, Contains, FitsSigned}
+use Rattle.row_key.specs.declared.hours.TheConstants.{LAST_OFFSET}
 use Rattle.qual_codec.specs.declared.cells.Cell.{Cell}
 use Rattle.qual_codec.specs.declared.cells.Item.{Item}
 use Rattle.qual_codec.specs.declared.cells.Dot.{Dot}
 use Rattle.qual_codec.specs.Items.{IsItem, Rises}
-use Rattle.qual_codec.specs.Dots.{IsDots, items_of, width_of}
+use Rattle.qual_codec.specs.CellDots.{IsDots, items_of, width_of}
 use Rattle.qual_codec.specs.Order.{IsAsGood, IsAtMost}
 use Rattle.qual_codec.specs.Merge.{AreDots, Keeps}
 use Rattle.qual_codec.specs.MergeSteps.{AreOfCell}
-use Rattle.qual_codec.proofs.Members.{here, there, not_in, split, all_in, in_map, map_in}
-use Rattle.qual_codec.proofs.Lists.{all_of}
+use Rattle.list_lemmas.proofs.ListMembers.{here, there, not_in, split, all_in, in_map, map_in}
+use Rattle.list_lemmas.proofs.ListParts.{all_of}
 
 -- ---- dots and cells
 
@@ -74,7 +75,7 @@ rises_items dots rising i j d lt within =
     let b = ap (λ (x : Item). x.offset) (get_or-map (λ (x : Dot). x.item) dots j e d last) in
     omega (arith, up, a, b)
 
-module _ (cells : List Cell) (all kept : List Dot) (are : AreDots cells all) (keeps : Keeps all 0 3599999 kept) where
+module _ (cells : List Cell) (all kept : List Dot) (are : AreDots cells all) (keeps : Keeps all 0 LAST_OFFSET kept) where
   good_dot : (d : Dot) → Contains all d → IsItem d.item × FitsSigned (width_of d.item.len) d.value
   good_dot d c = let w = dot_in cells all d are c in dot_good w.cell.qual w.cell.value w.dots d w.are w.has
 

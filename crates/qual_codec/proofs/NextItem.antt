@@ -1,12 +1,14 @@
 -- What the next bytes of a qualifier are.
 use Rattle.std.proofs.Common.{◌≡◌, inr, ℕ, ◌+◌, ◌-◌, ◌*◌, ◌/◌, ◌%◌, ◌^◌, ◌≤◌, ◌<◌, Bool, true, false, List, [], ◌∷◌, ◌++◌, length, get_or, drop, Option, None, Some, Ok, Err, refl, sym, ap, subst, ◌∙◌, arith, rules}
 use Rattle.std.specs.Prelude.{nat_eq, nat_lt, nat_le, not, ◌||◌, if◌then◌else◌}
+use Rattle.list_lemmas.proofs.BoolTests.{nat_eq_is}
+use Rattle.row_key.specs.declared.hours.TheConstants.{LAST_OFFSET}
 use Rattle.qual_codec.specs.declared.cells.Item.{Item}
 use Rattle.qual_codec.specs.declared.cells.CellFault.{CellFault}
 use Rattle.qual_codec.specs.Items.{IsLength, Fields, AreFields, field_bytes, fields_of}
 use Rattle.qual_codec.specs.Items.IsLength.{one, two, four, eight}
-use Rattle.qual_codec.specs.Faults.{is_length, bits_fault}
-use Rattle.qual_codec.specs.Steps.{item_of, item_unless, IsNextItem, IsNextFault}
+use Rattle.qual_codec.specs.CellFaults.{is_length, bits_fault}
+use Rattle.qual_codec.specs.CellSteps.{item_of, item_unless, IsNextItem, IsNextFault}
 
 -- ---- no fault, and what follows from it
 
@@ -17,9 +19,6 @@ guarded false fault o e = (refl, e)
 not_false : (b : Bool) → not b ≡ false → b ≡ true
 not_false true e = refl
 not_false false e = cc
-
-nat_eq_is : (a b : ℕ) → nat_eq a b ≡ true → a ≡ b
-nat_eq_is a b e = search (rules, e)
 
 pub tested_length : (n : ℕ) → is_length n ≡ true → IsLength n
 tested_length n e = at (nat_eq n 1) (nat_eq n 2) (nat_eq n 4) (nat_eq n 8) refl refl refl refl e
@@ -33,7 +32,7 @@ tested_length n e = at (nat_eq n 1) (nat_eq n 2) (nat_eq n 4) (nat_eq n 8) refl 
 
 -- the bits are those of an item
 pub record AreItem (late : Bool) (f : Fields) : Type 0 where
-  pub offset : f.offset ≤ 3599999
+  pub offset : f.offset ≤ LAST_OFFSET
   pub flags : f.flags < 8
   pub reserved : f.reserved ≡ 0
   pub len : IsLength (f.flags + 1)
@@ -41,7 +40,7 @@ pub record AreItem (late : Bool) (f : Fields) : Type 0 where
 
 pub no_fault : (at : ℕ) (late : Bool) (f : Fields) → bits_fault at late f ≡ None → AreItem late f
 no_fault at late f e =
-    let a = guarded (nat_lt 3599999 f.offset) _ _ e in
+    let a = guarded (nat_lt LAST_OFFSET f.offset) _ _ e in
     let b = guarded (nat_le 8 f.flags) _ _ a.1 in
     let c = guarded (nat_lt 0 f.reserved) _ _ b.1 in
     let d = guarded (not (is_length (f.flags + 1))) _ _ c.1 in

@@ -12,15 +12,17 @@ use mir.Val.{bits}
 use Rattle.std.specs.Prelude.{All, ℤ, FitsSigned, nat_lt, nat_le, not, if◌then◌else◌, slice_index}
 use Rattle.std.specs.List.{flat_map}
 use Rattle.std.specs.Int.{w16, w32, w64, to_be_bytes, from_be_bytes, cast_unsigned, cast_signed}
+use Rattle.list_lemmas.proofs.ListMembers.{prefix_one}
+use Rattle.row_key.specs.declared.hours.TheConstants.{LAST_OFFSET}
 use Rattle.qual_codec.specs.declared.cells.Item.{Item}
 use Rattle.qual_codec.specs.declared.cells.Dot.{Dot}
 use Rattle.qual_codec.specs.declared.cells.CellFault.{CellFault}
 use Rattle.qual_codec.specs.declared.cells.CellFault.TheVariants.{OddLength, CutItem, OffsetTooLarge, FloatFlag, BadLength, NotRising, ValueShort, ValueLong, BadTail}
 use Rattle.qual_codec.specs.Items.{IsLength, IsItem, IsItems, Rises, Fields, AreFields, fields_of, field_bytes, item_bytes}
 use Rattle.qual_codec.specs.Items.IsLength.{one, two, four, eight}
-use Rattle.qual_codec.specs.Dots.{IsDots, items_of, value_bytes, number_bytes, width_of, tail_of, tail_for, has_both}
-use Rattle.qual_codec.specs.Faults.{HasWholePairs, Begins, IsCut, is_length, item_fault, values_length, value_fault, tail_fault, IsFirstFault, ReadsAs}
-use Rattle.qual_codec.specs.Faults.IsFirstFault.{odd, cut, item, values}
+use Rattle.qual_codec.specs.CellDots.{IsDots, items_of, value_bytes, number_bytes, width_of, tail_of, tail_for, has_both}
+use Rattle.qual_codec.specs.CellFaults.{HasWholePairs, Begins, IsCut, is_length, item_fault, values_length, value_fault, tail_fault, IsFirstFault, ReadsAs}
+use Rattle.qual_codec.specs.CellFaults.IsFirstFault.{odd, cut, item, values}
 use Rattle.qual_codec.proofs.Bits.{length_low, length_high, are_fields, fields_once, item_once, items_once, some_bytes, coarse, fine_number, coarse_high}
 use Rattle.qual_codec.proofs.Progress.{Fits, even_items, long_fields}
 
@@ -61,7 +63,7 @@ no_fault before at i is low =
     let high = length_high i.len is.len in
     let l1 = length_low i.len is.len in
     let late = list_any_none (λ (j : Item). nat_le i.offset j.offset) before (λ k d lt. lt-leb i.offset (get_or before k d).offset (low k d lt)) in
-    (λ k. cond (le-ltb 3599999 i.offset most k) (Some (OffsetTooLarge at)) (cond (lt-leb 8 (i.len - 1) (omega (arith, high, l1)) k) (Some (FloatFlag at)) (cond (not (tests_length i.len is.len k)) (Some (BadLength at (i.len - 1 + 1))) (cond (late k) (Some (NotRising at)) none_of))))
+    (λ k. cond (le-ltb LAST_OFFSET i.offset most k) (Some (OffsetTooLarge at)) (cond (lt-leb 8 (i.len - 1) (omega (arith, high, l1)) k) (Some (FloatFlag at)) (cond (not (tests_length i.len is.len k)) (Some (BadLength at (i.len - 1 + 1))) (cond (late k) (Some (NotRising at)) none_of))))
 
 some_is : (f g : CellFault) → Some f ≡ Some g → f ≡ g
 some_is f g e = cc
@@ -73,7 +75,7 @@ no_more items at rest x _ j (at_cut c) is low e = cut_fields (fields_of j) rest 
 no_more items at rest x _ j (at_bits f after fault parts are bad) is low e =
     let w = fields_once f (fields_of j) after x are (are_fields j is) (sym parts ∙ e) in
     let none = ap (λ (g : Fields). item_fault items at g) w.0 ∙ no_fault items at j is low in
-    let clash : Some fault ≡ none_of = sym bad ∙ none in
+    let conflict : Some fault ≡ none_of = sym bad ∙ none in
     cc
 
 one_end : (items : List Item) (at : ℕ) (rest : List ℕ) (o p : Option CellFault) → Ends items at rest o → Ends items at rest p → o ≡ p
@@ -168,19 +170,9 @@ number_once _ n m two a b e = sym (from_be_bytes-to_be_bytes_2 n a) ∙ ap (from
 number_once _ n m four a b e = sym (from_be_bytes-to_be_bytes_4 n a) ∙ ap (from_be_bytes w32) e ∙ from_be_bytes-to_be_bytes_4 m b
 number_once _ n m eight a b e = sym (from_be_bytes-to_be_bytes_8 n a) ∙ ap (from_be_bytes w64) e ∙ from_be_bytes-to_be_bytes_8 m b
 
-front_once : (a b x y : List ℕ) → length a ≡ length b → a ++ x ≡ b ++ y → (a ≡ b) × (x ≡ y)
-front_once [] [] x y l e = (refl, e)
-front_once [] (c ∷ b) x y l e = absurd (omega (arith, l))
-front_once (c ∷ a) [] x y l e = absurd (omega (arith, l))
-front_once (c ∷ a) (d ∷ b) x y l e =
-    let h : c ≡ d = cc in
-    let t : a ++ x ≡ b ++ y = cc in
-    let w = front_once a b x y (omega (arith, l)) t in
-    (λ k. h k ∷ w.0 k, w.1)
-
 value_once : (len : ℕ) (v w : ℤ) (x y : List ℕ) → IsLength len → FitsSigned (width_of len) v → FitsSigned (width_of len) w → number_bytes len v ++ x ≡ number_bytes len w ++ y → (v ≡ w) × (x ≡ y)
 value_once len v w x y l f g e =
-    let p = front_once (number_bytes len v) (number_bytes len w) x y (same_length len l (cast_unsigned (width_of len) v) (cast_unsigned (width_of len) w)) e in
+    let p = prefix_one (number_bytes len v) (number_bytes len w) x y (same_length len l (cast_unsigned (width_of len) v) (cast_unsigned (width_of len) w)) e in
     let n = number_once len _ _ l (bounded len v f) (bounded len w g) p.0 in
     (sym (to_z-of_z (width_of len) v f) ∙ ap (cast_signed (width_of len)) n ∙ to_z-of_z (width_of len) w g, p.1)
 
@@ -248,13 +240,13 @@ kind_of qual value (Err fault) r = kind_of_fault qual value fault r
 
 ended : (qual : List ℕ) (a b : List Item) (at : ℕ) (rest : List ℕ) (fault : CellFault) → Begins qual a at rest → Ends a at rest (Some fault) → IsItems qual b → ⊥
 ended qual a b at rest fault begins ends is =
-    let clash : Some fault ≡ none_of = ends_once qual a b at (length qual) rest [] (Some fault) None begins ends (begins_all qual b is) (done refl) in
+    let conflict : Some fault ≡ none_of = ends_once qual a b at (length qual) rest [] (Some fault) None begins ends (begins_all qual b is) (done refl) in
     cc
 
 right_and_wrong : (qual value : List ℕ) (dots : List Dot) (items : List Item) (fault : CellFault) → IsDots qual value dots → IsItems qual items → value_fault (values_length items) (tail_of items) value ≡ Some fault → ⊥
 right_and_wrong qual value dots items fault d is bad =
     let same = items_once qual items (items_of dots) is d.items in
-    let clash : Some fault ≡ none_of = sym bad ∙ ap (λ l. value_fault (values_length l) (tail_of l) value) same ∙ value_is_right qual value dots d in
+    let conflict : Some fault ≡ none_of = sym bad ∙ ap (λ l. value_fault (values_length l) (tail_of l) value) same ∙ value_is_right qual value dots d in
     cc
 
 kinds_once : (qual value : List ℕ) (a b : Result (List Dot) CellFault) → Kind qual value a → Kind qual value b → a ≡ b

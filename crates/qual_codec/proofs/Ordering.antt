@@ -6,7 +6,7 @@ use Rattle.qual_codec.specs.declared.cells.Item.{Item}
 use Rattle.qual_codec.specs.Items.{Rises, item_bytes}
 use Rattle.qual_codec.specs.Order.{IsAsGood, IsAtMost, IsBelow}
 use Rattle.qual_codec.proofs.Bits.{items_once}
-use Rattle.qual_codec.proofs.Members.{here, there, split, not_in, pairs_in, pairs_tail}
+use Rattle.list_lemmas.proofs.ListMembers.{here, there, split, not_in, pairs_in, pairs_tail}
 
 -- ---- items
 

@@ -9,14 +9,15 @@ use Rattle.std.proofs.lemmas.List.Sums.{sum_by_push}
 use Rattle.std.specs.Prelude.{All, ℤ, FitsSigned, nat_lt, nat_le, not, ◌==◌, ◌||◌, if◌then◌else◌}
 use Rattle.std.specs.List.{flat_map, list_any}
 use Rattle.std.specs.Int.{w16, w32, to_be_bytes}
+use Rattle.row_key.specs.declared.hours.TheConstants.{HOUR_MILLIS}
 use Rattle.qual_codec.specs.declared.cells.Item.{Item}
 use Rattle.qual_codec.specs.declared.cells.Dot.{Dot}
 use Rattle.qual_codec.specs.declared.cells.CellFault.{CellFault}
 use Rattle.qual_codec.specs.Items.{IsItem, Fields, fields_of, field_bytes, item_bytes}
-use Rattle.qual_codec.specs.Dots.{items_of, number_bytes, value_bytes, width_of}
-use Rattle.qual_codec.specs.Faults.{Begins, values_length, IsFirstFault, bits_fault}
-use Rattle.qual_codec.specs.Faults.IsFirstFault.{cut, item}
-use Rattle.qual_codec.specs.Steps.{IsNextItem, IsNextFault}
+use Rattle.qual_codec.specs.CellDots.{items_of, number_bytes, value_bytes, width_of}
+use Rattle.qual_codec.specs.CellFaults.{Begins, values_length, IsFirstFault, bits_fault}
+use Rattle.qual_codec.specs.CellFaults.IsFirstFault.{cut, item}
+use Rattle.qual_codec.specs.CellSteps.{IsNextItem, IsNextFault}
 use Rattle.qual_codec.proofs.Bits.{length_high, coarse, fine_number}
 
 abbrev pub Fits : Dot → Type 0
@@ -27,7 +28,7 @@ pub record HasCome (qual value rest left : List ℕ) (dots : List Dot) (least le
   pub begins : Begins qual (items_of dots) (length qual - length rest) rest
   pub least_is : (o : ℕ) → list_any (λ (i : Item). nat_le o i.offset) (items_of dots) ≡ nat_lt o least
   pub count : length dots ≤ least
-  pub most : least ≤ 3600000
+  pub most : least ≤ HOUR_MILLIS
   pub len_is : len ≡ values_length (items_of dots)
   pub few : len ≤ 8 * length dots
   pub values : len ≤ length value → value ≡ flat_map value_bytes dots ++ left

@@ -14,7 +14,7 @@ use Rattle.qual_codec.specs.declared.cells.MergeFault.{MergeFault}
 use Rattle.qual_codec.specs.declared.cells.MergeFault.TheVariants.{Conflict, OutOfMemory}
 use Rattle.qual_codec.specs.Merge.{offset_of, is_within, values_at, first_conflict, Keeps, ConflictsAt}
 use Rattle.qual_codec.specs.MergeSteps.{AreSorted, KeepsAll, ConflictsIn}
-use Rattle.qual_codec.proofs.Lists.{in_filter, to_filter}
+use Rattle.list_lemmas.proofs.ListParts.{in_filter, to_filter}
 
 -- ---- the sort
 

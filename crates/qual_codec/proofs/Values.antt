@@ -4,12 +4,12 @@ use Rattle.std.specs.Prelude.{ℤ, None, Some, option_map, Contains, map, filter
 use Rattle.std.specs.Ordering.{int_eq}
 use Rattle.std.proofs.lemmas.List.Elements.{filter-append}
 use Rattle.std.proofs.lemmas.List.{map-append}
-use Rattle.std.proofs.lemmas.Bool.{eq-eqb, eqb-true}
 use Rattle.std.proofs.lemmas.Bool.Decides.{Decides-int_eq}
+use Rattle.list_lemmas.proofs.BoolTests.{nat_eq-same, nat_eq_is}
 use Rattle.qual_codec.specs.declared.cells.Dot.{Dot}
 use Rattle.qual_codec.specs.Merge.{values_at, first_conflict}
-use Rattle.qual_codec.proofs.Lists.{in_filter, to_filter}
-use Rattle.qual_codec.proofs.Members.{here, there, not_in, map_in, in_map}
+use Rattle.list_lemmas.proofs.ListParts.{in_filter, to_filter}
+use Rattle.list_lemmas.proofs.ListMembers.{here, there, not_in, map_in, in_map}
 
 same_int : (a b : ℤ) → a ≡ b → int_eq a b ≡ true
 same_int a b e = (Decides-int_eq a b).1 e
@@ -20,12 +20,6 @@ other_int a b e = at (int_eq a b) refl
     at : (t : Bool) → int_eq a b ≡ t → t ≡ false
     at true i = absurd (e ((Decides-int_eq a b).0 i))
     at false i = refl
-
-same_nat : (a b : ℕ) → nat_eq a b ≡ true → a ≡ b
-same_nat a b e = eqb-true a b e
-
-nat_same : (a b : ℕ) → a ≡ b → nat_eq a b ≡ true
-nat_same a b e = eq-eqb a b e
 
 find_none : (a : ℤ) (vs : List ℤ) → ((v : ℤ) → Contains vs v → a ≡ v) → find (λ b. not (int_eq a b)) vs ≡ None
 find_none a [] same = refl
@@ -57,10 +51,10 @@ pub value_dot : (dots : List Dot) (offset : ℕ) (value : ℤ) → Contains (val
 value_dot dots offset value c =
     let w = map_in (λ (d : Dot). d.value) (filter (λ (d : Dot). nat_eq offset d.item.offset) dots) value c in
     let f = in_filter (λ (d : Dot). nat_eq offset d.item.offset) dots w.0 w.1 in
-    record { dot = w.0; among = f.0; offset_is = sym (same_nat offset w.0.item.offset f.1); value_is = w.2 }
+    record { dot = w.0; among = f.0; offset_is = sym (nat_eq_is offset w.0.item.offset f.1); value_is = w.2 }
 
 pub dot_value : (dots : List Dot) (d : Dot) (offset : ℕ) → Contains dots d → d.item.offset ≡ offset → Contains (values_at offset dots) d.value
-dot_value dots d offset c is = in_map (λ (d : Dot). d.value) (filter (λ (d : Dot). nat_eq offset d.item.offset) dots) d (to_filter (λ (d : Dot). nat_eq offset d.item.offset) dots d c (nat_same offset d.item.offset (sym is)))
+dot_value dots d offset c is = in_map (λ (d : Dot). d.value) (filter (λ (d : Dot). nat_eq offset d.item.offset) dots) d (to_filter (λ (d : Dot). nat_eq offset d.item.offset) dots d c (nat_eq-same offset d.item.offset (sym is)))
 
 pub values_append : (offset : ℕ) (xs ys : List Dot) → values_at offset (xs ++ ys) ≡ values_at offset xs ++ values_at offset ys
 values_append offset xs ys =
@@ -69,4 +63,4 @@ values_append offset xs ys =
 
 -- the value of a dot at its own offset is the first of these
 pub values_cons : (d : Dot) (ds : List Dot) → values_at d.item.offset (d ∷ ds) ≡ d.value ∷ values_at d.item.offset ds
-values_cons d ds = ap (λ t. map (λ (d : Dot). d.value) (cond t (d ∷ filter (λ (e : Dot). nat_eq d.item.offset e.item.offset) ds) (filter (λ (e : Dot). nat_eq d.item.offset e.item.offset) ds))) (nat_same d.item.offset d.item.offset refl)
+values_cons d ds = ap (λ t. map (λ (d : Dot). d.value) (cond t (d ∷ filter (λ (e : Dot). nat_eq d.item.offset e.item.offset) ds) (filter (λ (e : Dot). nat_eq d.item.offset e.item.offset) ds))) (nat_eq-same d.item.offset d.item.offset refl)

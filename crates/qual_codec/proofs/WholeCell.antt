@@ -7,10 +7,10 @@ use Rattle.std.specs.List.{flat_map}
 use Rattle.qual_codec.specs.declared.cells.Dot.{Dot}
 use Rattle.qual_codec.specs.declared.cells.CellFault.{CellFault}
 use Rattle.qual_codec.specs.declared.cells.CellFault.TheVariants.{BadTail, OutOfMemory}
-use Rattle.qual_codec.specs.Dots.{IsDots, items_of, value_bytes, tail_for, tail_of, has_both}
-use Rattle.qual_codec.specs.Faults.{value_fault, tail_fault, IsFirstFault, ReadsAs}
-use Rattle.qual_codec.specs.Faults.IsFirstFault.{values}
-use Rattle.qual_codec.specs.Steps.{AddsPoints, HasPoints, fine_unless}
+use Rattle.qual_codec.specs.CellDots.{IsDots, items_of, value_bytes, tail_for, tail_of, has_both}
+use Rattle.qual_codec.specs.CellFaults.{value_fault, tail_fault, IsFirstFault, ReadsAs}
+use Rattle.qual_codec.specs.CellFaults.IsFirstFault.{values}
+use Rattle.qual_codec.specs.CellSteps.{AddsPoints, HasPoints, fine_unless}
 use Rattle.qual_codec.specs.MergeSteps.{AddsDots}
 use Rattle.qual_codec.proofs.OneReading.{reads_once}
 

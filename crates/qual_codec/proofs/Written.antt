@@ -6,8 +6,8 @@ use Rattle.std.specs.List.{flat_map, list_any}
 use Rattle.qual_codec.specs.declared.cells.Item.{Item}
 use Rattle.qual_codec.specs.declared.cells.Dot.{Dot}
 use Rattle.qual_codec.specs.Items.{IsItem, item_bytes}
-use Rattle.qual_codec.specs.Dots.{IsDots, items_of, has_both, tail_for, tail_of, value_bytes}
-use Rattle.qual_codec.specs.Steps.{bytes_in}
+use Rattle.qual_codec.specs.CellDots.{IsDots, items_of, has_both, tail_for, tail_of, value_bytes}
+use Rattle.qual_codec.specs.CellSteps.{bytes_in}
 use Rattle.qual_codec.specs.MergeSteps.{AreOfCell}
 use Rattle.qual_codec.proofs.Progress.{any_push}
 

@@ -2,6 +2,7 @@
 use Rattle.std.specs.Prelude.{◌≡◌, ℕ, ◌+◌, ◌-◌, ◌*◌, ◌/◌, ◌%◌, ◌^◌, ◌<◌, ◌≤◌, Bool, true, false, List, length, All, AllPairs, if◌then◌else◌}
 use Rattle.std.specs.List.{flat_map}
 use Rattle.std.specs.Int.{w16, w32, to_be_bytes}
+use Rattle.row_key.specs.declared.hours.TheConstants.{LAST_OFFSET}
 use Rattle.qual_codec.specs.declared.cells.Item.{Item}
 
 -- a value has 1, 2, 4 or 8 bytes
@@ -13,7 +14,7 @@ pub data IsLength : ℕ → Type 0 where
 
 -- an item: an offset within the hour, in whole seconds where it isn't fine, and the length of a value
 pub record IsItem (i : Item) : Type 0 where
-  pub offset : i.offset ≤ 3599999
+  pub offset : i.offset ≤ LAST_OFFSET
   pub whole : i.fine ≡ false → i.offset % 1000 ≡ 0
   pub len : IsLength i.len
 

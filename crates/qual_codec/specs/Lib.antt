@@ -1,8 +1,8 @@
 pub mod Items
-pub mod Dots
-pub mod Faults
+pub mod CellDots
+pub mod CellFaults
 pub mod Order
 pub mod Spelling
-pub mod Steps
+pub mod CellSteps
 pub mod Merge
 pub mod MergeSteps

@@ -1,11 +1,12 @@
 -- What merging the cells of a row keeps, and when two of them conflict.
 use Rattle.std.specs.Prelude.{◌≡◌, ℕ, ℤ, ◌<◌, ◌≤◌, Bool, not, ◌&&◌, List, [], ◌∷◌, ◌++◌, map, filter, find, AllPairs, Contains, Option, None, Some, option_map, nat_eq, nat_le}
 use Rattle.std.specs.Ordering.{int_eq}
+use Rattle.row_key.specs.declared.hours.TheConstants.{LAST_OFFSET}
 use Rattle.qual_codec.specs.declared.cells.Cell.{Cell}
 use Rattle.qual_codec.specs.declared.cells.Dot.{Dot}
 use Rattle.qual_codec.specs.declared.cells.MergeFault.{MergeFault}
 use Rattle.qual_codec.specs.declared.cells.MergeFault.TheVariants.{Conflict, OutOfMemory}
-use Rattle.qual_codec.specs.Dots.{IsDots}
+use Rattle.qual_codec.specs.CellDots.{IsDots}
 use Rattle.qual_codec.specs.Order.{IsAsGood}
 
 -- these are the dots of the cells, one cell after the other
@@ -53,12 +54,12 @@ abbrev pub MergesTo : List Cell → ℕ → ℕ → List Dot → Type 0
 MergesTo cells first last kept = (all : List Dot) × AreDots cells all × Keeps all first last kept
 
 -- why the cells aren't merged in the range of offsets
-abbrev pub IsUnmerged : List Cell → ℕ → ℕ → MergeFault → Type 0
-IsUnmerged cells first last (Conflict offset a b) = (all : List Dot) × AreDots cells all × Conflicts all first last offset a b
-IsUnmerged cells first last OutOfMemory = Unit {0}
+abbrev pub TellsConflict : List Cell → ℕ → ℕ → MergeFault → Type 0
+TellsConflict cells first last (Conflict offset a b) = (all : List Dot) × AreDots cells all × Conflicts all first last offset a b
+TellsConflict cells first last OutOfMemory = Unit {0}
 
 -- the cell of what merging the cells keeps, of all offsets of the hour
 pub record IsMerged (cells : List Cell) (qual value : List ℕ) : Type 0 where
   pub dots : List Dot
-  pub kept : MergesTo cells 0 3599999 dots
+  pub kept : MergesTo cells 0 LAST_OFFSET dots
   pub reads : IsDots qual value dots

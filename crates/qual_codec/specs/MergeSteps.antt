@@ -5,7 +5,7 @@ use Rattle.qual_codec.specs.declared.cells.Item.{Item}
 use Rattle.qual_codec.specs.declared.cells.MergeFault.{MergeFault}
 use Rattle.qual_codec.specs.declared.cells.MergeFault.TheVariants.{Conflict, OutOfMemory}
 use Rattle.qual_codec.specs.Items.{IsItem, Rises}
-use Rattle.qual_codec.specs.Dots.{IsDots, items_of, width_of}
+use Rattle.qual_codec.specs.CellDots.{IsDots, items_of, width_of}
 use Rattle.qual_codec.specs.Order.{IsAsGood}
 use Rattle.qual_codec.specs.Merge.{values_at, first_conflict}
 

@@ -1,5 +1,5 @@
 //! Laws of cells and of the order of qualifiers. Each function does nothing; its clause is the law.
-ghost use Rattle.qual_codec.specs.Faults.{CellsReadOnce};
+ghost use Rattle.qual_codec.specs.CellFaults.{CellsReadOnce};
 ghost use Rattle.qual_codec.specs.Order.{BelowExtends, ItemsAreUnique, OrderIsAntisymmetric, OrderIsReflexive, OrderIsTransitive};
 ghost use Rattle.qual_codec.specs.Spelling.{PointsReadBack, ShortestIsUnique};
 

@@ -3,20 +3,18 @@ ghost use Rattle.std.specs.Prelude.{◌≡◌, ◌++◌, ◌<◌, ◌≤◌, Lis
 ghost use Rattle.std.specs.List.Sorted.{IsNonDecreasingBy};
 ghost use Rattle.qual_codec.specs.declared.cells.Dot.{Dot};
 ghost use Rattle.qual_codec.specs.Items.{IsItem, IsLength, item_bytes};
-ghost use Rattle.qual_codec.specs.Dots.{IsDots, Reads, number_bytes, value_bytes, width_of};
+ghost use Rattle.qual_codec.specs.CellDots.{IsDots, Reads, number_bytes, value_bytes, width_of};
 ghost use Rattle.qual_codec.specs.Order.{IsAtMost};
-ghost use Rattle.qual_codec.specs.Steps.{bytes_in};
-ghost use Rattle.qual_codec.specs.Merge.{AreDots, ConflictsAt, IsMerged, IsUnmerged, Keeps, is_within as tests_within, offset_of};
+ghost use Rattle.qual_codec.specs.CellSteps.{bytes_in};
+ghost use Rattle.qual_codec.specs.Merge.{AreDots, ConflictsAt, IsMerged, TellsConflict, Keeps, is_within as tests_within, offset_of};
 ghost use Rattle.qual_codec.specs.MergeSteps.{AddsDots, AddsWithin, AreOfCell, AreSorted, CannotAdd, ConflictsIn, EndsAt, EndsElsewhere, KeepsAll, is_as_good as tests_good};
 
+use crate::cell_reader::{read_onto, tail_byte};
 use crate::cells::{CellFault, CellRef, Dot, Item, MergeFault, Merged};
-use crate::packing::pack_item;
-use crate::reading::{read_onto, tail_byte};
+use crate::pack::pack_item;
+use row_key::LAST_OFFSET;
 use short_bytes::short::Bytes;
 use std::alloc::{AllocError, Global};
-
-/// The greatest offset within an hour.
-const LAST_OFFSET: u32 = 3_599_999;
 
 /// Adds the data points of a cell that reads behind those of other cells. It fails only for want of memory, and then some of them
 /// may have been added.
@@ -235,7 +233,7 @@ pub fn merge_cells(alloc: Global, cells: &[CellRef]) -> Result<Merged, MergeFaul
     requires read { All (λ c. Reads c.qual c.value) cells.now }
     ensures merged { IfOk result (λ m. IsMerged cells.now m.qual m.value) }
     ensures at_least { IfOk result (λ m. All (λ c. IsAtMost c.qual m.qual) cells.now) }
-    ensures conflict { IfErr result (IsUnmerged cells.now 0 3599999) }
+    ensures conflict { IfErr result (TellsConflict cells.now 0 LAST_OFFSET) }
 {
     let dots = gather(alloc, cells)?;
     let kept = merge_dots(dots, 0, LAST_OFFSET)?;

@@ -17,8 +17,8 @@ use Rattle.query_run.specs.declared.fault.AskFault.TheVariants.{OutOfMemory}
 use Rattle.query_run.specs.Parts.{Part, AreQuerySteps, PartStands}
 use Rattle.query_run.specs.Asked.{Answers, Answered, Refused}
 use Rattle.query_run.specs.Asked.Answers.{none, more}
-use Rattle.query_run.specs.Queries.{wanted, names_in, barred, answer_over, IsFew}
-use Rattle.query_run.specs.Working.{Later, SubAnswered, SubRefused}
+use Rattle.query_run.specs.AskedQueries.{wanted, names_in, barred, answer_over, IsFew}
+use Rattle.query_run.specs.SubQuery.{Later, SubAnswered, SubRefused}
 use Rattle.query_run.proofs.Lower as lower
 use Rattle.query_run.proofs.NameReads.{about, taken}
 use Rattle.query_run.proofs.ScanLoop.{steps_joined}

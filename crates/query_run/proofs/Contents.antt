@@ -14,14 +14,14 @@ use Rattle.std.specs.FinMap.Entries.{find-put}
 use Rattle.std.proofs.lemmas.Map.Lookups.{exact_pairs, exact_unsigned}
 use Rattle.row_key.specs.declared.keys.RowKey.{RowKey}
 use Rattle.row_key.specs.Key.{key_bytes}
-use Rattle.cell_model.specs.declared.cells.Row.{Row}
-use Rattle.cell_model.specs.declared.cells.Found.{Found}
-use Rattle.cell_model.specs.Store.{bytes_cmp}
+use Rattle.cell_model.specs.declared.row.Row.{Row}
+use Rattle.cell_model.specs.declared.row.Found.{Found}
+use Rattle.list_lemmas.specs.BytesOrder.{bytes_cmp}
 use Rattle.cell_model.specs.Seen.{Seen}
 use Rattle.span_merge.specs.Spans.{Span, pairs_cmp, dots_of, added}
-use Rattle.query_run.specs.Naming.{IdOf, Names, HasName}
+use Rattle.query_run.specs.RowNames.{IdOf, Names, HasName}
 use Rattle.query_run.specs.RowDots.{dot_at}
-use Rattle.query_run.specs.Collecting.{Picks, KeyOf, RowIsIn, RowIsClean, DotIsFrom, Gathered, Adds, RowDone, RowLeft, RowTaken, StandsBehind}
+use Rattle.query_run.specs.Collection.{Picks, KeyOf, RowIsIn, RowIsConflictFree, DotIsFrom, Gathered, Adds, RowDone, RowLeft, RowTaken, StandsBehind}
 use Rattle.query_run.proofs.Lower as lower
 use Rattle.query_run.proofs.RowPoints.{are_offsets}
 use Rattle.query_run.proofs.Titles.{pairs_total}
@@ -135,7 +135,7 @@ kept_row picks id start end spans more names after f keeps named r =
     record {
       key = r.key;
       of = r.of;
-      is_in = λ picked. let w = r.is_in picked in record { clean = w.clean; there = λ x c within. keeps r.key.pairs.items (dot_at r.key.base x) (w.there x c within); named = λ i c. named i (w.named i c) };
+      is_in = λ picked. let w = r.is_in picked in record { conflict_free = w.conflict_free; there = λ x c within. keeps r.key.pairs.items (dot_at r.key.base x) (w.there x c within); named = λ i c. named i (w.named i c) };
     }
 
 from_more : (picks : Picks) (id start end : ℕ) (founds more : List Found) (pairs : Pairs) (d : ℕ × ℤ) → ((f : Found) → Contains founds f → Contains more f) → DotIsFrom picks id start end founds pairs d → DotIsFrom picks id start end more pairs d
@@ -185,7 +185,7 @@ gathered_taken picks id start end founds f s t spans more names after g r = reco
       key = r.key;
       of = r.of;
       is_in = λ picked. record {
-        clean = record { all = r.has.all; are = r.has.are; one = r.has.one };
+        conflict_free = record { all = r.has.all; are = r.has.are; one = r.has.one };
         there = λ x c within. adds_has spans more r.key.pairs.items r.dots r.adds (dot_at r.key.base x) (r.has.there x c within);
         named = r.named.all;
       };
@@ -257,5 +257,5 @@ gathered_none picks id start end spans names none = record {
   some = λ s c. absurd (lower.not_in s (subst (λ (l : List Span). Contains l s) none c));
 }
 
-pub row_clean : (picks : Picks) (id start end : ℕ) (spans : List Span) (names : Names) (f : Found) → RowIsIn picks id start end spans names f → RowIsClean picks id start end f
-row_clean picks id start end spans names f r = record { key = r.key; of = r.of; clean = λ picked. (r.is_in picked).clean }
+pub row_conflict_free : (picks : Picks) (id start end : ℕ) (spans : List Span) (names : Names) (f : Found) → RowIsIn picks id start end spans names f → RowIsConflictFree picks id start end f
+row_conflict_free picks id start end spans names f r = record { key = r.key; of = r.of; conflict_free = λ picked. (r.is_in picked).conflict_free }

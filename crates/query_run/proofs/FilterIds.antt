@@ -13,13 +13,13 @@ use Rattle.query_text.specs.declared.queries.Test.{Test}
 use Rattle.query_text.specs.declared.queries.Test.TheVariants as text
 use Rattle.query_text.specs.declared.queries.Filter.{Filter}
 use Rattle.cell_model.specs.History.{History}
-use Rattle.cell_model.specs.Ids.{id_of, name_of}
+use Rattle.cell_model.specs.IdRows.{id_of, name_of}
 use Rattle.cell_model.specs.Lawful.{IsLawful}
 use Rattle.cell_model.specs.Readings.{Named}
 use Rattle.cell_model.specs.Seen.{Seen, Fits}
 use Rattle.cell_model.specs.Deeds.{Extends}
 use Rattle.uid_table.specs.Shown.{HasShown}
-use Rattle.group_by.specs.Filters as by_name
+use Rattle.group_by.specs.TagFilters as by_name
 use Rattle.query_run.specs.declared.id_filter.IdTest.{IdTest}
 use Rattle.query_run.specs.declared.id_filter.IdTest.TheVariants.{Any, OneOf, NotOneOf}
 use Rattle.query_run.specs.declared.id_filter.IdFilter.{IdFilter}

@@ -4,14 +4,14 @@ use Rattle.std.proofs.lemmas.List.{map-append}
 use Rattle.std.specs.Prelude.{Contains, Vec}
 use Rattle.std.specs.declared.alloc.Global.{Global}
 use Rattle.tsd_base.specs.TagList.{Pair}
-use Rattle.query_run.specs.declared.series.Series.{Series}
+use Rattle.query_run.specs.declared.named_series.Series.{Series}
 use Rattle.lerp_aggregate.specs.declared.aggregation.AggFault.{AggFault}
 use Rattle.lerp_aggregate.specs.declared.aggregation.AggFault.TheVariants.{Overflow, OutOfMemory}
 use Rattle.json_reply.specs.Replies.{Group, plain}
 use Rattle.json_reply.specs.declared.reply.Group as code
 use Rattle.query_run.proofs.Lower.{here, there}
-use Rattle.query_run.specs.Answers.{all_groups}
-use Rattle.query_run.specs.Grouping.{GivesGroup, GivesGroups}
+use Rattle.query_run.specs.QueryAnswers.{all_groups}
+use Rattle.query_run.specs.SeriesGroups.{GivesGroup, GivesGroups}
 
 abbrev pub made : List code.Group → List (Result Group ℕ)
 made groups = map (λ (g : code.Group). Ok (plain g)) groups

@@ -2,9 +2,9 @@
 use Rattle.std.proofs.Common.{ℕ, ◌<◌, ◌≤◌, ◌^◌, List, length, sym, subst}
 use Rattle.std.specs.Prelude.{ℤ, All, Contains}
 use Rattle.span_merge.specs.Spans.{Span}
-use Rattle.query_run.specs.declared.series.Series.{Series}
-use Rattle.query_run.specs.Naming.{Names}
-use Rattle.query_run.specs.Titling.{Titles}
+use Rattle.query_run.specs.declared.named_series.Series.{Series}
+use Rattle.query_run.specs.RowNames.{Names}
+use Rattle.query_run.specs.SeriesTags.{Titles}
 use Rattle.query_run.proofs.Lower as lower
 
 pub some_dots : (names : Names) (spans : List Span) (series : List Series) → Titles names spans series → ((s : Span) → Contains spans s → 1 ≤ length s.1) → All (λ (t : Series). 1 ≤ length t.dots) series

@@ -11,8 +11,10 @@ use Rattle.std.proofs.lemmas.Bool.Decides.{nat_tests}
 use Rattle.std.proofs.lemmas.List.{get_or_default, take-append-drop, drop_more, take_more, length-take-le}
 use Rattle.std.proofs.lemmas.List.Elements.{All-contains, All-push, All-take, All-weaker, Contains-append_right, Contains-append_cases}
 use Rattle.row_key.specs.declared.keys.RowKey.{RowKey}
+use Rattle.row_key.specs.declared.hours.TheConstants.{HOUR}
+use Rattle.row_key.specs.declared.ids.TheConstants.{MOST_IDS}
 use Rattle.row_key.specs.Key.{IsId, IsKey}
-use Rattle.row_key.specs.Order.{key_cmp, pair_cmp}
+use Rattle.row_key.specs.KeyOrder.{key_cmp, pair_cmp}
 use Rattle.query_run.specs.declared.id_filter.IdTest.{IdTest}
 use Rattle.query_run.specs.declared.id_filter.IdTest.TheVariants.{OneOf}
 use Rattle.query_run.specs.declared.id_filter.IdFilter.{IdFilter}
@@ -89,7 +91,7 @@ module _ (key : RowKey) (place id value : ℕ) (is : IsKey key) (lt : place < le
   its_ids = subst (λ (p : ℕ × ℕ). IsId p.0 × IsId p.1) at (is.ids place (0, 0) lt)
 
   -- and another with a greater value there, and nothing behind it
-  module _ (target : RowKey) (next : ℕ) (metric : target.metric ≡ key.metric) (base : target.base ≡ key.base) (pairs : target.pairs.items ≡ front ++ (id, next) ∷ []) (above : value < next) (most : next ≤ 16777215) where
+  module _ (target : RowKey) (next : ℕ) (metric : target.metric ≡ key.metric) (base : target.base ≡ key.base) (pairs : target.pairs.items ≡ front ++ (id, next) ∷ []) (above : value < next) (most : next ≤ MOST_IDS) where
     put_key : IsKey target
     put_key =
         let size = ap (λ (l : Pairs). length l) pairs ∙ length-append front ((id, next) ∷ []) in
@@ -98,7 +100,7 @@ module _ (key : RowKey) (place id value : ℕ) (is : IsKey key) (lt : place < le
         record {
           metric = subst IsId (sym metric) is.metric;
           base = subst (λ b. b < 2 ^ 32) (sym base) is.base;
-          hour = ap (λ b. b % 3600) base ∙ is.hour;
+          hour = ap (λ b. b % HOUR) base ∙ is.hour;
           some = omega (arith, size);
           most = omega (arith, size, taken, lt, few);
           ids = subst (All (λ (p : ℕ × ℕ). IsId p.0 × IsId p.1)) (sym pairs)
@@ -147,7 +149,7 @@ module _ (key : RowKey) (place id value : ℕ) (is : IsKey key) (lt : place < le
     }
 
   -- all that begins with the pairs before this one, and is not below, fails the filter as this one does
-  pub behind_jumps : (f : IdFilter) (target : RowKey) → ((p : ℕ × ℕ) → Contains front p → p.0 < f.key) → (f.key < id) ⊎ ((id ≡ f.key) × ((v : ℕ) → value ≤ v → v ≤ 16777215 → passes_test f.test v ≡ false)) → IsBehind key place target → JumpsOver (passes_filter f) key target
+  pub behind_jumps : (f : IdFilter) (target : RowKey) → ((p : ℕ × ℕ) → Contains front p → p.0 < f.key) → (f.key < id) ⊎ ((id ≡ f.key) × ((v : ℕ) → value ≤ v → v ≤ MOST_IDS → passes_test f.test v ≡ false)) → IsBehind key place target → JumpsOver (passes_filter f) key target
   behind_jumps f target before fails b = record {
     is_key = b.is_key;
     metric_is = b.metric_is;
@@ -160,7 +162,7 @@ module _ (key : RowKey) (place id value : ℕ) (is : IsKey key) (lt : place < le
         ap (passes_filter f) are ∙ none_passes f front w.tail w.pair (subst (AllPairs Lesser) are ik.rising) before (at_first w.pair small.1 w.from_on fails);
   }
     where
-      at_first : (pair : ℕ × ℕ) → pair.1 ≤ 16777215 → (id < pair.0) ⊎ ((pair.0 ≡ id) × (value ≤ pair.1)) → (f.key < id) ⊎ ((id ≡ f.key) × ((v : ℕ) → value ≤ v → v ≤ 16777215 → passes_test f.test v ≡ false))
+      at_first : (pair : ℕ × ℕ) → pair.1 ≤ MOST_IDS → (id < pair.0) ⊎ ((pair.0 ≡ id) × (value ≤ pair.1)) → (f.key < id) ⊎ ((id ≡ f.key) × ((v : ℕ) → value ≤ v → v ≤ MOST_IDS → passes_test f.test v ≡ false))
           → (f.key < pair.0) ⊎ ((pair.0 ≡ f.key) × (passes_test f.test pair.1 ≡ false))
       at_first pair small (inl lt) (inl low) = inl (omega (arith, lt, low))
       at_first pair small (inl lt) (inr fails) = let e = fails.0 in inl (omega (arith, lt, e))
@@ -182,7 +184,7 @@ module _ (key : RowKey) (listed : Pairs) (place : ℕ) (is : IsKey key) (listed_
   at : get_or key.pairs.items place (0, 0) ≡ (pair.0, pair.1)
   at = ap (λ (l : Pairs). get_or l place (0, 0)) (sym listed_is)
 
-  pub its_value : pair.1 ≤ 16777215
+  pub its_value : pair.1 ≤ MOST_IDS
   its_value = (its_ids key place pair.0 pair.1 is lt at).1.1
 
   -- where the key of the pair is the filter's, its value fails
@@ -191,7 +193,7 @@ module _ (key : RowKey) (listed : Pairs) (place : ℕ) (is : IsKey key) (listed_
       let among : Contains key.pairs.items pair = subst (Contains key.pairs.items) at (place, lt, get_or_default key.pairs.items place (get_or key.pairs.items place (0, 0)) (0, 0) lt) in
       false≢true (sym fails ∙ in_any (λ (p : ℕ × ℕ). nat_eq f.key p.0 && passes_test f.test p.1) pair key.pairs.items among (and_true (nat_eq f.key pair.0) (passes_test f.test pair.1) (is_nat f.key pair.0 (sym same)) e)))
 
-  pub value_target : (f : IdFilter) (target : RowKey) (next : ℕ) → pair.0 ≡ f.key → IsNextValue f.test pair.1 next → next ≤ 16777215 → target.metric ≡ key.metric → target.base ≡ key.base → target.pairs.items ≡ take place key.pairs.items ++ (pair.0, next) ∷ []
+  pub value_target : (f : IdFilter) (target : RowKey) (next : ℕ) → pair.0 ≡ f.key → IsNextValue f.test pair.1 next → next ≤ MOST_IDS → target.metric ≡ key.metric → target.base ≡ key.base → target.pairs.items ≡ take place key.pairs.items ++ (pair.0, next) ∷ []
       → JumpsOver (passes_filter f) key target
   value_target f target next same n small metric base pairs = value_jumps key place pair.0 pair.1 is lt at target next metric base pairs n.above small f same n
 
@@ -204,14 +206,14 @@ module _ (key : RowKey) (listed : Pairs) (place : ℕ) (is : IsKey key) (listed_
       lesser_of : (f : IdFilter) → All (λ (p : ℕ × ℕ). p.0 < f.key) (take place listed) → (p : ℕ × ℕ) → Contains (take place key.pairs.items) p → p.0 < f.key
       lesser_of f all p c = All-contains (λ (q : ℕ × ℕ). q.0 < f.key) (take place key.pairs.items) p (subst (λ (l : Pairs). All (λ (q : ℕ × ℕ). q.0 < f.key) (take place l)) listed_is all) c
 
-  pub last_target : (f : IdFilter) (o : Option RowKey) (next : ℕ) → All (λ (p : ℕ × ℕ). p.0 < f.key) (take place listed) → pair.0 ≡ f.key → IsNextValue f.test pair.1 next → 16777215 < next → IfSome o (IsBehind key place) → IfSome o (JumpsOver (passes_filter f) key)
+  pub last_target : (f : IdFilter) (o : Option RowKey) (next : ℕ) → All (λ (p : ℕ × ℕ). p.0 < f.key) (take place listed) → pair.0 ≡ f.key → IsNextValue f.test pair.1 next → MOST_IDS < next → IfSome o (IsBehind key place) → IfSome o (JumpsOver (passes_filter f) key)
   last_target f o next before same n large b =
       if_some (IsBehind key place) (JumpsOver (passes_filter f) key) o
       (λ target t. behind_jumps key place pair.0 pair.1 is lt at f target
       (λ p c. All-contains (λ (q : ℕ × ℕ). q.0 < f.key) (take place key.pairs.items) p (subst (λ (l : Pairs). All (λ (q : ℕ × ℕ). q.0 < f.key) (take place l)) listed_is before) c) (inr (same, λ v from small. n.fails v from (omega (arith, small, large)))) t) b
 
 -- the pair before this one, with the next value
-pub value_more : (key : RowKey) (listed : Pairs) (place : ℕ) (target : RowKey) → IsKey key → listed ≡ key.pairs.items → place ≤ length key.pairs.items → (place ≡ 0 → ⊥) → ((get_or listed (place - 1) (0, 0)).1 ≡ 16777215 → ⊥) → target.metric ≡ key.metric → target.base ≡ key.base
+pub value_more : (key : RowKey) (listed : Pairs) (place : ℕ) (target : RowKey) → IsKey key → listed ≡ key.pairs.items → place ≤ length key.pairs.items → (place ≡ 0 → ⊥) → ((get_or listed (place - 1) (0, 0)).1 ≡ MOST_IDS → ⊥) → target.metric ≡ key.metric → target.base ≡ key.base
     → target.pairs.items ≡ take (place - 1) key.pairs.items ++ ((get_or listed (place - 1) (0, 0)).0, (get_or listed (place - 1) (0, 0)).1 + 1) ∷ [] → IsBehind key place target
 value_more key listed place target is listed_is le some small metric base pairs =
     let lt : place - 1 < length key.pairs.items = grind (arith, le, some) in
@@ -234,10 +236,10 @@ not_below_ones (q ∷ qs) some ids e =
       | inr tie ↦ elim (under q.1 1 (slice_cmp pair_cmp qs []) tie.1) [ inl lt ↦ omega (arith, lt, value) | inr none ↦ never_below_none qs none.1 ]
     ]
 
-between_hours : (a b : ℕ) → a % 3600 ≡ 0 → b % 3600 ≡ 0 → a < b → b < a + 3600 → ⊥
+between_hours : (a b : ℕ) → a % HOUR ≡ 0 → b % HOUR ≡ 0 → a < b → b < a + HOUR → ⊥
 between_hours a b x y lt less = omega (arith, x, y, lt, less)
 
-pub hour_behind : (key target : RowKey) → IsKey key → target.metric ≡ key.metric → target.base ≡ key.base + 3600 → target.base < 2 ^ 32 → target.pairs.items ≡ (1, 1) ∷ [] → IsBehind key 0 target
+pub hour_behind : (key target : RowKey) → IsKey key → target.metric ≡ key.metric → target.base ≡ key.base + HOUR → target.base < 2 ^ 32 → target.pairs.items ≡ (1, 1) ∷ [] → IsBehind key 0 target
 hour_behind key target is metric base fits pairs = record {
   is_key = record {
     metric = subst IsId (sym metric) is.metric;

@@ -11,12 +11,12 @@ use Rattle.std.specs.Map.{keys_of}
 use Rattle.std.specs.Ordering.{eq_by_cmp, is_lt}
 use Rattle.std.proofs.lemmas.Map.Keys.{sorted_head, sorted_tail}
 use Rattle.tsd_base.specs.Points.{DataPoint}
-use Rattle.tsd_base.specs.Readings.{series_of}
+use Rattle.tsd_base.specs.LastPoints.{series_of}
 use Rattle.tsd_base.specs.TagList.{Pair, tags_cmp, is_same_tags}
 use Rattle.tsd_base.specs.TagOrder.{tags_cmp_total, tags_cmp_exact, tags_ties, is_same_tags_equiv}
 use Rattle.query_text.specs.declared.queries.Sub.{Sub}
-use Rattle.group_by.specs.Filters.{group_key}
-use Rattle.query_run.specs.Answers.{group_keys}
+use Rattle.group_by.specs.TagFilters.{group_key}
+use Rattle.query_run.specs.QueryAnswers.{group_keys}
 
 -- keys in order, as the entries of a set
 abbrev units : {K : Type 0} → List K → List (K × Unit {0})

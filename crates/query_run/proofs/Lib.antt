@@ -12,7 +12,7 @@ mod RowReadings
 mod FilterIds
 mod Shown
 mod Standing
-mod Clashing
+mod Conflicting
 mod Short
 mod OneSub
 mod AllSubs
@@ -24,10 +24,10 @@ mod Lists
 mod GroupLemmas
 mod SeriesLemmas
 mod Unordered
-mod InvisibleSteps
 mod Outcomes
 mod SameOutcome
 mod SameAnswer
 mod PairOrder
 mod Jumps
 mod SkipSteps
+mod TextLemmas

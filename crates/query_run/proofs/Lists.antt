@@ -21,10 +21,10 @@ use Rattle.downsample.specs.declared.downsampling.DownFault.TheVariants as down
 use Rattle.downsample.specs.Downsampling.{GivesDown, buckets_for, downsampled, in_order, point_before, valued}
 use Rattle.lerp_aggregate.specs.Aggregation.{aggregated, combined, overflows, points_of, points_unless, times_of, values_at}
 use Rattle.query_text.specs.Downs.{IsInterval}
-use Rattle.query_run.specs.Answers.{all_or_least, down_by, down_to, first_and, function_of}
-use Rattle.query_run.specs.Queries.{CanDown}
-use Rattle.query_run.specs.Grouping.{IsDown, Keeps, earliest}
-use Rattle.query_run.specs.Series.{AreEarly}
+use Rattle.query_run.specs.QueryAnswers.{all_or_least, down_by, down_to, first_and, function_of}
+use Rattle.query_run.specs.AskedQueries.{CanDown}
+use Rattle.query_run.specs.SeriesGroups.{IsDown, Keeps, earliest}
+use Rattle.query_run.specs.NamedSeries.{AreEarly}
 use Rattle.query_run.proofs.AnyOf.{in_any, any_in}
 use Rattle.query_run.proofs.Keys.{any_key_made}
 use Rattle.query_run.proofs.Lower as lower

@@ -11,11 +11,11 @@ use Rattle.std.proofs.lemmas.Map.Entries.{btree_map_get_place}
 use Rattle.tsd_base.specs.TagList.{Pair, tags_cmp, is_same_tags}
 use Rattle.tsd_base.specs.TagOrder.{tags_cmp_total, tags_same, tags_ties}
 use Rattle.query_text.specs.declared.queries.Sub.{Sub}
-use Rattle.group_by.specs.Filters.{group_key}
-use Rattle.query_run.specs.declared.series.Series.{Series}
-use Rattle.query_run.specs.Answers.{group_keys}
-use Rattle.query_run.specs.Grouping.{members, held, AddsMember, AreGroups}
-use Rattle.query_run.specs.Series.{tags_in}
+use Rattle.group_by.specs.TagFilters.{group_key}
+use Rattle.query_run.specs.declared.named_series.Series.{Series}
+use Rattle.query_run.specs.QueryAnswers.{group_keys}
+use Rattle.query_run.specs.SeriesGroups.{members, held, AddsMember, AreGroups}
+use Rattle.query_run.specs.NamedSeries.{tags_in}
 use Rattle.query_run.proofs.Keys.{group_keys_are}
 
 abbrev Groups : Type 0

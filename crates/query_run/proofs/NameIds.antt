@@ -13,9 +13,9 @@ use Rattle.query_text.specs.declared.queries.Filter.{Filter}
 use Rattle.cell_model.specs.declared.events.Placed.{Placed}
 use Rattle.cell_model.specs.Seen.{Seen}
 use Rattle.cell_model.specs.Deeds.{Extends}
-use Rattle.uid_table.specs.declared.answers.ResolveFault.TheVariants as resolve
+use Rattle.uid_table.specs.declared.id_answers.ResolveFault.TheVariants as resolve
 use Rattle.uid_table.specs.Shown.{HasShown}
-use Rattle.uid_table.specs.Steps.{MadeSo, LookedOrKept, ResolveMade}
+use Rattle.uid_table.specs.IdSteps.{MadeSo, LookedOrKept, ResolveMade}
 use Rattle.query_run.specs.declared.fault.AskFault.{AskFault}
 use Rattle.query_run.specs.declared.fault.AskFault.TheVariants.{TooManyBuckets, Unknown, Duplicate, Overflow, OutOfMemory, Stopped}
 use Rattle.query_run.specs.declared.id_filter.IdTest.{IdTest}
@@ -23,8 +23,8 @@ use Rattle.query_run.specs.declared.id_filter.IdTest.TheVariants.{Any, OneOf, No
 use Rattle.query_run.specs.declared.id_filter.IdFilter.{IdFilter}
 use Rattle.query_run.specs.IdFilters.{AreIds, IsIdTest, IsIdFilter}
 use Rattle.query_run.specs.Parts.{NameOf}
-use Rattle.query_run.specs.Queries.{filter_names, test_names}
-use Rattle.query_run.specs.Resolving.{AreShown, AreLooks, AreResolved, IsFirstUnknown, UnresolvedBy, IsUnresolved}
+use Rattle.query_run.specs.AskedQueries.{filter_names, test_names}
+use Rattle.query_run.specs.ResolvedIds.{AreShown, AreLooks, AreResolved, IsFirstUnknown, UnresolvedBy, IsUnresolved}
 use Rattle.query_run.proofs.Lower as lower
 use Rattle.query_run.proofs.NameReads.{AreFew, no_reads, none_few, one_few, reads_joined, about, taken}
 use Rattle.query_run.proofs.Titles.{zip_push}

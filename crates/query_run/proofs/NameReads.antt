@@ -14,7 +14,7 @@ use Rattle.std.specs.Ordering.{is_eq}
 use Rattle.tsd_base.specs.declared.kinds.Kind.{Kind}
 use Rattle.tsd_base.specs.declared.kinds.Kind.TheVariants.{Metric, TagKey, TagValue}
 use Rattle.qual_codec.specs.declared.cells.Cell.{Cell}
-use Rattle.cell_model.specs.declared.cells.Row.{Row}
+use Rattle.cell_model.specs.declared.row.Row.{Row}
 use Rattle.cell_model.specs.declared.events.Placed.{Placed}
 use Rattle.cell_model.specs.declared.events.Step.TheVariants.{Read}
 use Rattle.cell_model.specs.declared.events.Reply.TheVariants.{Shown}
@@ -23,9 +23,9 @@ use Rattle.cell_model.specs.declared.answers.RowsFault.TheVariants as rows
 use Rattle.cell_model.specs.Seen.{Seen}
 use Rattle.cell_model.specs.Deeds.{Extends}
 use Rattle.uid_table.specs.Shown.{HasShownName}
-use Rattle.uid_table.specs.Steps.{MadeSo, DidRead, NameMade}
-use Rattle.query_run.specs.Naming.{IdOf, Names, listed, ids_of, KnowsPair, AllNamed, HasName, AreReads, in_lists, IdReads, NamesRead, NamesCut, IdNamed, IdCut}
-use Rattle.query_run.specs.Naming.IdNamed.{there, asked}
+use Rattle.uid_table.specs.IdSteps.{MadeSo, DidRead, NameMade}
+use Rattle.query_run.specs.RowNames.{IdOf, Names, listed, ids_of, KnowsPair, AllNamed, HasName, AreReads, in_lists, IdReads, NamesRead, NamesCut, IdNamed, IdCut}
+use Rattle.query_run.specs.RowNames.IdNamed.{there, asked}
 use Rattle.query_run.proofs.Lower as lower
 
 -- ---- lists of entries

@@ -16,10 +16,10 @@ use Rattle.json_reply.specs.declared.reply.Group as code
 use Rattle.query_text.specs.declared.queries.Query.{Query}
 use Rattle.query_text.specs.declared.queries.Sub.{Sub}
 use Rattle.query_text.specs.declared.queries.Filter.{Filter}
-use Rattle.cell_model.specs.declared.cells.Found.{Found}
+use Rattle.cell_model.specs.declared.row.Found.{Found}
 use Rattle.cell_model.specs.declared.events.Placed.{Placed}
 use Rattle.cell_model.specs.History.{History, first, store_after}
-use Rattle.cell_model.specs.Ids.{id_of, name_of}
+use Rattle.cell_model.specs.IdRows.{id_of, name_of}
 use Rattle.cell_model.specs.Layout.{base_time}
 use Rattle.cell_model.specs.Lawful.{IsLawful}
 use Rattle.cell_model.specs.Readings.{point_row}
@@ -33,18 +33,18 @@ use Rattle.downsample.specs.Buckets.{all_buckets}
 use Rattle.query_run.specs.declared.fault.AskFault.{AskFault}
 use Rattle.query_run.specs.declared.fault.AskFault.TheVariants.{TooManyBuckets, Unknown, Duplicate, Overflow, OutOfMemory, Stopped}
 use Rattle.query_run.specs.declared.id_filter.IdFilter.{IdFilter}
-use Rattle.query_run.specs.declared.series.Series.{Series}
-use Rattle.query_run.specs.Answers.{answer}
-use Rattle.query_run.specs.Series.{points_in}
+use Rattle.query_run.specs.declared.named_series.Series.{Series}
+use Rattle.query_run.specs.QueryAnswers.{answer}
+use Rattle.query_run.specs.NamedSeries.{points_in}
 use Rattle.query_run.specs.Parts.{NameOf, Part, AreQuerySteps, AllResolved, PartStands, FirstUnknown}
 use Rattle.query_run.specs.Asked.{Cause}
 use Rattle.query_run.specs.IdFilters.{AreIdFilters, passes}
-use Rattle.query_run.specs.Queries.{wanted, filter_names, names_in, too_many, barred_by, barred_down, barred, answer_over, IsFew}
-use Rattle.query_run.specs.Naming.{IdOf, Names, ids_of}
-use Rattle.query_run.specs.Collecting.{Picks, KeyOf, Gathered, Counted, HasCollected, WasCut, FoundClash, ClashOf}
-use Rattle.query_run.specs.Resolving.{AreResolved, IsUnresolved, UnresolvedBy}
-use Rattle.query_run.specs.Titling.{ArePairs, CanTitle, Titles}
-use Rattle.query_run.specs.Working.{GroupsSay, Later, SubRefused, SubSays}
+use Rattle.query_run.specs.AskedQueries.{wanted, filter_names, names_in, too_many, barred_by, barred_down, barred, answer_over, IsFew}
+use Rattle.query_run.specs.RowNames.{IdOf, Names, ids_of}
+use Rattle.query_run.specs.Collection.{Picks, KeyOf, Gathered, Counted, HasCollected, WasCut, FoundConflict, ConflictOf}
+use Rattle.query_run.specs.ResolvedIds.{AreResolved, IsUnresolved, UnresolvedBy}
+use Rattle.query_run.specs.SeriesTags.{ArePairs, CanTitle, Titles}
+use Rattle.query_run.specs.SubQuery.{GroupsSay, Later, SubRefused, SubSays}
 use Rattle.query_run.proofs.Lower as lower
 use Rattle.query_run.proofs.ScanLoop.{steps_joined, reads_steps}
 use Rattle.query_run.proofs.Shown.{readings_in, as_points}
@@ -52,7 +52,7 @@ use Rattle.query_run.proofs.NameIds.{id_later, resolved_joined, unresolved_wider
 use Rattle.query_run.proofs.FilterIds.{id_now, picks_by}
 use Rattle.query_run.proofs.RowReadings.{PicksBy}
 use Rattle.query_run.proofs.Standing.{named_in, one_to_one, stands_in}
-use Rattle.query_run.proofs.Clashing.{StoodFound, found_stood, row_names, first_clash_of}
+use Rattle.query_run.proofs.Conflicting.{StoodFound, found_stood, row_names, first_conflict_of}
 use Rattle.query_run.proofs.Short.{few_rows, few_looks}
 
 -- ---- it can't be worked
@@ -208,7 +208,7 @@ module _ (s : Sub) (id : ℕ) (filters : List IdFilter) (old mid new : Seen) (ow
 
 -- ---- the rows
 
-found_in_own : (picks : Picks) (spare id start end : ℕ) (own : List Placed) (founds : List Found) (ids : List IdOf) (time : ℕ) (a b : ℤ) → Counted spare id start end own founds ids → (f : FoundClash picks id start end own time a b) → Contains founds f.found
+found_in_own : (picks : Picks) (spare id start end : ℕ) (own : List Placed) (founds : List Found) (ids : List IdOf) (time : ℕ) (a b : ℤ) → Counted spare id start end own founds ids → (f : FoundConflict picks id start end own time a b) → Contains founds f.found
 found_in_own picks spare id start end own founds ids time a b c f =
     c.shows f.last f.found (subst (λ (l : List Placed). Contains l f.last) (sym f.cut) (Contains-append_right f.earlier (f.last ∷ []) f.last (lower.here f.last []))) f.reply
 
@@ -225,7 +225,7 @@ module _ (q : Query) (s : Sub) (old mid new : Seen) (id : ℕ) (filters : List I
         few = λ h lawful fits. few_later s id filters old mid new c.own b q c.founds c.ids c.counted new (lower.itself new) h lawful fits;
       }
 
-      at : (e : AskFault) → ClashOf (passes filters) id q.start q.end c.own e → SubRefused q s old e new
+      at : (e : AskFault) → ConflictOf (passes filters) id q.start q.end c.own e → SubRefused q s old e new
       at (Duplicate time x y) f =
           refused (Duplicate time x y) (λ h lawful fits.
           let found = found_in_own (passes filters) 1 id q.start q.end c.own c.founds c.ids time x y c.counted f in
@@ -234,10 +234,10 @@ module _ (q : Query) (s : Sub) (old mid new : Seen) (id : ℕ) (filters : List I
           let named = metric_named s id filters old mid new c.own b new (lower.itself new) h lawful fits in
           let known = metric_known s id filters old mid new c.own b new (lower.itself new) h lawful fits in
           let order = in_order s id filters old mid new c.own b new (lower.itself new) h lawful fits in
-          let row = row_names h new.length id q.start q.end f.found f.clash.key lawful stand f.clash.of in (
+          let row = row_names h new.length id q.start q.end f.found f.conflict.key lawful stand f.conflict.of in (
             free,
             resolved,
-            first_clash_of (passes filters) h new.length q.start q.end s.metric s.filters id b.resolved.list c.own time x y lawful order b.resolved.looks.reads f (pick_row s id filters old mid new c.own b new (lower.itself new) h lawful fits) named known row
+            first_conflict_of (passes filters) h new.length q.start q.end s.metric s.filters id b.resolved.list c.own time x y lawful order b.resolved.looks.reads f (pick_row s id filters old mid new c.own b new (lower.itself new) h lawful fits) named known row
                 (λ other key shows of. pick s id filters old mid new c.own b new (lower.itself new) h lawful fits 1 q.start q.end c.founds c.ids c.counted other key (c.counted.shows shows.placed other shows.among shows.reply) of),
           ))
       at OutOfMemory f = refused OutOfMemory (λ h lawful fits. tt)

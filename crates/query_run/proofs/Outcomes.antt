@@ -6,8 +6,8 @@ use Rattle.tsd_base.specs.declared.kinds.Kind.{Kind}
 use Rattle.row_key.specs.declared.keys.RowKey.{RowKey}
 use Rattle.qual_codec.specs.declared.cells.Cell.{Cell}
 use Rattle.qual_codec.specs.Merge.{values_at}
-use Rattle.cell_model.specs.declared.cells.Found.{Found}
-use Rattle.cell_model.specs.declared.cells.Row.{Row}
+use Rattle.cell_model.specs.declared.row.Found.{Found}
+use Rattle.cell_model.specs.declared.row.Row.{Row}
 use Rattle.cell_model.specs.declared.events.Content.{Content}
 use Rattle.cell_model.specs.declared.events.Place.{Place}
 use Rattle.cell_model.specs.declared.events.Placed.{Placed}
@@ -17,24 +17,24 @@ use Rattle.cell_model.specs.declared.events.Step.{Step}
 use Rattle.cell_model.specs.declared.events.Step.TheVariants.{Open, Read, NextRow, Bump, Claim, PutPoint, PutMerged, DropCells}
 use Rattle.cell_model.specs.Deeds.{before_first}
 use Rattle.cell_model.specs.History.{History, first, store_after, entry_at}
-use Rattle.cell_model.specs.Ids.{id_number, id_of, name_of, name_row}
+use Rattle.cell_model.specs.IdRows.{id_number, id_of, name_of, name_row}
 use Rattle.cell_model.specs.Lawful.{IsLawful}
 use Rattle.cell_model.specs.Machine.{kind_qual, reply_of}
-use Rattle.cell_model.specs.Readings.{Reading, Meets, OneValued, Accepted, point_row}
+use Rattle.cell_model.specs.Readings.{Reading, OneValued, Accepted, point_row}
 use Rattle.cell_model.specs.Store.{Store, cells_of, value_at, value_among}
 use Rattle.json_reply.specs.Replies.{Group}
 use Rattle.query_text.specs.declared.queries.Query.{Query}
 use Rattle.query_text.specs.declared.queries.Sub.{Sub}
-use Rattle.row_scan.specs.Shown.{RowReads}
-use Rattle.uid_table.specs.Steps.{DidLook}
+use Rattle.row_scan.specs.RowReadings.{RowReads}
+use Rattle.uid_table.specs.IdSteps.{DidLook}
 use Rattle.query_run.specs.declared.fault.AskFault.{AskFault}
 use Rattle.query_run.specs.declared.fault.AskFault.TheVariants.{TooManyBuckets, Unknown, Duplicate, Overflow, OutOfMemory, Stopped}
 use Rattle.query_run.specs.Asked.{Cause}
 use Rattle.query_run.specs.Invisible.{AcceptedFor, IsSettled}
-use Rattle.query_run.specs.Parts.{NameOf, IsResolved, AllResolved, PartStands, FirstUnknown, HasClash, FirstClash}
-use Rattle.query_run.specs.Queries.{wanted, names_in, barred, answer_over, IsFew}
+use Rattle.query_run.specs.Parts.{NameOf, IsResolved, AllResolved, PartStands, FirstUnknown, HasConflict, FirstConflict}
+use Rattle.query_run.specs.AskedQueries.{wanted, names_in, barred, answer_over, IsFew}
 use Rattle.query_run.proofs.Lower as lower
-use Rattle.query_run.proofs.InvisibleSteps.{OnlyBetween, accepted_grown, grown_between, ids_grown}
+use Rattle.query_run.proofs.Lower.{same_reading, OnlyBetween, accepted_grown, grown_between, ids_grown}
 use Rattle.query_run.proofs.RowReadings.{by_series, cell_of_dot}
 
 -- ---- what a history decides
@@ -66,12 +66,6 @@ pub data Comes (q : Query) (s : Sub) (g : History) (y : Result (List Group) AskF
   many : (fault : AskFault) → barred q s ≡ Some fault → ◌≡◌ {A = Result (List Group) AskFault} y (Err fault) → Comes q s g y
   lacks : (n : NameOf) → barred q s ≡ None → IsFirstUnresolved (names_in s) n g → ◌≡◌ {A = Result (List Group) AskFault} y (Err (Unknown n.0 n.1)) → Comes q s g y
   free : (IsSettled y → ⊥) → Comes q s g y
-
--- ---- readings
-
--- a reading that meets another and has its value is that one
-same_reading : (a b : Reading) → Meets a b → a.value ≡ b.value → b ≡ a
-same_reading a b m v = λ i. record { metric = sym m.metric i; tags = sym m.tags i; time = sym m.time i; value = sym v i }
 
 -- ---- what a next row shows
 
@@ -121,12 +115,12 @@ module _ (h : History) (to : ℕ) (lawful : IsLawful h) (own : List Placed) (sta
         stands = ap (λ (r : Row). value_at s r c.qual) (sym row) ∙ lower.cell_at s f.row c (subst (λ (cs : List Cell). Contains cs c) cells has);
       }
 
-  -- so a clash is of two readings that were accepted
-  pub no_clash_of : (q : Query) (s : Sub) (began : Store) (time : ℕ) (a b : ℤ) → OneValued (AcceptedFor q s (first to h)) → FirstClash began (name_of (first to h)) (wanted q s) own time a b → ⊥
-  no_clash_of q s began time a b one f = none_some (a, b) (sym (lower.no_clash (values_at c.offset c.dots) values_same) ∙ c.values)
+  -- so a conflict is of two readings that were accepted
+  pub no_conflict_of : (q : Query) (s : Sub) (began : Store) (time : ℕ) (a b : ℤ) → OneValued (AcceptedFor q s (first to h)) → FirstConflict began (name_of (first to h)) (wanted q s) own time a b → ⊥
+  no_conflict_of q s began time a b one f = none_some (a, b) (sym (lower.no_conflict (values_at c.offset c.dots) values_same) ∙ c.values)
     where
-      c : HasClash (name_of (first to h)) (wanted q s) f.found time a b
-      c = f.clash
+      c : HasConflict (name_of (first to h)) (wanted q s) f.found time a b
+      c = f.conflict
 
       at_in : Contains own f.at
       at_in = subst (λ (l : List Placed). Contains l f.at) (sym f.cut) (Contains-append_right f.earlier (f.at ∷ f.later) f.at (lower.here f.at f.later))
@@ -261,7 +255,7 @@ module _ (h : History) (from to : ℕ) (lawful : IsLawful h) (le : from ≤ to) 
     pub refused_so : (shown : List Reading) (fault : AskFault) → Cause (wanted q) names_in (barred q) (answer_over q) (IsFew q) s (record { own = own; shown = shown }) to h fault → Comes q s began (Err fault)
     refused_so shown (TooManyBuckets count) c = many (TooManyBuckets count) c.1 refl
     refused_so shown (Unknown kind name) c = lacks (kind, name) c.0 (first_unresolved kind name c.1) refl
-    refused_so shown (Duplicate time a b) c = absurd (no_clash_of h to lawful own stand_in q s (store_after (first (before_first own to) h)) time a b one_later c.2)
+    refused_so shown (Duplicate time a b) c = absurd (no_conflict_of h to lawful own stand_in q s (store_after (first (before_first own to) h)) time a b one_later c.2)
     refused_so shown (Overflow time) c = over (Err time) (part_over shown (Err time) c.0 c.1 c.2) refl
     refused_so shown OutOfMemory c = free (λ x. x)
     refused_so shown Stopped c = free (λ x. x)

@@ -7,7 +7,7 @@ use Rattle.std.specs.Ordering.{is_lt, nat_cmp, ordering_then}
 use Rattle.std.specs.Cmp.{tied_itself, nat_cmp_total, ranked}
 use Rattle.std.specs.Cmp.Lexicographic.{slice_cmp}
 use Rattle.row_key.specs.declared.keys.RowKey.{RowKey}
-use Rattle.row_key.specs.Order.{key_cmp, pair_cmp}
+use Rattle.row_key.specs.KeyOrder.{key_cmp, pair_cmp}
 use Rattle.std.proofs.lemmas.List.Elements.{Contains-append_left}
 use Rattle.query_run.proofs.Lower as lower
 

@@ -6,14 +6,15 @@ use Rattle.std.specs.declared.cmp.Ordering.TheVariants.{Less, Equal, Greater}
 use Rattle.std.specs.Ordering.{is_lt}
 use Rattle.std.proofs.lemmas.List.Elements.{Contains-append_left, Contains-append_right}
 use Rattle.row_key.specs.declared.tables.Table.TheVariants.{Points}
-use Rattle.cell_model.specs.declared.cells.Row.{Row}
-use Rattle.cell_model.specs.declared.cells.Found.{Found}
+use Rattle.cell_model.specs.declared.row.Row.{Row}
+use Rattle.cell_model.specs.declared.row.Found.{Found}
 use Rattle.cell_model.specs.declared.events.Placed.{Placed}
-use Rattle.cell_model.specs.Store.{bytes_cmp, is_between}
+use Rattle.list_lemmas.specs.BytesOrder.{bytes_cmp}
+use Rattle.cell_model.specs.Store.{is_between}
 use Rattle.cell_model.specs.History.{History, first, store_after, entry_at}
 use Rattle.cell_model.specs.Lawful.{IsLawful}
 use Rattle.row_scan.specs.Scans.{Left, IsNext, HasCell, IsWanted, Skips, left_at, behind}
-use Rattle.query_run.specs.Collecting.{Picks, StandAfter, FoundBelow, picked_by}
+use Rattle.query_run.specs.Collection.{Picks, StandAfter, FoundBelow, picked_by}
 use Rattle.query_run.proofs.Lower as lower
 
 pub less_not : (r : Ordering) → r ≡ Less → is_lt r ≡ false → ⊥

@@ -9,12 +9,12 @@ use Rattle.qual_codec.specs.declared.cells.Cell.{Cell}
 use Rattle.qual_codec.specs.declared.cells.Dot.{Dot}
 use Rattle.qual_codec.specs.declared.cells.MergeFault.TheVariants as merge
 use Rattle.tsd_base.specs.Dots.{IsAboveAll}
-use Rattle.qual_codec.specs.Merge.{AreDots, values_at, first_conflict as first_clash, MergesTo, IsUnmerged}
-use Rattle.query_run.specs.RowDots.{dot_at, IsIn, HasDots, Clashes}
+use Rattle.qual_codec.specs.Merge.{AreDots, values_at, first_conflict, MergesTo, TellsConflict}
+use Rattle.query_run.specs.RowDots.{dot_at, IsIn, HasDots, Conflicts}
 use Rattle.query_run.proofs.Lower as lower
 use Rattle.query_run.proofs.NameReads.{about}
 
--- ---- values that don't clash are one
+-- ---- values that don't conflict are one
 
 some_none : {A B : Type 0} (f : A → B) (o : Option A) → option_map f o ≡ None → o ≡ None
 some_none f None e = refl
@@ -30,7 +30,7 @@ not_found a (w ∷ vs) e v c = at (int_eq a w) refl e (lower.split w v vs c) (no
     at true i f (inr later) go = go f v later
     at false i f c go = cc
 
-pub one_value : (vs : List ℤ) → first_clash vs ≡ None → (v w : ℤ) → Contains vs v → Contains vs w → v ≡ w
+pub one_value : (vs : List ℤ) → first_conflict vs ≡ None → (v w : ℤ) → Contains vs v → Contains vs w → v ≡ w
 one_value [] e v w c d = absurd (lower.not_in v c)
 one_value (a ∷ vs) e v w c d = sym (first v c) ∙ first w d
   where
@@ -80,15 +80,15 @@ has_dots cells base start end first last kept le f l (all, are, keeps) = record 
   one = λ offset within. none offset within;
 }
   where
-    no_dots : (offset : ℕ) → 3599999 < offset → first_clash (values_at offset all) ≡ None
+    no_dots : (offset : ℕ) → 3599999 < offset → first_conflict (values_at offset all) ≡ None
     no_dots offset big =
-        lower.no_clash (values_at offset all) (λ v w c d.
+        lower.no_conflict (values_at offset all) (λ v w c d.
         let x = lower.value_dot all offset v c in
         let most = are_offsets cells all are x.dot x.among in
         let is = x.offset_is in
         absurd (omega (arith, most, is, big)))
 
-    none : (offset : ℕ) → IsIn start end (base * 1000 + offset) → first_clash (values_at offset all) ≡ None
+    none : (offset : ℕ) → IsIn start end (base * 1000 + offset) → first_conflict (values_at offset all) ≡ None
     none offset within = elim (split_at offset) [
       | inl small ↦ (let low = within.0 in let high = within.1 in keeps.one_value offset (omega (arith, low, f)) (omega (arith, high, l, small, le)))
       | inr big ↦ no_dots offset big
@@ -97,9 +97,9 @@ has_dots cells base start end first last kept le f l (all, are, keeps) = record 
         split_at : (n : ℕ) → (n ≤ 3599999) ⊎ (3599999 < n)
         split_at n = grind arith
 
-pub clashes : (cells : List Cell) (base start end first last offset : ℕ) (a b : ℤ) → base * 1000 ≤ end → first ≡ start - base * 1000 → last ≡ min (end - base * 1000) 3599999
-    → IsUnmerged cells first last (merge.Conflict offset a b) → Clashes cells base start end (base * 1000 + offset) a b
-clashes cells base start end first last offset a b le f l (all, are, cl) = record {
+pub conflicts : (cells : List Cell) (base start end first last offset : ℕ) (a b : ℤ) → base * 1000 ≤ end → first ≡ start - base * 1000 → last ≡ min (end - base * 1000) 3599999
+    → TellsConflict cells first last (merge.Conflict offset a b) → Conflicts cells base start end (base * 1000 + offset) a b
+conflicts cells base start end first last offset a b le f l (all, are, cl) = record {
   all = all;
   are = are;
   offset = offset;

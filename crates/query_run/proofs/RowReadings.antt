@@ -8,22 +8,23 @@ use Rattle.std.proofs.lemmas.Bool.{le-leb, leb-true}
 use Rattle.std.proofs.lemmas.List.Elements.{Contains-append_left, Contains-append_right, Contains-append_cases}
 use Rattle.tsd_base.specs.declared.kinds.Kind.{Kind}
 use Rattle.tsd_base.specs.declared.kinds.Kind.TheVariants.{Metric}
-use Rattle.tsd_base.specs.TagList.{Pair, bytes_cmp, is_same}
+use Rattle.tsd_base.specs.TagList.{Pair, is_same}
+use Rattle.list_lemmas.specs.BytesOrder.{bytes_cmp}
 use Rattle.row_key.specs.declared.keys.RowKey.{RowKey}
 use Rattle.qual_codec.specs.declared.cells.Cell.{Cell}
 use Rattle.qual_codec.specs.declared.cells.Dot.{Dot}
-use Rattle.qual_codec.specs.Dots.{IsDots}
-use Rattle.cell_model.specs.declared.cells.Row.{Row}
-use Rattle.cell_model.specs.declared.cells.Found.{Found}
+use Rattle.qual_codec.specs.CellDots.{IsDots}
+use Rattle.cell_model.specs.declared.row.Row.{Row}
+use Rattle.cell_model.specs.declared.row.Found.{Found}
 use Rattle.cell_model.specs.Layout.{base_time}
 use Rattle.cell_model.specs.Readings.{Reading, OneValued, Named}
 use Rattle.qual_codec.specs.Merge.{AreDots, values_at}
-use Rattle.row_scan.specs.Shown.{RowReads, Chosen, BySeries}
+use Rattle.row_scan.specs.RowReadings.{RowReads, Chosen, BySeries}
 use Rattle.query_text.specs.declared.queries.Filter.{Filter}
-use Rattle.group_by.specs.Filters.{passes}
-use Rattle.query_run.specs.Queries.{is_wanted}
+use Rattle.group_by.specs.TagFilters.{passes}
+use Rattle.query_run.specs.AskedQueries.{is_wanted}
 use Rattle.query_run.specs.RowDots.{IsIn}
-use Rattle.query_run.specs.Collecting.{Picks, KeyOf, RowIsClean}
+use Rattle.query_run.specs.Collection.{Picks, KeyOf, RowIsConflictFree}
 use Rattle.query_run.proofs.Lower as lower
 use Rattle.query_run.proofs.RowPoints.{one_value}
 
@@ -152,17 +153,17 @@ same_offset base a b s t x y e = omega (arith, x, y, e)
 abbrev pub PicksBy : Picks → List Filter → (Kind → ℕ → Option (List ℕ)) → RowKey → Type 0
 PicksBy picks filters names key = (tags : List Pair) → Named names key.pairs.items tags → picks key.pairs.items ≡ passes filters tags
 
--- at one time a clean row has one value
-pub clean_row : (picks : Picks) (names : Kind → ℕ → Option (List ℕ)) (id start end : ℕ) (metric : List ℕ) (filters : List Filter) (f : Found) → (c : RowIsClean picks id start end f) → PicksBy picks filters names c.key → OneValued (Chosen (is_wanted start end metric filters) (RowReads names f))
-clean_row picks names id start end metric filters f c by a b x y meets =
+-- at one time a conflict_free row has one value
+pub conflict_free_row : (picks : Picks) (names : Kind → ℕ → Option (List ℕ)) (id start end : ℕ) (metric : List ℕ) (filters : List Filter) (f : Found) → (c : RowIsConflictFree picks id start end f) → PicksBy picks filters names c.key → OneValued (Chosen (is_wanted start end metric filters) (RowReads names f))
+conflict_free_row picks names id start end metric filters f c by a b x y meets =
     let w = asks start end metric filters a x.1 in
     let tags = read_tags names id start end f c.key a c.of x.0 in
-    let clean = c.clean (by a.tags tags ∙ w.passed) in
-    let p = reads_dot names id start end f c.key clean.all a c.of clean.are x.0 in
-    let q = reads_dot names id start end f c.key clean.all b c.of clean.are y.0 in
+    let conflict_free = c.conflict_free (by a.tags tags ∙ w.passed) in
+    let p = reads_dot names id start end f c.key conflict_free.all a c.of conflict_free.are x.0 in
+    let q = reads_dot names id start end f c.key conflict_free.all b c.of conflict_free.are y.0 in
     let offset = same_offset c.key.base p.dot.item.offset q.dot.item.offset a.time b.time p.time_is q.time_is meets.time in
-    let none = clean.one p.dot.item.offset (subst (IsIn start end) p.time_is w.within) in
-    p.value_is ∙ one_value (values_at p.dot.item.offset clean.all) none p.dot.value q.dot.value (lower.dot_value clean.all p.dot p.dot.item.offset p.there refl) (lower.dot_value clean.all q.dot p.dot.item.offset q.there (sym offset)) ∙ sym q.value_is
+    let none = conflict_free.one p.dot.item.offset (subst (IsIn start end) p.time_is w.within) in
+    p.value_is ∙ one_value (values_at p.dot.item.offset conflict_free.all) none p.dot.value q.dot.value (lower.dot_value conflict_free.all p.dot p.dot.item.offset p.there refl) (lower.dot_value conflict_free.all q.dot p.dot.item.offset q.there (sym offset)) ∙ sym q.value_is
 
 -- ---- tags are one
 

@@ -6,8 +6,8 @@ use Rattle.std.proofs.lemmas.List.Elements.{recursion_from_All}
 use Rattle.row_key.specs.declared.keys.RowKey.{RowKey}
 use Rattle.row_key.specs.Key.{IsKey, key_bytes}
 use Rattle.tsd_base.specs.Dots.{IsAboveAll}
-use Rattle.cell_model.specs.declared.cells.Row.{Row}
-use Rattle.cell_model.specs.declared.cells.Found.{Found}
+use Rattle.cell_model.specs.declared.row.Row.{Row}
+use Rattle.cell_model.specs.declared.row.Found.{Found}
 use Rattle.cell_model.specs.declared.answers.RowsFault.{RowsFault}
 use Rattle.cell_model.specs.declared.answers.RowsFault.TheVariants as rows
 use Rattle.cell_model.specs.Readings.{point_row}
@@ -15,11 +15,11 @@ use Rattle.cell_model.specs.Seen.{Seen}
 use Rattle.span_merge.specs.Spans.{Span, dots_of}
 use Rattle.query_run.specs.declared.fault.AskFault.{AskFault}
 use Rattle.query_run.specs.declared.fault.AskFault.TheVariants.{TooManyBuckets, Unknown, Duplicate, Overflow, OutOfMemory, Stopped}
-use Rattle.query_run.specs.declared.collecting.Collected.{Collected}
-use Rattle.query_run.specs.Faults.{ask_fault}
-use Rattle.query_run.specs.Naming.{IdOf, Names, KnowsPair, NamesRead, NamesCut, ids_of, known}
+use Rattle.query_run.specs.declared.collection.Collected.{Collected}
+use Rattle.query_run.specs.AskFaults.{ask_fault}
+use Rattle.query_run.specs.RowNames.{IdOf, Names, KnowsPair, NamesRead, NamesCut, ids_of, known}
 use Rattle.query_run.specs.RowDots.{HasDots, DotsAsked}
-use Rattle.query_run.specs.Collecting.{Picks, KeyOf, FoundRow, StandsBehind, Adds, RowLeft, RowTaken, RowCut, RowAsked}
+use Rattle.query_run.specs.Collection.{Picks, KeyOf, FoundRow, StandsBehind, Adds, RowLeft, RowTaken, RowCut, RowAsked}
 use Rattle.query_run.proofs.Lower as lower
 use Rattle.query_run.proofs.NameReads.{read_nothing, read_then_cut, cut_among}
 
@@ -41,7 +41,7 @@ no_names s names asked = cut_among s s names [] asked (λ i c. absurd (lower.not
 -- ---- a fault of its points
 
 pub dots_failed : (picks : Picks) (s : Seen) (id start end : ℕ) (f : Found) (key : RowKey) (before after : Collected) (fault : AskFault) → KeyOf id start end f key → picks key.pairs.items ≡ true → DotsAsked f.cells key.base start end (Err fault) → RowAsked picks id start end f s before (Err fault) s after
-dots_failed picks s id start end f key before after (Duplicate time a b) of picked asked = (lower.nothing_made s, record { key = key; of = of; picked = picked; clash = asked })
+dots_failed picks s id start end f key before after (Duplicate time a b) of picked asked = (lower.nothing_made s, record { key = key; of = of; picked = picked; conflict = asked })
 dots_failed picks s id start end f key before after OutOfMemory of picked asked = record { key = key; of = of; named = no_names s (known before.names) (ids_of key.pairs.items) }
 dots_failed picks s id start end f key before after (TooManyBuckets count) of picked asked = absurd asked
 dots_failed picks s id start end f key before after (Unknown kind name) of picked asked = absurd asked

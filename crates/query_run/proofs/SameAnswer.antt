@@ -5,11 +5,14 @@ use Rattle.std.proofs.lemmas.List.{append-nil}
 use Rattle.std.proofs.lemmas.List.Elements.{Contains-append_left, Contains-append_right}
 use Rattle.cell_model.specs.declared.events.Entry.{Entry}
 use Rattle.cell_model.specs.declared.events.Placed.{Placed}
+use Rattle.cell_model.specs.declared.events.Step.{Step}
+use Rattle.cell_model.specs.declared.events.Step.TheVariants.{Open, Read, NextRow, Bump, Claim, PutPoint, PutMerged, DropCells}
 use Rattle.cell_model.specs.Deeds.{Made, before_first, placed}
 use Rattle.cell_model.specs.History.{History, len, entry_at, first, store_after}
 use Rattle.cell_model.specs.Lawful.{IsLawful}
 use Rattle.cell_model.specs.Readings.{OneValued}
 use Rattle.cell_model.specs.Seen.{Seen, Fits}
+use Rattle.cell_laws.specs.Laws.{IsInvisible}
 use Rattle.json_reply.specs.Replies.{Group, plain}
 use Rattle.json_reply.specs.declared.reply.Reply.{Reply}
 use Rattle.query_text.specs.declared.queries.Query.{Query}
@@ -17,14 +20,14 @@ use Rattle.query_text.specs.declared.queries.Sub.{Sub}
 use Rattle.query_run.specs.declared.fault.AskFault.{AskFault}
 use Rattle.query_run.specs.Asked.{Answered, Refused}
 use Rattle.query_run.specs.Asked.Answers.{none, more}
-use Rattle.query_run.specs.Invisible.{IsInvisible, Gives, AcceptedFor, IsOneValued, AreAlike, told, SameAcceptedSameAnswer, CompactionChangesNoAnswer, OneValueIsAnswered, AloneGives}
+use Rattle.query_run.specs.Invisible.{Gives, AcceptedFor, IsOneValued, AreAlike, told, SameAcceptedSameAnswer, CompactionChangesNoAnswer, OneValueIsAnswered, AloneGives}
 use Rattle.query_run.specs.Laws.{AnswerIsUnordered}
-use Rattle.query_run.specs.Parts.{Part, AreQuerySteps}
-use Rattle.query_run.specs.Queries.{wanted, names_in, barred, answer_over, IsFew, QuerySays}
+use Rattle.query_run.specs.Parts.{Part, IsQueryStep, AreQuerySteps}
+use Rattle.query_run.specs.AskedQueries.{wanted, names_in, barred, answer_over, IsFew, QuerySays}
 use Rattle.query_run.proofs.Lower as lower
 use Rattle.query_run.proofs.AllSubs.{AnswersOf, all_own}
-use Rattle.query_run.proofs.InvisibleSteps.{Grown, OnlyBetween, accepted_grown, deed_of, grown_behind, ids_grown, query_step}
-use Rattle.query_run.proofs.Outcomes.{StandBetween, answered_so, no_clash_of, refused_so}
+use Rattle.query_run.proofs.Lower.{Grown, OnlyBetween, accepted_grown, deed_of, grown_behind, ids_grown}
+use Rattle.query_run.proofs.Outcomes.{StandBetween, answered_so, no_conflict_of, refused_so}
 use Rattle.query_run.proofs.SameOutcome.{AllCome, none_more, one_more, same_for_all, with_more}
 
 -- ---- the entries of a query
@@ -34,6 +37,17 @@ made_between : (old new : Seen) (list : List Placed) (h : History) → Made old 
 made_between old new list h made fits p c =
     let d = lower.deeds_each h old.caller old.length new.length p (subst (λ (l : List Placed). Contains l p) (sym (made.made h fits)) c) in
     (d.above, d.within, d.stands)
+
+-- a query makes such steps
+pub query_step : (step : Step) → IsQueryStep step → IsInvisible step
+query_step Open q = absurd q
+query_step (Read row) q = tt
+query_step (NextRow t x y) q = tt
+query_step (Bump k) q = absurd q
+query_step (Claim row x y) q = absurd q
+query_step (PutPoint point row x y) q = absurd q
+query_step (PutMerged row x y) q = absurd q
+query_step (DropCells row which) q = absurd q
 
 -- where others only open, read, merge and drop, nobody does more
 only_invisible : (old new : Seen) (list : List Placed) (h : History) → Made old list new → AreQuerySteps list → Fits new h
@@ -116,7 +130,7 @@ one_value_answered q old new h time a b lawful fits one r =
     let own = all_own r.parts in
     let stand = made_between old new (own ++ r.part.own) h r.made fits in
     let of_sub = one r.sub (subst (λ (l : List Sub). Contains l r.sub) (sym r.cut) (Contains-append_right r.done (r.sub ∷ r.rest) r.sub (lower.here r.sub r.rest))) in
-    no_clash_of h new.length lawful r.part.own (λ p c. let w = stand p (Contains-append_right own r.part.own p c) in (w.1, w.2)) q r.sub (store_after (first (before_first r.part.own new.length) h)) time a b of_sub (r.cause h lawful fits).2
+    no_conflict_of h new.length lawful r.part.own (λ p c. let w = stand p (Contains-append_right own r.part.own p c) in (w.1, w.2)) q r.sub (store_after (first (before_first r.part.own new.length) h)) time a b of_sub (r.cause h lawful fits).2
 
 -- ---- a caller that steps alone
 

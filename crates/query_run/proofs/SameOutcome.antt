@@ -10,11 +10,11 @@ use Rattle.query_text.specs.declared.queries.Query.{Query}
 use Rattle.query_text.specs.declared.queries.Sub.{Sub}
 use Rattle.query_run.specs.declared.fault.AskFault.{AskFault}
 use Rattle.query_run.specs.declared.fault.AskFault.TheVariants.{Unknown}
-use Rattle.query_run.specs.Answers.{as_point}
+use Rattle.query_run.specs.QueryAnswers.{as_point}
 use Rattle.query_run.specs.Invisible.{AcceptedFor, IsSettled}
 use Rattle.query_run.specs.Laws.{AnswerIsUnordered}
 use Rattle.query_run.specs.Parts.{NameOf, IsResolved}
-use Rattle.query_run.specs.Queries.{names_in}
+use Rattle.query_run.specs.AskedQueries.{names_in}
 use Rattle.query_run.proofs.Lower as lower
 use Rattle.query_run.proofs.Outcomes.{Comes, IsFirstUnresolved, IsOver, as_answer}
 use Rattle.query_run.proofs.Outcomes.Comes.{over, many, lacks, free}

@@ -7,28 +7,28 @@ use Rattle.tsd_base.specs.declared.kinds.Kind.{Kind}
 use Rattle.std.specs.declared.cmp.Ordering.TheVariants.{Less}
 use Rattle.row_key.specs.declared.keys.RowKey.{RowKey}
 use Rattle.qual_codec.specs.declared.cells.Cell.{Cell}
-use Rattle.cell_model.specs.declared.cells.Found.{Found}
+use Rattle.cell_model.specs.declared.row.Found.{Found}
 use Rattle.cell_model.specs.declared.events.Placed.{Placed}
 use Rattle.cell_model.specs.declared.events.Reply.TheVariants.{Shown, Next}
 use Rattle.cell_model.specs.declared.answers.RowsFault.{RowsFault}
 use Rattle.cell_model.specs.declared.answers.RowsFault.TheVariants as rows
 use Rattle.cell_model.specs.Layout.{base_time}
-use Rattle.cell_model.specs.Store.{bytes_cmp}
+use Rattle.list_lemmas.specs.BytesOrder.{bytes_cmp}
 use Rattle.cell_model.specs.Seen.{Seen, IsPossible}
 use Rattle.cell_model.specs.Deeds.{Made}
 use Rattle.row_scan.specs.Scans.{Left, IsNext, IsStart, IsOther, AreOther, TurnMade, MadeSo, Skips, left_at, behind}
 use Rattle.span_merge.specs.Spans.{Span}
 use Rattle.query_run.specs.declared.fault.AskFault.{AskFault}
 use Rattle.query_run.specs.declared.fault.AskFault.TheVariants.{TooManyBuckets, Unknown, Duplicate, Overflow, OutOfMemory, Stopped}
-use Rattle.query_run.specs.declared.collecting.Collected.{Collected}
-use Rattle.query_run.specs.Faults.{ask_fault}
+use Rattle.query_run.specs.declared.collection.Collected.{Collected}
+use Rattle.query_run.specs.AskFaults.{ask_fault}
 use Rattle.query_run.specs.Parts.{IsQueryStep, AreQuerySteps}
-use Rattle.query_run.specs.Naming.{IdOf, Names, AllNamed, HasName, AreReads, IdReads, ids_of, known}
-use Rattle.query_run.specs.Collecting.{Picks, KeyOf, StandsBehind, RowDone, RowCut, RowClashes, RowAsked, Counted, Gathered, Gathering, HasCollected, GoesOn, ShowsBelow, ClashOf, WasCut, picked_by}
+use Rattle.query_run.specs.RowNames.{IdOf, Names, AllNamed, HasName, AreReads, IdReads, ids_of, known}
+use Rattle.query_run.specs.Collection.{Picks, KeyOf, StandsBehind, RowDone, RowCut, RowConflicts, RowAsked, Counted, Gathered, Gathering, HasCollected, GoesOn, ShowsBelow, ConflictOf, WasCut, picked_by}
 use Rattle.query_run.proofs.Lower as lower
 use Rattle.query_run.proofs.NameReads.{pairs_joined, named_kept}
 use Rattle.query_run.proofs.ScanSteps.{NextFound, next_found, only_from, only_behind, below_next, below_rest}
-use Rattle.query_run.proofs.Contents.{stands_behind, gathered_more, row_clean}
+use Rattle.query_run.proofs.Contents.{stands_behind, gathered_more, row_conflict_free}
 use Rattle.query_run.proofs.Passing.{below_none, below_more, below_skipped, found_before}
 
 -- ---- entries
@@ -250,7 +250,7 @@ module _ (picks : Picks) (old now next : Seen) (id start end : ℕ) (left : Left
       let n = r.named in
       goes after more names_after r.key n.list n.ids r.of n.made n.reads n.kept (λ i c. n.all i (n.reads.among i c)) (n.shown (named_kept now next names t.made.since.extends so.shown)) (inr r)
 
-  no_memory_for : (after : Seen) (fault : AskFault) → ((own : List Placed) → ClashOf picks id start end own fault) → RowCut id start end f next names after → WasCut picks id start end old fault after
+  no_memory_for : (after : Seen) (fault : AskFault) → ((own : List Placed) → ConflictOf picks id start end own fault) → RowCut id start end f next names after → WasCut picks id start end old fault after
   no_memory_for after fault cause r =
       let g = so in
       let n = r.named in
@@ -270,8 +270,8 @@ module _ (picks : Picks) (old now next : Seen) (id start end : ℕ) (left : Left
       let by = so.counted.by w.0 w.1 in
       (w.0, record { placed = by.0; among = by.2; reply = by.3.1 }, w.2)
 
-  clash_of : (after : Seen) (time : ℕ) (a b : ℤ) → Made next [] after → RowClashes picks id start end f time a b → WasCut picks id start end old (Duplicate time a b) after
-  clash_of after time a b made r =
+  conflict_of : (after : Seen) (time : ℕ) (a b : ℤ) → Made next [] after → RowConflicts picks id start end f time a b → WasCut picks id start end old (Duplicate time a b) after
+  conflict_of after time a b made r =
       let g = so in
       let counted = counted_more 0 id start end g.own [] g.founds g.ids [] left t.p f r.key names g.counted t.is_next r.of below g.had (no_reads_of (ids_of r.key.pairs.items)) in
       record {
@@ -284,17 +284,17 @@ module _ (picks : Picks) (old now next : Seen) (id start end : ℕ) (left : Left
           earlier = g.own;
           last = t.p;
           cut = append_assoc g.own (t.p ∷ []) [];
-          clean = λ p h c e. row_clean picks id start end spans names h (g.content.rows h (g.counted.shows p h c e));
+          conflict_free = λ p h c e. row_conflict_free picks id start end spans names h (g.content.rows h (g.counted.shows p h c e));
           found = f;
           reply = t.is_next.1;
           passed = shows_below;
-          clash = r;
+          conflict = r;
         };
       }
 
   -- it was refused
   pub turn_fails : (after : Seen) (before now_collected : Collected) (fault : AskFault) → known before.names ≡ names → RowAsked picks id start end f next before (Err fault) after now_collected → WasCut picks id start end old fault after
-  turn_fails after before coll (Duplicate time a b) same (made, r) = clash_of after time a b made r
+  turn_fails after before coll (Duplicate time a b) same (made, r) = conflict_of after time a b made r
   turn_fails after before coll OutOfMemory same r = no_memory_for after OutOfMemory (λ own. tt) (subst (λ (n : Names). RowCut id start end f next n after) same r)
   turn_fails after before coll Stopped same r = no_memory_for after Stopped (λ own. tt) (subst (λ (n : Names). RowCut id start end f next n after) same r)
   turn_fails after before coll (TooManyBuckets count) same r = absurd r
@@ -331,7 +331,7 @@ goes_on picks old now id start end behind left later spans names is far (from, s
 
 -- ---- a turn that failed, and the end
 
-cause_of : (picks : Picks) (id start end : ℕ) (own : List Placed) (e : RowsFault) → ClashOf picks id start end own (ask_fault e)
+cause_of : (picks : Picks) (id start end : ℕ) (own : List Placed) (e : RowsFault) → ConflictOf picks id start end own (ask_fault e)
 cause_of picks id start end own rows.OutOfMemory = tt
 cause_of picks id start end own rows.Stopped = tt
 

@@ -13,23 +13,24 @@ use Rattle.tsd_base.specs.Alphabet.{IsName}
 use Rattle.row_key.specs.declared.keys.RowKey.{RowKey}
 use Rattle.row_key.specs.declared.tables.Table.TheVariants.{Points}
 use Rattle.row_key.specs.Key.{IsKey, key_bytes}
-use Rattle.row_key.specs.Order.{key_cmp, pair_cmp}
+use Rattle.row_key.specs.KeyOrder.{key_cmp, pair_cmp}
 use Rattle.qual_codec.specs.declared.cells.Cell.{Cell}
-use Rattle.qual_codec.specs.Dots.{Reads}
-use Rattle.cell_model.specs.declared.cells.Row.{Row}
-use Rattle.cell_model.specs.declared.cells.Found.{Found}
+use Rattle.qual_codec.specs.CellDots.{Reads}
+use Rattle.cell_model.specs.declared.row.Row.{Row}
+use Rattle.cell_model.specs.declared.row.Found.{Found}
 use Rattle.cell_model.specs.declared.events.Placed.{Placed}
-use Rattle.cell_model.specs.Store.{bytes_cmp, is_between, next_row_of, value_at}
+use Rattle.list_lemmas.specs.BytesOrder.{bytes_cmp}
+use Rattle.cell_model.specs.Store.{is_between, next_row_of, value_at}
 use Rattle.cell_model.specs.History.{History, len, first, store_after, entry_at}
 use Rattle.cell_model.specs.History.History.{Base, Then}
-use Rattle.cell_model.specs.Ids.{id_of}
+use Rattle.cell_model.specs.IdRows.{id_of}
 use Rattle.cell_model.specs.Lawful.{IsLawful}
 use Rattle.cell_model.specs.Readings.{point_row}
 use Rattle.cell_model.specs.Seen.{Seen, IsPossible, Fits}
 use Rattle.cell_model.specs.Deeds.{Made}
 use Rattle.row_scan.specs.Scans.{Left, IsNext, left_at, behind}
-use Rattle.query_run.specs.Naming.{KnowsPair}
-use Rattle.query_run.specs.Collecting.{FoundRow, OnlyRows}
+use Rattle.query_run.specs.RowNames.{KnowsPair}
+use Rattle.query_run.specs.Collection.{FoundRow, OnlyRows}
 use Rattle.query_run.proofs.Lower as lower
 use Rattle.query_run.proofs.Titles.{pairs_total}
 

@@ -11,16 +11,16 @@ use Rattle.query_run.proofs.Lower.{pairs_tail, map_in}
 use Rattle.tsd_base.specs.declared.kinds.Aggregator.{Aggregator}
 use Rattle.tsd_base.specs.declared.kinds.Aggregator.TheVariants.{NoneOf}
 use Rattle.tsd_base.specs.Points.{DataPoint}
-use Rattle.tsd_base.specs.Readings.{series_of, dots_of}
+use Rattle.tsd_base.specs.LastPoints.{series_of, dots_of}
 use Rattle.tsd_base.specs.TagList.{Pair, tags_cmp, is_same_tags}
 use Rattle.tsd_base.specs.TagOrder.{tags_ties, tags_same, is_same_tags_equiv}
 use Rattle.query_text.specs.declared.queries.Query.{Query}
 use Rattle.query_text.specs.declared.queries.Sub.{Sub}
-use Rattle.group_by.specs.Filters.{group_key, has_grouping, is_grouped, is_none}
-use Rattle.query_run.specs.Answers.{answer, all_groups, group_answer, group_from, group_keys, groups_in}
-use Rattle.query_run.specs.Grouping.{group_with, members, members_in}
-use Rattle.query_run.specs.Series.{tags_in, dots_in, points_with, points_in, AreEarly, RiseByTags, HavePoints, HaveTimes}
-use Rattle.query_run.specs.declared.series.Series.{Series}
+use Rattle.group_by.specs.TagFilters.{group_key, has_grouping, is_grouped, is_none}
+use Rattle.query_run.specs.QueryAnswers.{answer, all_groups, group_answer, group_from, group_keys, groups_in}
+use Rattle.query_run.specs.SeriesGroups.{group_with, members, members_in}
+use Rattle.query_run.specs.NamedSeries.{tags_in, dots_in, points_with, points_in, AreEarly, RiseByTags, HavePoints, HaveTimes}
+use Rattle.query_run.specs.declared.named_series.Series.{Series}
 use Rattle.query_run.proofs.Keys.{series_are, group_key_from}
 use Rattle.query_run.proofs.AnyOf.{in_any}
 

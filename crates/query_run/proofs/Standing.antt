@@ -7,31 +7,31 @@ use Rattle.tsd_base.specs.declared.kinds.Kind.TheVariants.{Metric, TagKey, TagVa
 use Rattle.tsd_base.specs.TagList.{Pair}
 use Rattle.row_key.specs.declared.keys.RowKey.{RowKey}
 use Rattle.row_key.specs.Key.{IsKey, key_bytes}
-use Rattle.cell_model.specs.declared.cells.Found.{Found}
+use Rattle.cell_model.specs.declared.row.Found.{Found}
 use Rattle.cell_model.specs.declared.events.Placed.{Placed}
 use Rattle.cell_model.specs.Layout.{base_time}
 use Rattle.cell_model.specs.History.{History, first, store_after}
-use Rattle.cell_model.specs.Ids.{id_of, name_of}
+use Rattle.cell_model.specs.IdRows.{id_of, name_of}
 use Rattle.cell_model.specs.Lawful.{IsLawful}
 use Rattle.cell_model.specs.Readings.{Reading, Named, point_row}
 use Rattle.cell_model.specs.Seen.{Seen, Fits}
 use Rattle.cell_model.specs.Deeds.{Extends, InOrder}
 use Rattle.row_scan.specs.Scans.{Left, IsStart, HasCell, Wanting, Scanned}
-use Rattle.row_scan.specs.Shown.{ShowsRow, ShowsReading, Chosen, AsksWithin, AsksOfWanted, NoClash, OwnCovers}
+use Rattle.row_scan.specs.RowReadings.{ShowsRow, ShowsReading, Chosen, AsksWithin, AsksOfWanted, NoConflict, OwnCovers}
 use Rattle.row_scan.specs.Laws.{ScanCovers}
 use Rattle.span_merge.specs.Spans.{Span, dots_of}
-use Rattle.query_run.specs.declared.series.Series.{Series}
+use Rattle.query_run.specs.declared.named_series.Series.{Series}
 use Rattle.query_text.specs.declared.queries.Filter.{Filter}
 use Rattle.query_run.specs.Parts.{NameOf, AllResolved, PartStands}
-use Rattle.query_run.specs.Queries.{is_wanted}
-use Rattle.query_run.specs.Naming.{IdOf, Names, AllNamed, AreReads}
+use Rattle.query_run.specs.AskedQueries.{is_wanted}
+use Rattle.query_run.specs.RowNames.{IdOf, Names, AllNamed, AreReads}
 use Rattle.query_run.specs.RowDots.{IsIn, dot_at}
-use Rattle.query_run.specs.Collecting.{Picks, AreIn, Counted, Gathered, KeyOf, picked_by}
-use Rattle.query_run.specs.Titling.{Titles, OneToOne}
+use Rattle.query_run.specs.Collection.{Picks, AreIn, Counted, Gathered, KeyOf, picked_by}
+use Rattle.query_run.specs.SeriesTags.{Titles, OneToOne}
 use Rattle.query_run.proofs.Lower as lower
-use Rattle.query_run.proofs.Contents.{dot_stands, row_clean}
+use Rattle.query_run.proofs.Contents.{dot_stands, row_conflict_free}
 use Rattle.query_run.proofs.ScanLoop.{reads_other, reads_show_none}
-use Rattle.query_run.proofs.RowReadings.{Asks, PicksBy, asks, is_asked, by_series, hours_within, ReadsDot, reads_dot, read_tags, dot_reads, clean_row, same_tags}
+use Rattle.query_run.proofs.RowReadings.{Asks, PicksBy, asks, is_asked, by_series, hours_within, ReadsDot, reads_dot, read_tags, dot_reads, conflict_free_row, same_tags}
 use Rattle.query_run.proofs.Shown.{reading_at, readings_in, reading_of, of_reading}
 
 -- ---- the look at the metric's cell, where there was one
@@ -90,10 +90,10 @@ module _ (picks : Picks) (start end : ℕ) (metric : List ℕ) (filters : List F
   found_of : (f : Found) → ShowsRow (looks ++ own) f → Contains founds f
   found_of f s = let w = shown_behind looks own f reads s in counted.shows w.placed f w.among w.reply
 
-  clean : NoClash (name_of g) wants (looks ++ own)
-  clean f s =
-      let row = row_clean picks id start end spans names f (content.rows f (found_of f s)) in
-      clean_row picks (name_of g) id start end metric filters f row (by f row.key (found_of f s) row.of)
+  conflict_free : NoConflict (name_of g) wants (looks ++ own)
+  conflict_free f s =
+      let row = row_conflict_free picks id start end spans names f (content.rows f (found_of f s)) in
+      conflict_free_row picks (name_of g) id start end metric filters f row (by f row.key (found_of f s) row.of)
 
   -- each reading under its names is shown
   shown_to : (r : Reading) → Contains (readings_in metric series) r → Chosen wants (ShowsReading (name_of g) (looks ++ own)) r
@@ -117,7 +117,7 @@ module _ (picks : Picks) (start end : ℕ) (metric : List ℕ) (filters : List F
       )
 
   -- and each that is shown is one of these
-  shown_at : (r : Reading) (f : Found) (key : RowKey) (row : AreIn start end key.base f.cells key.pairs.items spans names) (d : ReadsDot (name_of g) key row.clean.all r) → Asks start end metric filters r → Contains (readings_in metric series) r
+  shown_at : (r : Reading) (f : Found) (key : RowKey) (row : AreIn start end key.base f.cells key.pairs.items spans names) (d : ReadsDot (name_of g) key row.conflict_free.all r) → Asks start end metric filters r → Contains (readings_in metric series) r
   shown_at r f key row d a =
       let there = row.there d.dot d.there (subst (IsIn start end) d.time_is a.within) in
       let t = titles.all (key.pairs.items, dots_of spans key.pairs.items) (dot_stands spans key.pairs.items (dot_at key.base d.dot) there) in
@@ -131,7 +131,7 @@ module _ (picks : Picks) (start end : ℕ) (metric : List ℕ) (filters : List F
       let row = content.rows f found in
       let a = asks start end metric filters r wanted in
       let c = row.is_in (by f row.key found row.of r.tags (read_tags (name_of g) id start end f row.key r row.of read) ∙ a.passed) in
-      shown_at r f row.key c (reads_dot (name_of g) id start end f row.key c.clean.all r row.of c.clean.are read) a
+      shown_at r f row.key c (reads_dot (name_of g) id start end f row.key c.conflict_free.all r row.of c.conflict_free.are read) a
 
   asks_within : AsksWithin wants g id (base_time start) (base_time end)
   asks_within r wanted =
@@ -145,17 +145,17 @@ module _ (picks : Picks) (start end : ℕ) (metric : List ℕ) (filters : List F
   pub stands_in : (h : History) (length_now : ℕ) → first length_now h ≡ g → ScanCovers → IsLawful h → InOrder h length_now (looks ++ own) → (begin : Left) → IsStart id (base_time start) (base_time end) begin → Scanned (picked_by picks) begin own founds
       → (asked : List NameOf) → AllResolved (first length_now h) asked → PartStands (is_wanted start end metric filters) asked (record { own = looks ++ own; shown = readings_in metric series }) length_now h
   stands_in h n same covering lawful order begin starts whole asked resolved =
-      let clean_h = subst (λ (x : History). NoClash (name_of x) wants (looks ++ own)) (sym same) clean in
+      let conflict_free_h = subst (λ (x : History). NoConflict (name_of x) wants (looks ++ own)) (sym same) conflict_free in
       let within_h = subst (λ (x : History). AsksWithin wants x id (base_time start) (base_time end)) (sym same) asks_within in
       let picked_h = subst (λ (x : History). AsksOfWanted (picked_by picks) wants x) (sym same) asks_picked in
       let to = λ (r : Reading) (c : Contains (readings_in metric series) r). subst (λ (x : History). Chosen wants (ShowsReading (name_of x) (looks ++ own)) r) (sym same) (shown_to r c) in
       let from = λ (r : Reading) (c : Chosen wants (ShowsReading (name_of (first n h)) (looks ++ own)) r). shown_from r (subst (λ (x : History). Chosen wants (ShowsReading (name_of x) (looks ++ own)) r) same c) in
       let covers : OwnCovers wants (looks ++ own) n h =
-      covering (picked_by picks) h n id (base_time start) (base_time end) begin (looks ++ own) founds wants lawful order starts (scan_after (picked_by picks) begin looks own founds reads whole) (by_series start end metric filters) within_h picked_h clean_h in
+      covering (picked_by picks) h n id (base_time start) (base_time end) begin (looks ++ own) founds wants lawful order starts (scan_after (picked_by picks) begin looks own founds reads whole) (by_series start end metric filters) within_h picked_h conflict_free_h in
       record {
         resolved = resolved;
         shown = λ r. (to r, from r);
-        clean = clean_h;
+        conflict_free = conflict_free_h;
         covers = record {
           one = λ a b x y m. covers.one a b (to a x) (to b y) m;
           within = λ r c. covers.within r (to r c);

@@ -17,17 +17,18 @@ use Rattle.std.proofs.lemmas.List.Sums.{sum_by-cons}
 use Rattle.std.proofs.lemmas.List.MinMax.{ranks_by}
 use Rattle.std.proofs.lemmas.List.Sorted.{sorted_far, sum_by-IsPermutation, Contains-permutation, IsPermutation-sym}
 use Rattle.tsd_base.specs.declared.kinds.Kind.TheVariants.{TagKey, TagValue}
-use Rattle.tsd_base.specs.declared.tagged.TagsFault.{TagsFault}
-use Rattle.tsd_base.specs.declared.tagged.TagsFault.TheVariants.{NoTags, TwoValues, TooManyTags, OutOfMemory}
-use Rattle.tsd_base.specs.TagList.{Pair, bytes_cmp, tags_cmp, is_same, is_same_tags, IsTags, RiseByKey}
+use Rattle.tsd_base.specs.declared.tags.TagsFault.{TagsFault}
+use Rattle.tsd_base.specs.declared.tags.TagsFault.TheVariants.{NoTags, TwoValues, TooManyTags, OutOfMemory}
+use Rattle.tsd_base.specs.TagList.{Pair, tags_cmp, is_same, is_same_tags, IsTags, RiseByKey}
+use Rattle.list_lemmas.specs.BytesOrder.{bytes_cmp}
 use Rattle.tsd_base.specs.TagOrder.{bytes_exact, tags_cmp_exact, tags_cmp_total, tags_same, is_same_tags_equiv}
 use Rattle.tsd_base.specs.Tags.{tags_of, contradicts, uncontradicted, contradicted_key, distinct_pairs, FailsTags}
 use Rattle.cell_model.specs.Readings.{IsNamed, Named}
 use Rattle.span_merge.specs.Spans.{Span, span_of, pairs_cmp, AreSpans}
 use Rattle.span_merge.specs.declared.series.Series as by_ids
-use Rattle.query_run.specs.declared.series.Series.{Series}
-use Rattle.query_run.specs.Naming.{IdOf, Names, HasName, ids_of}
-use Rattle.query_run.specs.Titling.{OneToOne, ArePairs, IsTitled, Titles, CanTitle}
+use Rattle.query_run.specs.declared.named_series.Series.{Series}
+use Rattle.query_run.specs.RowNames.{IdOf, Names, HasName, ids_of}
+use Rattle.query_run.specs.SeriesTags.{OneToOne, ArePairs, IsTitled, Titles, CanTitle}
 use Rattle.query_run.proofs.Lower as lower
 use Rattle.query_run.proofs.NameReads.{element, taken}
 

@@ -15,10 +15,10 @@ use Rattle.tsd_base.specs.declared.kinds.Down.{Down}
 use Rattle.query_text.specs.declared.queries.Query.{Query}
 use Rattle.query_text.specs.declared.queries.Sub.{Sub}
 use Rattle.tsd_base.specs.Points.{DataPoint}
-use Rattle.tsd_base.specs.Readings.{series_of, dots_of}
+use Rattle.tsd_base.specs.LastPoints.{series_of, dots_of}
 use Rattle.tsd_base.specs.TagList.{Pair, is_same_tags}
 use Rattle.tsd_base.specs.TagOrder.{is_same_tags_equiv, tags_same}
-use Rattle.query_run.specs.Answers.{answer, aggregated_all, all_groups, all_or_least, down_by, down_to, group_answer, groups_in, grouped}
+use Rattle.query_run.specs.QueryAnswers.{answer, aggregated_all, all_groups, all_or_least, down_by, down_to, group_answer, groups_in, grouped}
 use Rattle.query_run.specs.Laws.{HaveSameReadings, AreOneValued, AnswerIsUnordered}
 use Rattle.query_run.proofs.AnyOf.{in_any, any_in}
 use Rattle.query_run.proofs.Keys.{same_series}

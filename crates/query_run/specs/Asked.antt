@@ -2,7 +2,7 @@
 use Rattle.std.specs.Prelude.{◌≡◌, ℕ, Bool, List, [], ◌∷◌, ◌++◌, map, Option, None, Some, Result, Ok, Err}
 use Rattle.std.specs.List.{flat_map}
 use Rattle.cell_model.specs.History.{History, first, store_after}
-use Rattle.cell_model.specs.Ids.{name_of}
+use Rattle.cell_model.specs.IdRows.{name_of}
 use Rattle.cell_model.specs.declared.events.Placed.{Placed}
 use Rattle.cell_model.specs.Readings.{Reading}
 use Rattle.cell_model.specs.Seen.{Seen, InEach}
@@ -11,7 +11,7 @@ use Rattle.json_reply.specs.Replies.{Group, plain}
 use Rattle.json_reply.specs.declared.reply.Reply.{Reply}
 use Rattle.query_run.specs.declared.fault.AskFault.{AskFault}
 use Rattle.query_run.specs.declared.fault.AskFault.TheVariants.{TooManyBuckets, Unknown, Duplicate, Overflow, OutOfMemory, Stopped}
-use Rattle.query_run.specs.Parts.{NameOf, Part, AreQuerySteps, AllResolved, PartStands, FirstUnknown, FirstClash}
+use Rattle.query_run.specs.Parts.{NameOf, Part, AreQuerySteps, AllResolved, PartStands, FirstUnknown, FirstConflict}
 
 -- of a sub query: which readings are wanted; the names that it has, in order; why it is refused by itself, if it is; the groups
 -- over readings, or the time of an overflow; and which entries are few enough for it
@@ -20,7 +20,7 @@ module _ {Sub : Type 0} (wanted : Sub → Reading → Bool) (names_in : Sub → 
   abbrev pub Cause : Sub → Part → ℕ → History → AskFault → Type 0
   Cause s part end h (TooManyBuckets count) = (part.own ≡ []) × (barred s ≡ Some (TooManyBuckets count))
   Cause s part end h (Unknown kind name) = (barred s ≡ None) × FirstUnknown (names_in s) (kind, name) part.own (first end h)
-  Cause s part end h (Duplicate time a b) = (barred s ≡ None) × AllResolved (first end h) (names_in s) × FirstClash (store_after (first (before_first part.own end) h)) (name_of (first end h)) (wanted s) part.own time a b
+  Cause s part end h (Duplicate time a b) = (barred s ≡ None) × AllResolved (first end h) (names_in s) × FirstConflict (store_after (first (before_first part.own end) h)) (name_of (first end h)) (wanted s) part.own time a b
   Cause s part end h (Overflow time) = (barred s ≡ None) × PartStands (wanted s) (names_in s) part end h × (answer_over s part.shown ≡ Err time)
   Cause s part end h OutOfMemory = Unit {0}
   Cause s part end h Stopped = Unit {0}

@@ -1,13 +1,12 @@
 -- Compaction that no answer shows: what was accepted and which names are resolved decide what a query is answered.
 use Rattle.std.specs.Prelude.{◌≡◌, ◌↔◌, ◌⊎◌, ℕ, ℤ, ◌<◌, ◌≤◌, List, map, Contains, Some, true, Result, Ok, Err}
 use Rattle.cell_model.specs.declared.events.Entry.{Entry}
-use Rattle.cell_model.specs.declared.events.Step.{Step}
-use Rattle.cell_model.specs.declared.events.Step.TheVariants.{Bump, Claim, PutPoint}
 use Rattle.cell_model.specs.History.{History, len, entry_at, first}
 use Rattle.cell_model.specs.Lawful.{IsLawful}
 use Rattle.cell_model.specs.Readings.{Reading, OneValued, Accepted}
 use Rattle.cell_model.specs.Seen.{Seen, Fits}
-use Rattle.row_scan.specs.Shown.{Chosen}
+use Rattle.cell_laws.specs.Laws.{IsInvisible}
+use Rattle.row_scan.specs.RowReadings.{Chosen}
 use Rattle.json_reply.specs.Replies.{Group, plain}
 use Rattle.json_reply.specs.declared.reply.Reply.{Reply}
 use Rattle.query_text.specs.declared.queries.Query.{Query}
@@ -15,14 +14,7 @@ use Rattle.query_text.specs.declared.queries.Sub.{Sub}
 use Rattle.query_run.specs.declared.fault.AskFault.{AskFault}
 use Rattle.query_run.specs.declared.fault.AskFault.TheVariants.{Duplicate, OutOfMemory, Stopped}
 use Rattle.query_run.specs.Parts.{NameOf, IsResolved}
-use Rattle.query_run.specs.Queries.{wanted, names_in, QuerySays}
-
--- the step puts no point and assigns no id: it opens, reads, merges or drops
-abbrev pub IsInvisible : Step → Type 0
-IsInvisible (Bump kind) = ⊥
-IsInvisible (Claim row qual value) = ⊥
-IsInvisible (PutPoint point row qual value) = ⊥
-IsInvisible _ = Unit {0}
+use Rattle.query_run.specs.AskedQueries.{wanted, names_in, QuerySays}
 
 -- The query was asked at the end of the history `began`, and answered so. Until the answer, which stands in a history of this store, nobody
 -- put a point or assigned an id: others opened, read, merged or dropped, if they stepped at all.

@@ -1,14 +1,15 @@
 -- Where a search for keys that are asked for goes on behind one that isn't.
-use Rattle.std.specs.Prelude.{◌≡◌, ℕ, ◌<◌, ◌≤◌, false, List, ◌++◌, take}
+use Rattle.std.specs.Prelude.{◌≡◌, ◌+◌, ℕ, ◌<◌, ◌≤◌, false, List, ◌++◌, take}
 use Rattle.std.specs.declared.cmp.Ordering.TheVariants.{Less}
 use Rattle.std.specs.Ordering.{is_lt}
 use Rattle.std.specs.Cmp.Lexicographic.{slice_cmp}
 use Rattle.row_key.specs.declared.keys.RowKey.{RowKey}
+use Rattle.row_key.specs.declared.ids.TheConstants.{MOST_IDS}
 use Rattle.row_key.specs.Key.{IsKey}
-use Rattle.row_key.specs.Order.{key_cmp, pair_cmp}
+use Rattle.row_key.specs.KeyOrder.{key_cmp, pair_cmp}
 use Rattle.query_run.specs.declared.id_filter.IdTest.{IdTest}
 use Rattle.query_run.specs.IdFilters.{passes_test}
-use Rattle.query_run.specs.Collecting.{Picks}
+use Rattle.query_run.specs.Collection.{Picks}
 
 -- the key is from this one on, and before that one
 abbrev pub IsFromTo : RowKey → RowKey → RowKey → Type 0
@@ -34,8 +35,8 @@ pub record IsBehind (key : RowKey) (place : ℕ) (target : RowKey) : Type 0 wher
   pub later : key_cmp key target ≡ Less
   pub alike : (k : RowKey) → IsKey k → IsFromTo key target k → GoesOnFrom key place k
 
--- from the value on none below the next one passes the test; 16777216 is no value's id
+-- from the value on none below the next one passes the test; one more than the greatest id is no value's id
 pub record IsNextValue (test : IdTest) (value next : ℕ) : Type 0 where
   pub above : value < next
-  pub most : next ≤ 16777216
+  pub most : next ≤ MOST_IDS + 1
   pub fails : (id : ℕ) → value ≤ id → id < next → passes_test test id ≡ false

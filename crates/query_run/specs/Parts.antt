@@ -6,26 +6,23 @@ use Rattle.tsd_base.specs.declared.kinds.Kind.TheVariants.{Metric, TagKey, TagVa
 use Rattle.row_key.specs.declared.keys.RowKey.{RowKey}
 use Rattle.row_key.specs.Key.{IsKey, key_bytes}
 use Rattle.qual_codec.specs.declared.cells.Dot.{Dot}
-use Rattle.cell_model.specs.declared.cells.Row.{Row}
-use Rattle.cell_model.specs.declared.cells.Found.{Found}
+use Rattle.cell_model.specs.declared.row.Row.{Row}
+use Rattle.cell_model.specs.declared.row.Found.{Found}
 use Rattle.cell_model.specs.declared.events.Placed.{Placed}
 use Rattle.cell_model.specs.declared.events.Step.{Step}
 use Rattle.cell_model.specs.declared.events.Step.TheVariants.{Read, NextRow}
 use Rattle.cell_model.specs.declared.events.Reply.TheVariants.{Next}
-use Rattle.cell_model.specs.Order.{bytes_cmp}
+use Rattle.list_lemmas.specs.BytesOrder.{bytes_cmp}
 use Rattle.cell_model.specs.Store.{Store, value_at}
 use Rattle.cell_model.specs.History.{History, first, store_after}
-use Rattle.cell_model.specs.Ids.{id_of, name_of}
+pub use Rattle.cell_model.specs.IdRows.{NameOf, IsResolved, AllResolved}
+use Rattle.cell_model.specs.IdRows.{id_of, name_of}
 use Rattle.cell_model.specs.Readings.{Reading, Accepted, CellReads, point_row}
 use Rattle.cell_model.specs.Deeds.{before_first}
-use Rattle.uid_table.specs.Steps.{DidLook}
-use Rattle.qual_codec.specs.Merge.{AreDots, values_at, first_conflict as first_clash}
+use Rattle.uid_table.specs.IdSteps.{DidLook}
+use Rattle.qual_codec.specs.Merge.{AreDots, values_at, first_conflict}
 use Rattle.row_scan.specs.Scans.{IsRowOf, HasCell}
-use Rattle.row_scan.specs.Shown.{RowReads, ShowsRow, ShowsReading, Chosen, Covers, NoClash}
-
--- a name with its kind
-abbrev pub NameOf : Type 0
-NameOf = Kind × List ℕ
+use Rattle.row_scan.specs.RowReadings.{RowReads, ShowsRow, ShowsReading, Chosen, Covers, NoConflict}
 
 -- the entries made for one sub query, and the readings that were chosen of the cells that they show
 pub record Part : Type 0 where
@@ -41,20 +38,12 @@ IsQueryStep _ = ⊥
 abbrev pub AreQuerySteps : List Placed → Type 0
 AreQuerySteps list = (p : Placed) → Contains list p → IsQueryStep p.entry.step
 
--- the name is resolved after the history
-abbrev pub IsResolved : History → NameOf → Type 0
-IsResolved h n = (id : ℕ) × (id_of h n.0 n.1 ≡ Some id)
-
--- the names are resolved after the history
-abbrev pub AllResolved : History → List NameOf → Type 0
-AllResolved h names = (n : NameOf) → Contains names n → IsResolved h n
-
--- What stands of a part that was read to its end: its names are resolved, no row that it shows has a clash, and the readings chosen of what
+-- What stands of a part that was read to its end: its names are resolved, no row that it shows has a conflict, and the readings chosen of what
 -- it shows cover what was accepted before its first entry, and lie within what is accepted at the end.
 pub record PartStands (wanted : Reading → Bool) (names : List NameOf) (part : Part) (end : ℕ) (h : History) : Type 0 where
   pub resolved : AllResolved (first end h) names
   pub shown : (r : Reading) → Contains part.shown r ↔ Chosen wanted (ShowsReading (name_of (first end h)) part.own) r
-  pub clean : NoClash (name_of (first end h)) wanted part.own
+  pub conflict_free : NoConflict (name_of (first end h)) wanted part.own
   pub covers : Covers (Contains part.shown) (Chosen wanted (Accepted (first (before_first part.own end) h))) (Chosen wanted (Accepted (first end h)))
 
 -- one of the entries is a read that found no cell of the name
@@ -70,7 +59,7 @@ pub record FirstUnknown (names : List NameOf) (n : NameOf) (own : List Placed) (
   pub none : FoundNone own n
 
 -- at a time that is asked for the cells of a point row have two values: a in the first cell that has one, b in the first behind it that has another
-pub record HasClash (names : Kind → ℕ → Option (List ℕ)) (wanted : Reading → Bool) (found : Found) (time : ℕ) (a b : ℤ) : Type 0 where
+pub record HasConflict (names : Kind → ℕ → Option (List ℕ)) (wanted : Reading → Bool) (found : Found) (time : ℕ) (a b : ℤ) : Type 0 where
   pub key : RowKey
   pub is_key : IsKey key
   pub row_is : found.row ≡ point_row (key_bytes key)
@@ -78,7 +67,7 @@ pub record HasClash (names : Kind → ℕ → Option (List ℕ)) (wanted : Readi
   pub time_is : time ≡ key.base * 1000 + offset
   pub dots : List Dot
   pub are_dots : AreDots found.cells dots
-  pub values : first_clash (values_at offset dots) ≡ Some (a, b)
+  pub values : first_conflict (values_at offset dots) ≡ Some (a, b)
   pub reading : Reading
   pub reads : RowReads names found reading
   pub at_time : reading.time ≡ time
@@ -90,18 +79,18 @@ ShowsRowsBelow began names wanted own below =
     (row qual value : List ℕ) (r : Reading) → value_at began (point_row row) qual ≡ Some value → CellReads names row qual value r → IsTrue (wanted r) → bytes_cmp row below.bytes ≡ Less
     → (found : Found) × ShowsRow own found × (found.row ≡ point_row row)
 
--- The first row shown that has a clash has its least one at this time. No row was passed over before it, of those that were there when the part began.
-pub record FirstClash (began : Store) (names : Kind → ℕ → Option (List ℕ)) (wanted : Reading → Bool) (own : List Placed) (time : ℕ) (a b : ℤ) : Type 0 where
+-- The first row shown that has a conflict has its least one at this time. No row was passed over before it, of those that were there when the part began.
+pub record FirstConflict (began : Store) (names : Kind → ℕ → Option (List ℕ)) (wanted : Reading → Bool) (own : List Placed) (time : ℕ) (a b : ℤ) : Type 0 where
   pub earlier : List Placed
   pub at : Placed
   pub later : List Placed
   pub cut : own ≡ earlier ++ at ∷ later
-  pub clean : NoClash names wanted earlier
+  pub conflict_free : NoConflict names wanted earlier
   pub found : Found
   pub reply : at.entry.reply ≡ Next (Some found)
   pub passed : ShowsRowsBelow began names wanted earlier found.row
-  pub clash : HasClash names wanted found time a b
-  pub least : (t : ℕ) (c d : ℤ) → HasClash names wanted found t c d → time ≤ t
+  pub conflict : HasConflict names wanted found time a b
+  pub least : (t : ℕ) (c d : ℤ) → HasConflict names wanted found t c d → time ≤ t
 
 -- the list has each row of the metric in these hours that is there after the history
 abbrev pub HoldsRows : List ℕ → ℕ → ℕ → History → List Row → Type 0

@@ -1,7 +1,7 @@
 //! Why a query isn't answered.
 ghost use Rattle.std.specs.Prelude.{◌≡◌};
 ghost use Rattle.query_run.specs.declared.fault.AskFault.TheVariants.{OutOfMemory};
-ghost use Rattle.query_run.specs.Faults.{ask_fault};
+ghost use Rattle.query_run.specs.AskFaults.{ask_fault};
 
 use cell_model::answers::RowsFault;
 use std::alloc::{AllocError, AllocFailed};

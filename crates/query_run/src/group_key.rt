@@ -3,7 +3,7 @@ ghost use Rattle.std.specs.Prelude.{◌≡◌, IfOk, Some, refl};
 ghost use Rattle.std.specs.Cmp as laws;
 ghost use Rattle.tsd_base.specs.TagList.{is_same_tags, tags_cmp};
 ghost use Rattle.tsd_base.specs.TagOrder.{is_same_tags_equiv, tags_cmp_total, tags_po, tags_ties};
-ghost use Rattle.group_by.specs.Filters.{group_key};
+ghost use Rattle.group_by.specs.TagFilters.{group_key};
 
 use group_by::group_key;
 use query_text::queries::Sub;
@@ -11,7 +11,7 @@ use std::alloc::{AllocError, Global};
 use std::cmp::Ordering;
 use std::marker::Model;
 use tsd_base::names::Name;
-use tsd_base::tagged::Tags;
+use tsd_base::tags::Tags;
 
 /// The pairs that the series of one group share by the filters that group. Contracts see it as the list of these pairs.
 #[derive(Drop)]

@@ -1,15 +1,12 @@
 //! Where a search for rows that pass filters goes on behind one that doesn't.
-ghost use Rattle.std.specs.Prelude.{◌≡◌, ◌∷◌, [], ◌++◌, ◌<◌, ◌≤◌, false, length, take, get_or, All, IfSome};
+ghost use Rattle.std.specs.Prelude.{◌≡◌, ◌+◌, ◌∷◌, [], ◌++◌, ◌<◌, ◌≤◌, false, length, take, get_or, All, IfSome};
 ghost use Rattle.row_key.specs.Key.{IsKey};
 ghost use Rattle.query_run.specs.IdFilters.{passes, passes_filter, passes_test};
 ghost use Rattle.query_run.specs.KeyJumps.{IsBehind, IsNextValue, JumpsOver};
 
 use crate::id_filter::{IdFilter, IdTest, passes_filter};
 use arrayvec::ArrayVec;
-use row_key::RowKey;
-
-/// The greatest id.
-const MOST_ID: u32 = 16_777_215;
+use row_key::{HOUR, MOST_IDS, RowKey};
 
 /// The lesser of two ids, where the one is above a value.
 fn nearer(least: u32, id: u32, value: u32) -> u32
@@ -23,12 +20,12 @@ fn nearer(least: u32, id: u32, value: u32) -> u32
 
 /// The least of the ids that is above a value, or one more than the greatest that there can be.
 fn least_above(ids: &[u32], value: u32) -> u32
-    requires { value ≤ 16777215 }
+    requires { value ≤ MOST_IDS }
     ensures above { value < result }
-    ensures most { result ≤ 16777216 }
+    ensures most { result ≤ MOST_IDS + 1 }
     ensures least { All (λ id. value < id → result ≤ id) ids.now }
 {
-    let mut least = MOST_ID + 1;
+    let mut least = MOST_IDS + 1;
     for id in ids {
         least = nearer(least, *id, value);
     }
@@ -37,7 +34,7 @@ fn least_above(ids: &[u32], value: u32) -> u32
 
 /// Where a value fails a test, the least one above it that may pass, or one more than the greatest that there can be.
 fn next_value(test: &IdTest, value: u32) -> u32
-    requires most { value ≤ 16777215 }
+    requires most { value ≤ MOST_IDS }
     requires fails { passes_test test.now value ≡ false }
     ensures { IsNextValue test.now value result }
 {
@@ -84,7 +81,7 @@ fn next_hour(key: &RowKey) -> Option<RowKey>
     requires { IsKey key.now }
     ensures { IfSome result (IsBehind key.now 0) }
 {
-    let base = key.base.checked_add(3600)?;
+    let base = key.base.checked_add(HOUR)?;
     let mut pairs = ArrayVec::new();
     pairs.push((1, 1));
     Some(RowKey {
@@ -104,7 +101,7 @@ fn behind(key: &RowKey, place: usize) -> Option<RowKey>
         return next_hour(key);
     }
     let (id, value) = key.pairs.as_slice()[place - 1];
-    if value == MOST_ID {
+    if value == MOST_IDS {
         return None;
     }
     Some(key_at(key, place - 1, (id, value + 1)))
@@ -127,7 +124,7 @@ fn jump_by(filter: &IdFilter, key: &RowKey) -> Option<RowKey>
         return behind(key, place);
     }
     let next = next_value(&filter.test, value);
-    if next > MOST_ID {
+    if next > MOST_IDS {
         return behind(key, place);
     }
     Some(key_at(key, place, (id, next)))

@@ -1,20 +1,21 @@
 //! Queries over any rows.
 #![tactic(auto)]
 
-pub mod asking;
-mod collecting;
+mod ask_faults;
+mod collection;
 pub mod fault;
 mod group_key;
-mod grouping;
 mod id_filter;
 mod key_jump;
 pub mod laws;
-mod naming;
+pub mod named_series;
+pub mod question;
 mod resolve;
 mod row_dots;
-pub mod series;
-mod titling;
-mod working;
+mod row_names;
+mod series_groups;
+mod series_tags;
+mod sub_query;
 
-pub use asking::ask;
 pub use fault::AskFault;
+pub use question::ask;

@@ -1,13 +1,14 @@
 //! The ids of the names of a sub query, asked for in the order of its text.
-ghost use Rattle.std.specs.Prelude.{[], ◌∷◌, ◌≤◌, map, IfErr, OnOk};
+ghost use Rattle.std.specs.Prelude.{[], ◌∷◌, map};
 ghost use Rattle.std.specs.List.{flat_map};
 ghost use Rattle.tsd_base.specs.declared.kinds.Kind.TheVariants.{TagValue};
 ghost use Rattle.cell_model.specs.Seen.{IsPossible};
+ghost use Rattle.cell_model.specs.Calls.{Leaves};
 ghost use Rattle.uid_table.specs.Shown.{HasShown};
-ghost use Rattle.query_run.specs.Faults.{AskRose};
+ghost use Rattle.query_run.specs.AskFaults.{is_stop};
 ghost use Rattle.query_run.specs.IdFilters.{AreIdFilters, AreIds, IsIdFilter, IsIdTest};
-ghost use Rattle.query_run.specs.Queries.{filter_names, test_names};
-ghost use Rattle.query_run.specs.Resolving.{Resolves};
+ghost use Rattle.query_run.specs.AskedQueries.{filter_names, test_names};
+ghost use Rattle.query_run.specs.ResolvedIds.{Resolves};
 
 use crate::fault::AskFault;
 use crate::id_filter::{IdFilter, IdTest};
@@ -16,7 +17,7 @@ use query_text::queries::{Filter, Test};
 use std::alloc::Global;
 use tsd_base::kinds::Kind;
 use tsd_base::names::Name;
-use uid_table::answers::ResolveFault;
+use uid_table::id_answers::ResolveFault;
 use uid_table::uids::Uids;
 
 /// The id of a name, by one read, or by none where it is kept.
@@ -27,9 +28,7 @@ pub(crate) fn resolve_name<R: Rows + Drop>(
     name: &Name,
 ) -> Result<u32, AskFault>
     ensures says { Resolves (R.seen names.old) ((kind, name.now) ∷ []) (λ s id. HasShown s kind name.now id) result (R.seen names.new) }
-    ensures possible { OnOk result (IsPossible (R.seen names.new)) }
-    ensures grows { R.stops names.old ≤ R.stops names.new }
-    ensures stopped { IfErr result (AskRose (R.stops names.old) (R.stops names.new)) }
+    ensures leaves { Leaves is_stop result (R.seen names.new) (R.stops names.old) (R.stops names.new) }
 {
     match names.resolve(alloc, kind, name) {
         Ok(id) => Ok(id),
@@ -52,9 +51,7 @@ fn resolve_values<R: Rows + Drop>(
 ) -> Result<Vec<u32>, AskFault>
     requires possible { IsPossible (R.seen names.old) }
     ensures says { Resolves (R.seen names.old) (map (λ name. (TagValue, name)) values.now) (λ s ids. AreIds s values.now ids.items) result (R.seen names.new) }
-    ensures possible { OnOk result (IsPossible (R.seen names.new)) }
-    ensures grows { R.stops names.old ≤ R.stops names.new }
-    ensures stopped { IfErr result (AskRose (R.stops names.old) (R.stops names.new)) }
+    ensures leaves { Leaves is_stop result (R.seen names.new) (R.stops names.old) (R.stops names.new) }
 {
     let mut ids = Vec::new(alloc);
     for value in values {
@@ -71,9 +68,7 @@ fn resolve_test<R: Rows + Drop>(
 ) -> Result<IdTest, AskFault>
     requires possible { IsPossible (R.seen names.old) }
     ensures says { Resolves (R.seen names.old) (map (λ name. (TagValue, name)) (test_names test.now)) (λ s by. IsIdTest s test.now by) result (R.seen names.new) }
-    ensures possible { OnOk result (IsPossible (R.seen names.new)) }
-    ensures grows { R.stops names.old ≤ R.stops names.new }
-    ensures stopped { IfErr result (AskRose (R.stops names.old) (R.stops names.new)) }
+    ensures leaves { Leaves is_stop result (R.seen names.new) (R.stops names.old) (R.stops names.new) }
 {
     match test {
         Test::Any => Ok(IdTest::Any),
@@ -96,9 +91,7 @@ fn resolve_filter<R: Rows + Drop>(
 ) -> Result<IdFilter, AskFault>
     requires possible { IsPossible (R.seen names.old) }
     ensures says { Resolves (R.seen names.old) (filter_names filter.now) (λ s by. IsIdFilter s filter.now by) result (R.seen names.new) }
-    ensures possible { OnOk result (IsPossible (R.seen names.new)) }
-    ensures grows { R.stops names.old ≤ R.stops names.new }
-    ensures stopped { IfErr result (AskRose (R.stops names.old) (R.stops names.new)) }
+    ensures leaves { Leaves is_stop result (R.seen names.new) (R.stops names.old) (R.stops names.new) }
 {
     let key = resolve_name(alloc, names, Kind::TagKey, &filter.key)?;
     let test = resolve_test(alloc, names, &filter.test)?;
@@ -113,9 +106,7 @@ pub(crate) fn resolve_filters<R: Rows + Drop>(
 ) -> Result<Vec<IdFilter>, AskFault>
     requires possible { IsPossible (R.seen names.old) }
     ensures says { Resolves (R.seen names.old) (flat_map filter_names filters.now) (λ s list. AreIdFilters s filters.now list.items) result (R.seen names.new) }
-    ensures possible { OnOk result (IsPossible (R.seen names.new)) }
-    ensures grows { R.stops names.old ≤ R.stops names.new }
-    ensures stopped { IfErr result (AskRose (R.stops names.old) (R.stops names.new)) }
+    ensures leaves { Leaves is_stop result (R.seen names.new) (R.stops names.old) (R.stops names.new) }
 {
     let mut list = Vec::new(alloc);
     for filter in filters {

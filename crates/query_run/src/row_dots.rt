@@ -1,14 +1,15 @@
 //! The points of one row in a range of times.
 ghost use Rattle.std.specs.Prelude.{◌≡◌, ◌+◌, ◌*◌, ◌<◌, ◌≤◌, map, All, AllPairs, IfOk};
-ghost use Rattle.qual_codec.specs.Dots.{Reads};
+ghost use Rattle.qual_codec.specs.CellDots.{Reads};
 ghost use Rattle.query_run.specs.RowDots.{DotsAsked, dot_at};
 
 use crate::fault::AskFault;
-use cell_model::cells::Cells;
+use cell_model::row::Cells;
 use qual_codec::{Dot, MergeFault};
+use row_key::HOUR_MILLIS;
 use row_scan::row_points;
 use std::alloc::{AllocError, Global};
-use tsd_base::series::Dots;
+use tsd_base::dots::Dots;
 
 /// The points of a row's data points, whose hour begins at this second.
 fn points_of(alloc: Global, base: u32, dots: &[Dot]) -> Result<Dots, AllocError>
@@ -31,7 +32,7 @@ pub(crate) fn row_dots(
     end: u64,
 ) -> Result<Dots, AskFault>
     requires reads { All (λ c. Reads c.qual c.value) cells.now }
-    requires from_on { start < base * 1000 + 3600000 }
+    requires from_on { start < base * 1000 + HOUR_MILLIS }
     requires up_to { base * 1000 ≤ end }
     ensures { DotsAsked cells.now base start end result }
 {

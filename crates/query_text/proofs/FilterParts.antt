@@ -4,7 +4,7 @@ use Rattle.std.specs.Prelude.{◌≢◌, Option, None, Some, Result, Ok, Err, sl
 use Rattle.std.proofs.lemmas.List.{append-nil, length-append, get_or_default}
 use Rattle.std.proofs.lemmas.Option.{slice_get_read}
 use Rattle.std.proofs.lemmas.Bool.{cond-true, cond-false, ne_eqb}
-use Rattle.std.proofs.lemmas.Bool.Decides.{nat_tests}
+use Rattle.list_lemmas.proofs.BoolTests.{nat_eq-same}
 use Rattle.query_text.specs.declared.queries.Filter.{Filter}
 use Rattle.query_text.specs.declared.queries.QueryFault.{QueryFault}
 use Rattle.query_text.specs.declared.queries.QueryFault.TheVariants.{BadM, UnknownAggregator, RateRefused, BadDownsample, BadFilter, OutOfMemory}
@@ -122,9 +122,6 @@ module _ (text : List ℕ) (at : ℕ) (filters : List Filter) (end : ℕ) (read 
 pub apart : (m n : ℕ) → m ≢ n → nat_eq m n ≡ false
 apart m n other = ne_eqb m n other
 
-pub alike : (m n : ℕ) → m ≡ n → nat_eq m n ≡ true
-alike m n e = grind (arith, nat_tests, e)
-
 there : (text : List ℕ) (end : ℕ) → end ≤ length text → end ≢ length text → slice_get text end ≡ Some (get_or text end 0)
 there text end within other =
     let lt : end < length text = omega (arith, within, other) in
@@ -134,4 +131,4 @@ pub is_other : (text : List ℕ) (end : ℕ) → end ≤ length text → end ≢
 is_other text end within more other = ap (is_byte 123) (there text end within more) ∙ apart (get_or text end 0) 123 other
 
 pub is_brace : (text : List ℕ) (end : ℕ) → end ≤ length text → end ≢ length text → get_or text end 0 ≡ 123 → is_byte 123 (slice_get text end) ≡ true
-is_brace text end within more same = ap (is_byte 123) (there text end within more) ∙ alike (get_or text end 0) 123 same
+is_brace text end within more same = ap (is_byte 123) (there text end within more) ∙ nat_eq-same (get_or text end 0) 123 same

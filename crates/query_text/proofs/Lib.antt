@@ -1,4 +1,3 @@
-mod Lower
 pub mod Parts
 pub mod FilterParts
 pub mod Intervals

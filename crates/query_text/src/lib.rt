@@ -6,4 +6,5 @@ mod cuts;
 mod downs;
 mod filters;
 pub mod queries;
+mod query_faults;
 pub mod subs;

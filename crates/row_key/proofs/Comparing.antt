@@ -9,9 +9,12 @@ use Rattle.std.specs.declared.cmp.Ordering.{Ordering}
 use Rattle.std.specs.declared.cmp.Ordering.TheVariants.{Less, Equal, Greater}
 use Rattle.std.specs.Ordering.{nat_cmp, ordering_then, ordering_reverse, is_lt}
 use Rattle.std.specs.Cmp.Lexicographic.{slice_cmp}
+use Rattle.list_lemmas.proofs.OrderedBytes.{not_below_none, then_assoc}
+use Rattle.row_key.specs.declared.ids.TheConstants.{MOST_IDS}
 use Rattle.row_key.specs.declared.keys.RowKey.{RowKey}
-use Rattle.row_key.specs.Key.{IsId, IsKey, key_bytes, hour_bytes, pair_bytes}
-use Rattle.row_key.specs.Order.{bytes_cmp, pair_cmp, key_cmp, IsInRange}
+use Rattle.row_key.specs.Key.{IsId, IsKey, id_bytes, key_bytes, hour_bytes, pair_bytes}
+use Rattle.list_lemmas.specs.BytesOrder.{bytes_cmp}
+use Rattle.row_key.specs.KeyOrder.{pair_cmp, key_cmp, IsInRange}
 use Rattle.row_key.proofs.Once.{Small}
 
 -- ---- numbers of three and of four bytes
@@ -24,7 +27,7 @@ less_step a b o up same = at (nat_cmp a b) refl
     at Equal e = same (ranked a b Equal e)
     at Greater e = absurd (up (ranked a b Greater e))
 
-less_three : (x y : ℕ) (r s : List ℕ) → x < y → y ≤ 16777215 → bytes_cmp (bytes_high_first 3 x ++ r) (bytes_high_first 3 y ++ s) ≡ Less
+less_three : (x y : ℕ) (r s : List ℕ) → x < y → y ≤ MOST_IDS → bytes_cmp (id_bytes x ++ r) (id_bytes y ++ s) ≡ Less
 less_three x y r s lt most =
     less_step (byte_at 2 x) (byte_at 2 y) _ (λ u. omega (arith, lt, most, u)) (λ a.
     less_step (byte_at 1 x) (byte_at 1 y) _ (λ u. omega (arith, lt, most, a, u)) (λ b.
@@ -44,13 +47,13 @@ same_front (x ∷ front) r s = ap (λ o. ordering_then o (bytes_cmp (front ++ r)
 turned : (xs ys : List ℕ) → bytes_cmp ys xs ≡ Less → bytes_cmp xs ys ≡ Greater
 turned xs ys e = nat_list_cmp_total.antisymm xs ys ∙ ap ordering_reverse e
 
-three : (x y : ℕ) (r s : List ℕ) → x ≤ 16777215 → y ≤ 16777215 → bytes_cmp (bytes_high_first 3 x ++ r) (bytes_high_first 3 y ++ s) ≡ ordering_then (nat_cmp x y) (bytes_cmp r s)
+three : (x y : ℕ) (r s : List ℕ) → x ≤ MOST_IDS → y ≤ MOST_IDS → bytes_cmp (id_bytes x ++ r) (id_bytes y ++ s) ≡ ordering_then (nat_cmp x y) (bytes_cmp r s)
 three x y r s lx ly = at (nat_cmp x y) refl
   where
-    at : (o : Ordering) → o ≡ nat_cmp x y → bytes_cmp (bytes_high_first 3 x ++ r) (bytes_high_first 3 y ++ s) ≡ ordering_then o (bytes_cmp r s)
+    at : (o : Ordering) → o ≡ nat_cmp x y → bytes_cmp (id_bytes x ++ r) (id_bytes y ++ s) ≡ ordering_then o (bytes_cmp r s)
     at Less e = less_three x y r s (ranked x y Less e) ly
-    at Equal e = ap (λ n. bytes_cmp (bytes_high_first 3 x ++ r) (bytes_high_first 3 n ++ s)) (sym (ranked x y Equal e)) ∙ same_front (bytes_high_first 3 x) r s
-    at Greater e = turned (bytes_high_first 3 x ++ r) (bytes_high_first 3 y ++ s) (less_three y x s r (ranked x y Greater e) lx)
+    at Equal e = ap (λ n. bytes_cmp (id_bytes x ++ r) (id_bytes n ++ s)) (sym (ranked x y Equal e)) ∙ same_front (id_bytes x) r s
+    at Greater e = turned (id_bytes x ++ r) (id_bytes y ++ s) (less_three y x s r (ranked x y Greater e) lx)
 
 four : (x y : ℕ) (r s : List ℕ) → x < 2 ^ 32 → y < 2 ^ 32 → bytes_cmp (bytes_high_first 4 x ++ r) (bytes_high_first 4 y ++ s) ≡ ordering_then (nat_cmp x y) (bytes_cmp r s)
 four x y r s lx ly = at (nat_cmp x y) refl
@@ -62,11 +65,6 @@ four x y r s lx ly = at (nat_cmp x y) refl
 
 -- ---- keys
 
-then_assoc : (a b c : Ordering) → ordering_then a (ordering_then b c) ≡ ordering_then (ordering_then a b) c
-then_assoc Less b c = refl
-then_assoc Equal b c = refl
-then_assoc Greater b c = refl
-
 pairs_compare : (ps qs : List (ℕ × ℕ)) → All Small ps → All Small qs → bytes_cmp (flat_map pair_bytes ps) (flat_map pair_bytes qs) ≡ slice_cmp pair_cmp ps qs
 pairs_compare [] [] sp sq = refl
 pairs_compare [] (q ∷ qs) sp sq = refl
@@ -75,14 +73,14 @@ pairs_compare (p ∷ ps) (q ∷ qs) sp sq =
     let a = All-head Small p ps sp in
     let b = All-head Small q qs sq in
     let rest = pairs_compare ps qs (All-tail Small p ps sp) (All-tail Small q qs sq) in
-    three p.0 q.0 (bytes_high_first 3 p.1 ++ flat_map pair_bytes ps) (bytes_high_first 3 q.1 ++ flat_map pair_bytes qs) a.0 b.0
+    three p.0 q.0 (id_bytes p.1 ++ flat_map pair_bytes ps) (id_bytes q.1 ++ flat_map pair_bytes qs) a.0 b.0
     ∙ ap (ordering_then (nat_cmp p.0 q.0)) (three p.1 q.1 (flat_map pair_bytes ps) (flat_map pair_bytes qs) a.1 b.1 ∙ ap (ordering_then (nat_cmp p.1 q.1)) rest)
     ∙ then_assoc (nat_cmp p.0 q.0) (nat_cmp p.1 q.1) (slice_cmp pair_cmp ps qs)
 
 small_ids : (ps : List (ℕ × ℕ)) → All (λ p. IsId p.0 × IsId p.1) ps → All Small ps
 small_ids ps ids = All-weaker (λ p. IsId p.0 × IsId p.1) Small (λ p h. (h.0.1, h.1.1)) ps ids
 
-hours_compare : (m n b c : ℕ) (r s : List ℕ) → m ≤ 16777215 → n ≤ 16777215 → b < 2 ^ 32 → c < 2 ^ 32
+hours_compare : (m n b c : ℕ) (r s : List ℕ) → m ≤ MOST_IDS → n ≤ MOST_IDS → b < 2 ^ 32 → c < 2 ^ 32
     → bytes_cmp (hour_bytes m b ++ r) (hour_bytes n c ++ s) ≡ ordering_then (nat_cmp m n) (ordering_then (nat_cmp b c) (bytes_cmp r s))
 hours_compare m n b c r s lm ln lb lc =
     three m n (bytes_high_first 4 b ++ r) (bytes_high_first 4 c ++ s) lm ln ∙ ap (ordering_then (nat_cmp m n)) (four b c r s lb lc)
@@ -93,11 +91,6 @@ keys_compare a b x y =
     ∙ ap (λ o. ordering_then (nat_cmp a.metric b.metric) (ordering_then (nat_cmp a.base b.base) o)) (pairs_compare a.pairs.items b.pairs.items (small_ids a.pairs.items x.ids) (small_ids b.pairs.items y.ids))
 
 -- ---- a range of hours
-
--- behind: the bytes go on, or end here
-none_below : (ys : List ℕ) → is_lt (bytes_cmp ys []) ≡ false
-none_below [] = refl
-none_below (y ∷ ys) = refl
 
 Inside : Ordering → Ordering → Type 0
 Inside low high = (is_lt low ≡ false) × (high ≡ Less)
@@ -137,11 +130,11 @@ inside m n b from to o end (e, low, high) =
       ap (λ r. ordering_then r (ordering_then (nat_cmp b to) o)) tie ∙ less_step b to o (λ up. omega (arith, up, high)) (λ same. absurd (omega (arith, same, high))),
     )
 
-pub hours_are_between : (key : RowKey) (metric from to : ℕ) → IsKey key → metric ≤ 16777215 → from < 2 ^ 32 → to < 2 ^ 32
+pub hours_are_between : (key : RowKey) (metric from to : ℕ) → IsKey key → metric ≤ MOST_IDS → from < 2 ^ 32 → to < 2 ^ 32
     → IsInRange (hour_bytes metric from) (hour_bytes metric to) (key_bytes key) ↔ ((key.metric ≡ metric) × (from ≤ key.base) × (key.base < to))
 hours_are_between key metric from to is lm lf lt =
     let tags = flat_map pair_bytes key.pairs.items in
-    let end = none_below tags in
+    let end = not_below_none tags in
     let a = hours_compare key.metric metric key.base from tags [] is.metric.1 lm is.base lf in
     let b = hours_compare key.metric metric key.base to tags [] is.metric.1 lm is.base lt in (
       λ h. within key.metric metric key.base from to (bytes_cmp tags []) end (ap is_lt (sym a) ∙ h.0, sym b ∙ h.1),

@@ -1,2 +1,3 @@
-pub mod Once
-pub mod Comparing
+mod Once
+mod Comparing
+pub mod CallerLemmas

@@ -5,14 +5,16 @@ use Rattle.std.proofs.lemmas.Bool.{cases_lt}
 use Rattle.std.proofs.lemmas.List.Elements.{All-head, All-push, All-tail, All-weaker}
 use Rattle.std.specs.Prelude.{All}
 use Rattle.std.specs.List.{flat_map, Any}
-use Rattle.std.specs.Int.{byte_at, bytes_high_first}
+use Rattle.std.specs.Int.{byte_at}
+use Rattle.row_key.specs.declared.ids.TheConstants.{MOST_IDS}
+use Rattle.row_key.specs.declared.hours.TheConstants.{HOUR}
 use Rattle.row_key.specs.declared.keys.RowKey.{RowKey}
 use Rattle.row_key.specs.declared.keys.KeyFault.{KeyFault}
 use Rattle.row_key.specs.declared.keys.KeyFault.TheVariants.{Length, NoPairs, ZeroId, BaseNotHour, PairsNotRising}
-use Rattle.row_key.specs.Key.{IsId, IsKey, HasParts, HasZeroId, IsFirstFault, ReadsAs, Rises, key_bytes, pair_bytes}
+use Rattle.row_key.specs.Key.{IsId, IsKey, HasParts, HasZeroId, IsFirstFault, ReadsAs, Rises, id_bytes, key_bytes, pair_bytes}
 
 abbrev pub Small : ℕ × ℕ → Type 0
-Small p = (p.0 ≤ 16777215) × (p.1 ≤ 16777215)
+Small p = (p.0 ≤ MOST_IDS) × (p.1 ≤ MOST_IDS)
 
 -- the tags that were read, and the bytes that are left
 pub record IsTail (bytes : List ℕ) (pairs : List (ℕ × ℕ)) (rest : List ℕ) : Type 0 where
@@ -25,7 +27,7 @@ pub record IsTail (bytes : List ℕ) (pairs : List (ℕ × ℕ)) (rest : List �
 
 -- ---- a row has one list of numbers
 
-three_once : (a b : ℕ) → a ≤ 16777215 → b ≤ 16777215 → byte_at 2 a ≡ byte_at 2 b → byte_at 1 a ≡ byte_at 1 b → byte_at 0 a ≡ byte_at 0 b → a ≡ b
+three_once : (a b : ℕ) → a ≤ MOST_IDS → b ≤ MOST_IDS → byte_at 2 a ≡ byte_at 2 b → byte_at 1 a ≡ byte_at 1 b → byte_at 0 a ≡ byte_at 0 b → a ≡ b
 three_once a b la lb e f g = omega (arith, e, f, g)
 
 four_once : (a b : ℕ) → a < 4294967296 → b < 4294967296 → byte_at 3 a ≡ byte_at 3 b → byte_at 2 a ≡ byte_at 2 b → byte_at 1 a ≡ byte_at 1 b → byte_at 0 a ≡ byte_at 0 b → a ≡ b
@@ -54,7 +56,7 @@ parts_once row a b x y =
     let pairs = pairs_once a.pairs.items b.pairs.items x.ids y.ids (ap (drop 7) e) in
     λ i. record { metric = metric i; base = base i; pairs = record { items = pairs i } }
 
-long : (ps : List (ℕ × ℕ)) → length (flat_map pair_bytes ps) ≡ 6 * length ps
+pub long : (ps : List (ℕ × ℕ)) → length (flat_map pair_bytes ps) ≡ 6 * length ps
 long [] = refl
 long (p ∷ ps) = let h = long ps in omega (arith, h)
 
@@ -87,7 +89,7 @@ Zero p = (p.0 ≡ 0) ⊎ (p.1 ≡ 0)
 zero_at : (ps : List (ℕ × ℕ)) (k : ℕ) (d : ℕ × ℕ) → k < length ps → Zero (get_or ps k d) → Any Zero ps
 zero_at ps k d lt z = (k, get_or ps k d, lt, get_or_default ps k (get_or ps k d) d lt, z)
 
-pub key_of_parts : (row : List ℕ) (key : RowKey) → HasParts row key → ¬ HasZeroId key → key.base % 3600 ≡ 0 → Rises key → IsKey key
+pub key_of_parts : (row : List ℕ) (key : RowKey) → HasParts row key → ¬ HasZeroId key → key.base % HOUR ≡ 0 → Rises key → IsKey key
 key_of_parts row key has none hour rising =
     record {
       metric = (above_zero key.metric (λ e. none (inl e)), has.metric);
@@ -127,8 +129,8 @@ key_or_fault row key PairsNotRising is has (k, h, n, b, r) = r (subst IsKey (par
 zero_once : (row : List ℕ) (a b : RowKey) → HasParts row a → HasParts row b → HasZeroId a → ¬ HasZeroId b → ⊥
 zero_once row a b x y z n = n (subst HasZeroId (parts_once row a b x y) z)
 
-hour_once : (row : List ℕ) (a b : RowKey) → HasParts row a → HasParts row b → a.base % 3600 ≢ 0 → b.base % 3600 ≡ 0 → ⊥
-hour_once row a b x y n e = n (ap (λ (k : RowKey). k.base % 3600) (parts_once row a b x y) ∙ e)
+hour_once : (row : List ℕ) (a b : RowKey) → HasParts row a → HasParts row b → a.base % HOUR ≢ 0 → b.base % HOUR ≡ 0 → ⊥
+hour_once row a b x y n e = n (ap (λ (k : RowKey). k.base % HOUR) (parts_once row a b x y) ∙ e)
 
 fault_once : (row : List ℕ) (f g : KeyFault) → IsFirstFault row f → IsFirstFault row g → f ≡ g
 fault_once row Length Length x y = refl
@@ -199,7 +201,7 @@ rises_more ps i before inside last j k d jk ki =
 
 -- one more tag is read
 pub tag_more : (bytes rest after : List ℕ) (pairs new : List (ℕ × ℕ)) (x y : ℕ) → IsTail bytes pairs rest → 6 ≤ length rest → after ≡ drop 6 rest → new ≡ pairs ++ (x, y) ∷ []
-    → bytes_high_first 3 x ≡ get_or rest 0 0 ∷ get_or rest 1 0 ∷ get_or rest 2 0 ∷ [] → bytes_high_first 3 y ≡ get_or rest 3 0 ∷ get_or rest 4 0 ∷ get_or rest 5 0 ∷ [] → x ≤ 16777215 → y ≤ 16777215 → IsTail bytes new after
+    → id_bytes x ≡ get_or rest 0 0 ∷ get_or rest 1 0 ∷ get_or rest 2 0 ∷ [] → id_bytes y ≡ get_or rest 3 0 ∷ get_or rest 4 0 ∷ get_or rest 5 0 ∷ [] → x ≤ MOST_IDS → y ≤ MOST_IDS → IsTail bytes new after
 tag_more bytes rest after pairs new x y t six after_is new_is xb yb xl yl =
     let one : pair_bytes (x, y) ≡ take 6 rest = (λ i. xb i ++ yb i) ∙ front_six rest six in
     let la = ap (λ (l : List ℕ). length l) after_is ∙ length-drop 6 rest in

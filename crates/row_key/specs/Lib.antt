@@ -1,2 +1,3 @@
 pub mod Key
-pub mod Order
+pub mod KeyOrder
+pub mod Hours

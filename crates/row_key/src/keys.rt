@@ -3,8 +3,10 @@ ghost use Rattle.std.specs.Prelude.{◌≡◌, ℕ, ◌+◌, ◌*◌, ◌<◌, �
 ghost use Rattle.std.specs.List.{flat_map};
 ghost use Rattle.std.specs.Int.{bytes_high_first};
 ghost use Rattle.arrayvec.specs.ArrayVec.{array_vec_len};
-ghost use Rattle.row_key.specs.Key.{HasParts, HasZeroId, IsKey, ReadsAs, Rises, key_bytes, pair_bytes};
+ghost use Rattle.row_key.specs.Key.{HasParts, HasZeroId, IsKey, ReadsAs, Rises, id_bytes, key_bytes, pair_bytes};
 
+use crate::hours::HOUR;
+use crate::ids::{MOST_IDS, id_bytes};
 use arrayvec::ArrayVec;
 
 /// The key of a point row: the data points of one series in one hour.
@@ -12,7 +14,7 @@ use arrayvec::ArrayVec;
 pub struct RowKey {
     /// The id of the metric, from 1 to 16,777,215.
     pub metric: u32,
-    /// The second at which the hour begins, counted from the start of 1970: a multiple of 3600.
+    /// The second at which the hour begins, counted from the start of 1970: a multiple of [`HOUR`].
     pub base: u32,
     /// For each tag, of which there are 1 to 8, the id of its key and that of its value, rising by the first.
     pub pairs: ArrayVec<(u32, u32), 8>,
@@ -27,7 +29,7 @@ pub enum KeyFault {
     NoPairs,
     /// An id is 0.
     ZeroId,
-    /// The base is no multiple of 3600.
+    /// The base is no multiple of [`HOUR`].
     BaseNotHour,
     /// The ids of the tags' keys don't rise.
     PairsNotRising,
@@ -37,10 +39,10 @@ pub enum KeyFault {
 #[inline]
 fn push_id(row: &mut ArrayVec<u8, 72>, id: u32)
     requires room { array_vec_len row.old + 3 ≤ 72 }
-    ensures items { row.new.items ≡ row.old.items ++ bytes_high_first 3 id }
+    ensures items { row.new.items ≡ row.old.items ++ id_bytes id }
     ensures len { array_vec_len row.new ≡ array_vec_len row.old + 3 }
 {
-    let [_, high, middle, low] = id.to_be_bytes();
+    let [high, middle, low] = id_bytes(id);
     row.push(high);
     row.push(middle);
     row.push(low);
@@ -66,8 +68,8 @@ pub fn write_key(key: &RowKey) -> ArrayVec<u8, 72>
 
 #[inline]
 fn id_of(high: u8, middle: u8, low: u8) -> u32
-    ensures bytes { bytes_high_first 3 result ≡ high ∷ middle ∷ low ∷ [] }
-    ensures most { result ≤ 16777215 }
+    ensures bytes { id_bytes result ≡ high ∷ middle ∷ low ∷ [] }
+    ensures most { result ≤ MOST_IDS }
 {
     u32::from_be_bytes([0, high, middle, low])
 }
@@ -76,7 +78,7 @@ fn id_of(high: u8, middle: u8, low: u8) -> u32
 fn pairs_of(bytes: &[u8]) -> ArrayVec<(u32, u32), 8>
     requires { (n : ℕ) × (n ≤ 8) × (length bytes.now ≡ 6 * n) }
     ensures bytes { bytes.now ≡ flat_map pair_bytes result.items }
-    ensures ids { All (λ p. (p.0 ≤ 16777215) × (p.1 ≤ 16777215)) result.items }
+    ensures ids { All (λ p. (p.0 ≤ MOST_IDS) × (p.1 ≤ MOST_IDS)) result.items }
     ensures len { 6 * length result.items ≡ length bytes.now }
 {
     let mut pairs = ArrayVec::new();
@@ -145,7 +147,7 @@ pub fn read_key(row: &[u8]) -> Result<RowKey, KeyFault>
     if has_zero_id(&key) {
         return Err(KeyFault::ZeroId);
     }
-    if key.base % 3600 != 0 {
+    if key.base % HOUR != 0 {
         return Err(KeyFault::BaseNotHour);
     }
     if !rises(&key) {

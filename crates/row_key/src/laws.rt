@@ -1,5 +1,5 @@
 //! Laws of row keys, for layers that search rows by their bytes. Each function does nothing; its clause is the law.
-ghost use Rattle.row_key.specs.Order.{HoursAreRange, KeysAreUnique, RowsFollowKeys};
+ghost use Rattle.row_key.specs.KeyOrder.{HoursAreRange, KeysAreUnique, RowsFollowKeys};
 
 /// Keys with the same bytes are one key.
 pub fn keys_are_unique()

@@ -3,16 +3,16 @@ use Rattle.std.proofs.Common.{◌≡◌, inl, inr, ℕ, ◌≤◌, List, refl, s
 use Rattle.std.specs.Prelude.{Option, Some, Contains}
 use Rattle.tsd_base.specs.declared.kinds.Kind.{Kind}
 use Rattle.qual_codec.specs.declared.cells.Cell.{Cell}
-use Rattle.cell_model.specs.declared.cells.Row.{Row}
-use Rattle.cell_model.specs.declared.cells.Found.{Found}
+use Rattle.cell_model.specs.declared.row.Row.{Row}
+use Rattle.cell_model.specs.declared.row.Found.{Found}
 use Rattle.cell_model.specs.Store.{value_at}
 use Rattle.cell_model.specs.History.{History, first, store_after}
 use Rattle.cell_model.specs.History.History.{Then}
-use Rattle.cell_model.specs.Ids.{name_of}
+use Rattle.cell_model.specs.IdRows.{name_of}
 use Rattle.cell_model.specs.Lawful.{IsLawful}
 use Rattle.cell_model.specs.Readings.{Reading, point_row, AcceptedBy, Accepted}
 use Rattle.row_scan.specs.Scans.{IsRowOf, Wanting}
-use Rattle.row_scan.specs.Shown.{RowReads}
+use Rattle.row_scan.specs.RowReadings.{RowReads}
 use Rattle.row_scan.specs.Laws.{ScanGives}
 use Rattle.row_scan.proofs.CellsOf.{cell_at}
 use Rattle.row_scan.proofs.Whole.{begins_firsts}

@@ -5,14 +5,14 @@ use Rattle.std.specs.Ordering.{eq_by_cmp}
 use Rattle.std.specs.Cmp.Lexicographic.{texts_ties}
 use Rattle.std.specs.FinMap.{entries, get-entries, entries_sorted, slice_cmp-IsAntisymmetric, nat_cmp-IsAntisymmetric}
 use Rattle.qual_codec.specs.declared.cells.Cell.{Cell}
-use Rattle.cell_model.specs.declared.cells.Row.{Row}
+use Rattle.cell_model.specs.declared.row.Row.{Row}
 use Rattle.cell_model.specs.declared.events.Place.{Place}
 use Rattle.cell_model.specs.declared.events.Content.{Content}
-use Rattle.cell_model.specs.Store.{Store, bytes_cmp, row_cmp, value_at, cells_of, cell_of, same_bytes, value_among}
-use Rattle.row_scan.proofs.Bytes.{is_equal}
-use Rattle.row_scan.proofs.Lower.{in_filter}
+use Rattle.cell_model.specs.Store.{Store, row_cmp, value_at, cells_of, cell_of, same_bytes, value_among}
+use Rattle.list_lemmas.specs.BytesOrder.{bytes_cmp}
+use Rattle.list_lemmas.proofs.BoolTests.{is_equal}
+use Rattle.row_scan.proofs.Lower.{in_filter, here, there, map_in, exact_rows, value_among-cells_of}
 use Rattle.row_scan.proofs.NextRow.{found_there}
-use Rattle.row_scan.proofs.Lower.{here, there, map_in, exact_rows, value_among-cells_of}
 
 same_is : (x y : List ℕ) → same_bytes x y ≡ true → x ≡ y
 same_is x y e = slice_cmp-IsAntisymmetric nat_cmp-IsAntisymmetric x y (is_equal (bytes_cmp x y) (sym (texts_ties x y) ∙ e))

@@ -1,15 +1,19 @@
 -- A scan finds no more rows than there are, and its entries show those that it found.
-use Rattle.std.proofs.Common.{◌≡◌, ◌⊎◌, inl, inr, ℕ, zero, suc, ◌+◌, ◌-◌, ◌≤◌, ◌<◌, List, [], ◌∷◌, length, get_or, sym, ap, subst, ◌∙◌, arith}
-use Rattle.std.specs.Prelude.{None, Some, AllPairs, Contains}
+use Rattle.std.proofs.Common.{◌≡◌, ◌≢◌, ◌⊎◌, inl, inr, ℕ, ◌-◌, ◌≤◌, List, [], ◌∷◌, length, sym, ap, subst, ◌∙◌, arith}
+use Rattle.std.specs.Prelude.{None, Some, AllPairs, Contains, map}
 use Rattle.std.specs.declared.cmp.Ordering.TheVariants.{Less}
+use Rattle.std.proofs.lemmas.List.{length-map}
+use Rattle.list_lemmas.proofs.ListCuts.{fewer}
+use Rattle.list_lemmas.proofs.ListParts.{pairs_cons}
 use Rattle.row_key.specs.declared.tables.Table.TheVariants.{Points}
-use Rattle.cell_model.specs.declared.cells.Row.{Row}
-use Rattle.cell_model.specs.declared.cells.Found.{Found}
+use Rattle.cell_model.specs.declared.row.Row.{Row}
+use Rattle.cell_model.specs.declared.row.Found.{Found}
 use Rattle.cell_model.specs.declared.events.Step.{Step}
 use Rattle.cell_model.specs.declared.events.Step.TheVariants.{Open, Read, NextRow, Bump, Claim, PutPoint, PutMerged, DropCells}
 use Rattle.cell_model.specs.declared.events.Reply.TheVariants.{Next}
 use Rattle.cell_model.specs.declared.events.Placed.{Placed}
-use Rattle.cell_model.specs.Store.{Store, bytes_cmp}
+use Rattle.cell_model.specs.Store.{Store}
+use Rattle.list_lemmas.specs.BytesOrder.{bytes_cmp}
 use Rattle.cell_model.specs.Machine.{reply_of}
 use Rattle.cell_model.specs.History.{History, first, store_after, entry_at}
 use Rattle.cell_model.specs.Lawful.{IsLawful}
@@ -17,42 +21,22 @@ use Rattle.cell_model.specs.Deeds.{before_first}
 use Rattle.row_scan.specs.Scans.{Left, IsOther, IsRowOf, Wanting, Scanned}
 use Rattle.row_scan.specs.Scans.Scanned.{ended, found, other, skipped}
 use Rattle.row_scan.specs.Laws.{ScanCounts, ScanShows}
-use Rattle.row_scan.proofs.Bytes.{not_itself}
-use Rattle.row_scan.proofs.Lower.{each_entry, here, there, split, pairs_in, pairs_tail}
+use Rattle.list_lemmas.proofs.OrderedBytes.{not_itself}
+use Rattle.row_scan.proofs.Lower.{each_entry, here, there, split, pairs_in, pairs_tail, map_in}
 use Rattle.row_scan.proofs.Whole.{StandAbove, stand_tail, own_stands, some_scanned, scan_found, scan_whole, row_stays}
 
 -- ---- how many
 
-without : {A : Type 0} → ℕ → List A → List A
-without k [] = []
-without zero (x ∷ xs) = xs
-without (suc k) (x ∷ xs) = x ∷ without k xs
-
-length_without : {A : Type 0} (k : ℕ) (xs : List A) → k < length xs → length (without k xs) + 1 ≡ length xs
-unfolding without
-length_without k [] lt = absurd (omega (arith, lt))
-length_without zero (x ∷ xs) lt = omega arith
-length_without (suc k) (x ∷ xs) lt = let more = length_without k xs (omega (arith, lt)) in omega (arith, more)
-
-in_without : {A : Type 0} (k : ℕ) (xs : List A) (d y : A) → k < length xs → get_or xs k d ≡ d → Contains xs y → (d ≡ y) ⊎ Contains (without k xs) y
-unfolding without
-in_without k [] d y lt is c = absurd (omega (arith, lt))
-in_without zero (x ∷ xs) d y lt is (zero, l, e) = inl (sym is ∙ e)
-in_without zero (x ∷ xs) d y lt is (suc j, l, e) = inr (j, omega (arith, l), e)
-in_without (suc k) (x ∷ xs) d y lt is (zero, l, e) = inr (0, omega arith, e)
-in_without (suc k) (x ∷ xs) d y lt is (suc j, l, e) =
-    elim (in_without k xs d y (omega (arith, lt)) is (j, omega (arith, l), e)) [ inl same ↦ inl same | inr c ↦ inr (there x y (without k xs) c) ]
-
-fewer : (fs : List Found) (rows : List Row) → AllPairs (λ (f g : Found). bytes_cmp f.row.bytes g.row.bytes ≡ Less) fs → ((f : Found) → Contains fs f → Contains rows f.row) → length fs ≤ length rows
-fewer [] rows up within = omega arith
-fewer (f ∷ fs) rows up within =
-    let at = within f (here f fs) in
-    let shorter = length_without at.0 rows at.1 in
-    let rest = fewer fs (without at.0 rows) (pairs_tail (λ (f g : Found). bytes_cmp f.row.bytes g.row.bytes ≡ Less) f fs up) (λ g c.
-    elim (in_without at.0 rows f.row g.row at.1 at.2 (within g (there f g fs c))) [
-      | inl same ↦ absurd (not_itself g.row.bytes (subst (λ (r : Row). bytes_cmp r.bytes g.row.bytes ≡ Less) same (pairs_in (λ (f g : Found). bytes_cmp f.row.bytes g.row.bytes ≡ Less) f g fs up c)))
-      | inr later ↦ later
-    ]) in omega (arith, shorter, rest)
+-- rows that rise are of no row twice
+pub rows_differ : (founds : List Found) → AllPairs (λ (f g : Found). bytes_cmp f.row.bytes g.row.bytes ≡ Less) founds → AllPairs (λ (a b : Row). a ≢ b) (map (λ (f : Found). f.row) founds)
+rows_differ [] up = λ i j d lt within. absurd (omega (arith, within))
+rows_differ (f ∷ founds) up =
+    pairs_cons (λ (a b : Row). a ≢ b) f.row (map (λ (f : Found). f.row) founds)
+    (λ y c same.
+    let w = map_in (λ (f : Found). f.row) founds y c in
+    let less = pairs_in (λ (f g : Found). bytes_cmp f.row.bytes g.row.bytes ≡ Less) f w.0 founds up w.1 in
+    not_itself f.row.bytes (subst (λ (r : Row). bytes_cmp f.row.bytes r.bytes ≡ Less) (w.2 ∙ sym same) less))
+    (rows_differ founds (pairs_tail (λ (f g : Found). bytes_cmp f.row.bytes g.row.bytes ≡ Less) f founds up))
 
 points_of : (metric first last : ℕ) (row : Row) → IsRowOf metric first last row → row.table ≡ Points
 points_of metric first last row r = ap (λ (x : Row). x.table) r.row_is
@@ -60,9 +44,12 @@ points_of metric first last row r = ap (λ (x : Row). x.table) r.row_is
 pub scan_counts : ScanCounts
 scan_counts wants h end metric first_base last_base left own founds l o start sc rows all =
     let w = scan_whole wants h end metric first_base last_base left own founds l o start sc in
-    fewer founds rows w.rising (λ f c.
+    let in_rows : (f : Found) → Contains founds f → Contains rows f.row = λ f c.
     let x = w.only f c in
-    all f.row x.0 (row_stays h x.1.when end f.row l (points_of metric first_base last_base f.row x.0) x.1.up_to x.1.there))
+    all f.row x.0 (row_stays h x.1.when end f.row l (points_of metric first_base last_base f.row x.0) x.1.up_to x.1.there) in
+    let few = fewer (map (λ (f : Found). f.row) founds) rows (rows_differ founds w.rising) (λ row c. let f = map_in (λ (f : Found). f.row) founds row c in subst (Contains rows) f.2 (in_rows f.0 f.1)) in
+    let same = length-map founds (λ (f : Found). f.row) in
+    omega (arith, same, few)
 
 -- ---- what is shown
 

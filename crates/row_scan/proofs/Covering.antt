@@ -3,18 +3,19 @@ use Rattle.std.proofs.Common.{◌≡◌, ℕ, ◌+◌, ◌*◌, ◌≤◌, List,
 use Rattle.std.specs.Prelude.{Bool, Option, Some, Contains, IsTrue}
 use Rattle.tsd_base.specs.declared.kinds.Kind.{Kind}
 use Rattle.qual_codec.specs.declared.cells.Cell.{Cell}
-use Rattle.cell_model.specs.declared.cells.Row.{Row}
-use Rattle.cell_model.specs.declared.cells.Found.{Found}
+use Rattle.cell_model.specs.declared.row.Row.{Row}
+use Rattle.cell_model.specs.declared.row.Found.{Found}
 use Rattle.cell_model.specs.Store.{value_at, cells_of}
 use Rattle.cell_model.specs.History.{History, first, store_after}
-use Rattle.cell_model.specs.Ids.{name_of}
+use Rattle.cell_model.specs.IdRows.{name_of}
 use Rattle.cell_model.specs.Lawful.{IsLawful}
 use Rattle.cell_model.specs.Readings.{Reading, Meets, point_row, CellReads, Accepted}
 use Rattle.row_scan.specs.Scans.{IsRowOf, Wanting, IsWanted, HasCell}
-use Rattle.row_scan.specs.Shown.{RowReads, AsksWithin, AsksOfWanted}
+use Rattle.row_scan.specs.RowReadings.{RowReads, AsksWithin, AsksOfWanted}
 use Rattle.row_scan.specs.Laws.{ScanGives}
 use Rattle.row_scan.proofs.CellsOf.{cell_in}
-use Rattle.row_scan.proofs.Names.{same_Some, metric_id, row_stood}
+use Rattle.list_lemmas.proofs.BoolTests.{same_Some}
+use Rattle.row_scan.proofs.Names.{metric_id, row_stood}
 use Rattle.row_scan.proofs.Offsets.{dot_offset, same_offset, hour_is}
 use Rattle.row_scan.proofs.Whole.{begins_firsts, stays, row_stays}
 use Rattle.row_scan.proofs.Lower.{first_lawful, name_keeps, cell_by, each_reads, accepted_times_stand}

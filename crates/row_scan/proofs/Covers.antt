@@ -1,19 +1,19 @@
--- A whole scan without a clash covers what is asked for.
+-- A whole scan without a conflict covers what is asked for.
 use Rattle.std.proofs.Common.{◌≡◌, ◌⊎◌, inl, inr, ℕ, ◌≤◌, Bool, List, [], ◌∷◌, sym, ap, subst, ◌∙◌, arith}
 use Rattle.std.specs.Prelude.{AllPairs, Contains, IsTrue}
 use Rattle.std.specs.declared.cmp.Ordering.TheVariants.{Less}
-use Rattle.cell_model.specs.declared.cells.Found.{Found}
+use Rattle.cell_model.specs.declared.row.Found.{Found}
 use Rattle.cell_model.specs.declared.events.Placed.{Placed}
-use Rattle.cell_model.specs.Store.{bytes_cmp}
+use Rattle.list_lemmas.specs.BytesOrder.{bytes_cmp}
 use Rattle.cell_model.specs.History.{History, first}
-use Rattle.cell_model.specs.Ids.{name_of}
+use Rattle.cell_model.specs.IdRows.{name_of}
 use Rattle.cell_model.specs.Lawful.{IsLawful}
 use Rattle.cell_model.specs.Readings.{Reading, Meets, OneValued, Accepted}
 use Rattle.cell_model.specs.Deeds.{InOrder, before_first}
 use Rattle.row_scan.specs.Scans.{Wanting}
-use Rattle.row_scan.specs.Shown.{ShowsRow, RowReads, ShowsReading, Chosen, BySeries, AsksWithin, AsksOfWanted, NoClash}
+use Rattle.row_scan.specs.RowReadings.{ShowsRow, RowReads, ShowsReading, Chosen, BySeries, AsksWithin, AsksOfWanted, NoConflict}
 use Rattle.row_scan.specs.Laws.{ScanGives, ScanCovers}
-use Rattle.row_scan.proofs.Bytes.{not_itself}
+use Rattle.list_lemmas.proofs.OrderedBytes.{not_itself}
 use Rattle.row_scan.proofs.Names.{row_stood}
 use Rattle.row_scan.proofs.Offsets.{dot_offset}
 use Rattle.row_scan.proofs.OneRow.{one_row}
@@ -45,9 +45,9 @@ record Whole (wants : Wanting) (h : History) (start end metric first_base last_b
   shown : (f : Found) → ShowsRow own f → Contains founds f
   shows : (f : Found) → Contains founds f → ShowsRow own f
 
-one_value : (wants : Wanting) (h : History) (start end metric first_base last_base : ℕ) (own : List Placed) (founds : List Found) (asked : Reading → Bool) → Whole wants h start end metric first_base last_base own founds → NoClash (name_of (first end h)) asked own
+one_value : (wants : Wanting) (h : History) (start end metric first_base last_base : ℕ) (own : List Placed) (founds : List Found) (asked : Reading → Bool) → Whole wants h start end metric first_base last_base own founds → NoConflict (name_of (first end h)) asked own
     → OneValued (Chosen asked (ShowsReading (name_of (first end h)) own))
-one_value wants h start end metric first_base last_base own founds asked w clean r s ((f, fs, fr), yr) ((g, gs, gr), ys) m =
+one_value wants h start end metric first_base last_base own founds asked w conflict_free r s ((f, fs, fr), yr) ((g, gs, gr), ys) m =
     let cf = shown_cell wants h start end metric first_base last_base founds w.gives f (w.shown f fs) fr.cell fr.among in
     let cg = shown_cell wants h start end metric first_base last_base founds w.gives g (w.shown g gs) gr.cell gr.among in
     let a = fr.reads in
@@ -56,7 +56,7 @@ one_value wants h start end metric first_base last_base own founds asked w clean
     (row_stood h cf.when end f.row.bytes fr.cell.qual fr.cell.value w.lawful cf.up_to cf.stands) (row_stood h cg.when end g.row.bytes gr.cell.qual gr.cell.value w.lawful cg.up_to cg.stands)
     (dot_offset fr.cell.qual fr.cell.value a.dots a.dot a.reads a.among) (dot_offset gr.cell.qual gr.cell.value b.dots b.dot b.reads b.among) a.dot_reads b.dot_reads m in
     let is : f ≡ g = once founds f g w.gives.rising (w.shown f fs) (w.shown g gs) same in
-    clean g gs r s (subst (λ (x : Found). RowReads (name_of (first end h)) x r) is fr, yr) (gr, ys) m
+    conflict_free g gs r s (subst (λ (x : Found). RowReads (name_of (first end h)) x r) is fr, yr) (gr, ys) m
 
 within_accepted : (wants : Wanting) (h : History) (start end metric first_base last_base : ℕ) (own : List Placed) (founds : List Found) (asked : Reading → Bool) → Whole wants h start end metric first_base last_base own founds
     → (r : Reading) → Chosen asked (ShowsReading (name_of (first end h)) own) r → Chosen asked (Accepted (first end h)) r
@@ -80,7 +80,7 @@ start_low h end [] o = omega arith
 start_low h end (p ∷ own) o = let low = (o.each p (here p own)).0 in omega (arith, low)
 
 pub scan_covers : ScanCovers
-scan_covers wants h end metric first_base last_base left own founds asked l o start sc by within only clean =
+scan_covers wants h end metric first_base last_base left own founds asked l o start sc by within only conflict_free =
     let from = before_first own end in
     let w : Whole wants h from end metric first_base last_base own founds = record {
       lawful = l;
@@ -90,7 +90,7 @@ scan_covers wants h end metric first_base last_base left own founds asked l o st
       shows = λ f. (scan_shows wants h end left own founds l o sc f).1;
     } in
     record {
-      one = one_value wants h from end metric first_base last_base own founds asked w clean;
+      one = one_value wants h from end metric first_base last_base own founds asked w conflict_free;
       within = within_accepted wants h from end metric first_base last_base own founds asked w;
       each = each_covered wants h from end metric first_base last_base own founds asked w by within only;
     }

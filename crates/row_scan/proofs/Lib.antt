@@ -1,15 +1,15 @@
-pub mod Bytes
-pub mod Lower
-pub mod NextRow
-pub mod Turning
-pub mod Starting
-pub mod Turns
-pub mod Whole
-pub mod Counting
-pub mod CellsOf
-pub mod Names
-pub mod OneRow
-pub mod Offsets
-pub mod Covering
-pub mod Accepted
-pub mod Covers
+mod Lower
+mod NextRow
+mod Turning
+mod Starting
+mod Turns
+mod Whole
+mod Counting
+mod CellsOf
+mod Names
+mod OneRow
+mod Offsets
+mod Covering
+mod Accepted
+mod Covers
+pub mod CallerLemmas

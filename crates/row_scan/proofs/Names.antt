@@ -1,6 +1,7 @@
 -- The ids of a row that stood, and their names at any later length.
 use Rattle.std.proofs.Common.{◌≡◌, ℕ, ◌≤◌, List, sym, subst, ◌∙◌}
 use Rattle.std.specs.Prelude.{Some, Contains}
+use Rattle.list_lemmas.proofs.BoolTests.{same_Some}
 use Rattle.tsd_base.specs.declared.kinds.Kind.{Kind}
 use Rattle.tsd_base.specs.declared.kinds.Kind.TheVariants.{Metric, TagKey, TagValue}
 use Rattle.tsd_base.specs.Alphabet.{IsName}
@@ -10,14 +11,11 @@ use Rattle.row_key.specs.Key.{IsKey, key_bytes}
 use Rattle.qual_codec.specs.declared.cells.Dot.{Dot}
 use Rattle.cell_model.specs.Store.{value_at}
 use Rattle.cell_model.specs.History.{History, first, store_after}
-use Rattle.cell_model.specs.Ids.{id_of, name_of}
+use Rattle.cell_model.specs.IdRows.{id_of, name_of}
 use Rattle.cell_model.specs.Lawful.{IsLawful}
-use Rattle.cell_model.specs.Laws.{IsTaken}
+use Rattle.cell_laws.specs.Laws.{IsTaken}
 use Rattle.cell_model.specs.Readings.{Reading, point_row, IsNamed, DotReads}
 use Rattle.row_scan.proofs.Lower.{first_lawful, one_key, keeps_id, names_back, row_ids_are_taken}
-
-pub same_Some : {A : Type 0} (x y : A) → Some x ≡ Some y → x ≡ y
-same_Some x y e = cc
 
 -- the id is that of a name, which is the id's
 pub record IsOf (h : History) (kind : Kind) (id : ℕ) : Type 0 where

@@ -10,12 +10,13 @@ use Rattle.std.specs.FinMap as fin
 use Rattle.std.specs.FinMap.Entries.{below_all}
 use Rattle.row_key.specs.declared.tables.Table.{Table}
 use Rattle.row_key.specs.declared.tables.Table.TheVariants.{Ids, Names, Points}
-use Rattle.cell_model.specs.declared.cells.Row.{Row}
-use Rattle.cell_model.specs.declared.cells.Found.{Found}
+use Rattle.cell_model.specs.declared.row.Row.{Row}
+use Rattle.cell_model.specs.declared.row.Found.{Found}
 use Rattle.cell_model.specs.declared.events.Place.{Place}
 use Rattle.cell_model.specs.declared.events.Content.{Content}
-use Rattle.cell_model.specs.Store.{Store, place_cmp, row_cmp, bytes_cmp, place_of, table_number, content_at, value_at, cells_of, next_row_of, is_between}
-use Rattle.row_scan.proofs.Bytes.{is_equal}
+use Rattle.cell_model.specs.Store.{Store, place_cmp, row_cmp, place_of, table_number, content_at, value_at, cells_of, next_row_of, is_between}
+use Rattle.list_lemmas.specs.BytesOrder.{bytes_cmp}
+use Rattle.list_lemmas.proofs.BoolTests.{is_equal}
 use Rattle.row_scan.proofs.Lower.{exact_places, exact_rows, places_total, here, there, split, not_in}
 
 not_Some : {A : Type 0} (x : A) → ◌≡◌ {A = Option A} (Some x) None → ⊥

@@ -2,15 +2,17 @@
 use Rattle.std.proofs.Common.{◌≡◌, ℕ, ◌≤◌, ◌<◌, List, ◌++◌, sym, ap, subst, ◌∙◌, arith}
 use Rattle.std.specs.Prelude.{Contains}
 use Rattle.std.specs.List.{flat_map}
+use Rattle.row_key.specs.declared.hours.TheConstants.{LAST_OFFSET}
 use Rattle.tsd_base.specs.declared.kinds.Kind.TheVariants.{Metric}
 use Rattle.tsd_base.specs.TagList.{Pair}
 use Rattle.row_key.specs.Key.{hour_bytes, pair_bytes}
 use Rattle.qual_codec.specs.declared.cells.Dot.{Dot}
 use Rattle.cell_model.specs.History.{History}
-use Rattle.cell_model.specs.Ids.{id_of, name_of}
+use Rattle.cell_model.specs.IdRows.{id_of, name_of}
 use Rattle.cell_model.specs.Readings.{Reading, Meets, DotReads}
 use Rattle.row_scan.proofs.Lower.{same_rising}
-use Rattle.row_scan.proofs.Names.{same_Some, StoodRow, metric_id, pair_ids}
+use Rattle.list_lemmas.proofs.BoolTests.{same_Some}
+use Rattle.row_scan.proofs.Names.{StoodRow, metric_id, pair_ids}
 use Rattle.row_scan.proofs.Offsets.{one_hour}
 
 -- the same tags have the same ids
@@ -29,7 +31,7 @@ pairs_within h a b d e r s sa sb x y tags p c =
 below_asym : (a b : ℕ × ℕ) → a.0 < b.0 → b.0 < a.0 → ⊥
 below_asym a b x y = omega (arith, x, y)
 
-pub one_row : (h : History) (a b : List ℕ) (d e : Dot) (r s : Reading) → StoodRow h a → StoodRow h b → d.item.offset ≤ 3599999 → e.item.offset ≤ 3599999
+pub one_row : (h : History) (a b : List ℕ) (d e : Dot) (r s : Reading) → StoodRow h a → StoodRow h b → d.item.offset ≤ LAST_OFFSET → e.item.offset ≤ LAST_OFFSET
     → DotReads (name_of h) a d r → DotReads (name_of h) b e s → Meets r s → a ≡ b
 one_row h a b d e r s sa sb ld le x y m =
     let metric : x.key.metric ≡ y.key.metric = same_Some _ _ (sym (metric_id h a d r sa x) ∙ ap (id_of h Metric) m.metric ∙ metric_id h b e s sb y) in

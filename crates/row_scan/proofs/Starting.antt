@@ -2,25 +2,27 @@
 use Rattle.std.proofs.Common.{◌≡◌, ℕ, ◌+◌, ◌-◌, ◌%◌, ◌^◌, ◌<◌, ◌≤◌, min, List, refl, sym, ap, subst, arith}
 use Rattle.std.specs.Prelude.{IsTrue}
 use Rattle.std.specs.Ordering.{is_lt}
+use Rattle.row_key.specs.declared.ids.TheConstants.{MOST_IDS}
+use Rattle.row_key.specs.declared.hours.TheConstants.{HOUR}
 use Rattle.row_key.specs.declared.keys.RowKey.{RowKey}
 use Rattle.row_key.specs.declared.tables.Table.TheVariants.{Points}
 use Rattle.row_key.specs.Key.{IsKey, key_bytes, hour_bytes}
-use Rattle.cell_model.specs.declared.cells.Row.{Row}
+use Rattle.cell_model.specs.declared.row.Row.{Row}
 use Rattle.cell_model.specs.Store.{is_between}
 use Rattle.cell_model.specs.Readings.{point_row}
 use Rattle.row_scan.specs.Scans.{Left, IsRowOf, IsStart}
-use Rattle.row_scan.proofs.Bytes.{less_if}
+use Rattle.list_lemmas.proofs.BoolTests.{less_if}
 use Rattle.row_scan.proofs.NextRow.{between, between_is}
 use Rattle.row_scan.proofs.Lower.{hours_between}
 
 -- no hour begins at the last second
-below_end : (base last end : ℕ) → base % 3600 ≡ 0 → base < 2 ^ 32 → base ≤ last → end ≡ min (last + 1) (2 ^ 32 - 1) → base < end
+below_end : (base last end : ℕ) → base % HOUR ≡ 0 → base < 2 ^ 32 → base ≤ last → end ≡ min (last + 1) (2 ^ 32 - 1) → base < end
 below_end base last end hour small le is = omega (arith, hour, small, le, is)
 
 up_to_last : (base last end : ℕ) → base < end → end ≡ min (last + 1) (2 ^ 32 - 1) → base ≤ last
 up_to_last base last end lt is = omega (arith, lt, is)
 
-pub starts : (metric first last end : ℕ) (left : Left) → metric ≤ 16777215 → first < 2 ^ 32 → end < 2 ^ 32 → end ≡ min (last + 1) (2 ^ 32 - 1) → left.from ≡ hour_bytes metric first → left.to ≡ hour_bytes metric end → IsStart metric first last left
+pub starts : (metric first last end : ℕ) (left : Left) → metric ≤ MOST_IDS → first < 2 ^ 32 → end < 2 ^ 32 → end ≡ min (last + 1) (2 ^ 32 - 1) → left.from ≡ hour_bytes metric first → left.to ≡ hour_bytes metric end → IsStart metric first last left
 starts metric first last end left small fits end_fits end_is from_is to_is = record { all = all; only = only }
   where
     all : (row : Row) → IsRowOf metric first last row → IsTrue (is_between Points left.from left.to row)

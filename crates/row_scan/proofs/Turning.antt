@@ -6,13 +6,14 @@ use Rattle.std.specs.Prelude.{Option, Some, Result, Ok, Err, IsErr}
 use Rattle.row_key.specs.declared.keys.RowKey.{RowKey}
 use Rattle.row_key.specs.declared.tables.Table.TheVariants.{Points}
 use Rattle.row_key.specs.Key.{IsKey, key_bytes}
-use Rattle.cell_model.specs.declared.cells.Row.{Row}
-use Rattle.cell_model.specs.declared.cells.Found.{Found}
+use Rattle.cell_model.specs.declared.row.Row.{Row}
+use Rattle.cell_model.specs.declared.row.Found.{Found}
 use Rattle.cell_model.specs.declared.events.Step.TheVariants.{NextRow}
 use Rattle.cell_model.specs.declared.events.Reply.TheVariants.{Next}
 use Rattle.cell_model.specs.declared.answers.RowsFault.{RowsFault}
 use Rattle.std.specs.Ordering.{is_lt}
-use Rattle.cell_model.specs.Store.{bytes_cmp, next_row_of}
+use Rattle.list_lemmas.specs.BytesOrder.{bytes_cmp}
+use Rattle.cell_model.specs.Store.{next_row_of}
 use Rattle.cell_model.specs.History.{History, first, store_after, entry_at}
 use Rattle.cell_model.specs.Lawful.{IsLawful}
 use Rattle.cell_model.specs.Ranges.{SameMetric}
@@ -20,7 +21,8 @@ use Rattle.cell_model.specs.Readings.{point_row}
 use Rattle.cell_model.specs.Seen.{Seen, Waited, Stepped, IsPossible}
 use Rattle.cell_model.specs.Deeds.{Made}
 use Rattle.row_scan.specs.Scans.{Left, MadeSo, TurnMade}
-use Rattle.row_scan.proofs.Bytes.{key_length, prefix_between}
+use Rattle.row_key.proofs.CallerLemmas.{key_length}
+use Rattle.list_lemmas.proofs.OrderedBytes.{prefix_between}
 use Rattle.row_scan.proofs.NextRow.{Between, next_between, next_has}
 use Rattle.row_scan.proofs.Lower.{first_lawful, each_entry, sound_after, wait_made, step_made}
 

@@ -1,7 +1,7 @@
 -- Turn by turn a whole scan is made.
 use Rattle.std.proofs.Common.{List, [], ◌∷◌, ◌++◌, sym, subst, append_assoc}
 use Rattle.std.proofs.lemmas.List.{append-nil}
-use Rattle.cell_model.specs.declared.cells.Found.{Found}
+use Rattle.cell_model.specs.declared.row.Found.{Found}
 use Rattle.cell_model.specs.declared.events.Placed.{Placed}
 use Rattle.row_scan.specs.Scans.{Left, AreOther, Wanting, Scanned}
 use Rattle.row_scan.specs.Scans.Scanned.{ended, found, other, skipped}

@@ -1,6 +1,6 @@
 -- A whole scan gives every row that was there when it began.
-use Rattle.std.proofs.Common.{◌≡◌, ◌⊎◌, inl, inr, ℕ, ◌+◌, ◌-◌, ◌≤◌, ◌<◌, Bool, true, false, List, [], ◌∷◌, length, refl, sym, ap, subst, ◌∙◌, arith, rules}
-use Rattle.std.specs.Prelude.{Option, None, Some, AllPairs, Contains, IsTrue, nat_le, if◌then◌else◌}
+use Rattle.std.proofs.Common.{◌≡◌, ◌⊎◌, inl, inr, ℕ, ◌-◌, ◌≤◌, ◌<◌, false, List, [], ◌∷◌, length, refl, sym, ap, subst, ◌∙◌, arith}
+use Rattle.std.specs.Prelude.{Option, None, Some, AllPairs, Contains, IsTrue}
 use Rattle.std.specs.declared.cmp.Ordering.{Ordering}
 use Rattle.std.specs.declared.cmp.Ordering.TheVariants.{Less, Equal, Greater}
 use Rattle.std.specs.Ordering.{is_lt, ordering_reverse}
@@ -8,39 +8,27 @@ use Rattle.std.specs.Cmp.Lexicographic.{nat_list_cmp_total}
 use Rattle.std.proofs.lemmas.List.Kept.{AllPairs-cons}
 use Rattle.std.proofs.lemmas.Bool.{false≢true}
 use Rattle.row_key.specs.declared.tables.Table.TheVariants.{Points}
-use Rattle.cell_model.specs.declared.cells.Row.{Row}
-use Rattle.cell_model.specs.declared.cells.Found.{Found}
+use Rattle.cell_model.specs.declared.row.Row.{Row}
+use Rattle.cell_model.specs.declared.row.Found.{Found}
 use Rattle.cell_model.specs.declared.events.Reply.TheVariants.{Next}
 use Rattle.cell_model.specs.declared.events.Placed.{Placed}
-use Rattle.cell_model.specs.Store.{bytes_cmp, is_between, value_at, cells_of, next_row_of}
+use Rattle.list_lemmas.specs.BytesOrder.{bytes_cmp}
+use Rattle.cell_model.specs.Store.{is_between, value_at, cells_of, next_row_of}
 use Rattle.cell_model.specs.Machine.{reply_of}
-use Rattle.cell_model.specs.History.{History, len, first, store_after, entry_at}
-use Rattle.cell_model.specs.History.History.{Base, Then}
+use Rattle.cell_model.specs.History.{History, first, store_after, entry_at}
+use Rattle.cell_model.specs.History.History.{Then}
 use Rattle.cell_model.specs.Lawful.{IsLawful, HadCell}
-use Rattle.cell_model.specs.Laws.{Kept}
+use Rattle.cell_laws.specs.Laws.{Kept}
 use Rattle.cell_model.specs.Deeds.{InOrder, before_first}
 use Rattle.row_scan.specs.Scans.{Left, IsNext, IsRowOf, behind, Wanting, IsWanted, Skips, Scanned, HasCell}
 use Rattle.row_scan.specs.Scans.Scanned.{ended, found, other, skipped}
 use Rattle.row_scan.specs.Laws.{ScanIsWhole}
-use Rattle.row_scan.proofs.Bytes.{less_behind, less_or_not, from_on_from_on, below_from_on, below_behind, not_back}
-use Rattle.row_scan.proofs.Lower.{all_of}
+use Rattle.list_lemmas.proofs.OrderedBytes.{less_behind, less_or_not, from_on_from_on, below_from_on, below_behind, not_back}
+use Rattle.row_scan.proofs.Lower.{first_first, all_of, first_lawful, each_entry, Begins, whole, longer, here, there, split, not_in, pairs_in, entry_at-more, had_cell, keep, begins_first}
 use Rattle.row_scan.proofs.NextRow.{Between, between, between_is, next_cells, next_none, next_least, next_has}
 use Rattle.row_scan.proofs.Turning.{HasKey, found_key}
-use Rattle.row_scan.proofs.Lower.{first_lawful, each_entry, Begins, whole, longer, here, there, split, not_in, pairs_in, entry_at-more, had_cell, keep, begins_first}
 
 -- ---- rows are kept
-
-first_first : (n m : ℕ) (h : History) → n ≤ m → first n (first m h) ≡ first n h
-first_first n m (Base base) le = refl
-first_first n m (Then h e) le = at (nat_le (len h + 1) m) refl (first_first n m h le)
-  where
-    at : (b : Bool) → nat_le (len h + 1) m ≡ b → first n (first m h) ≡ first n h → first n (if b then Then h e else first m h) ≡ first n (Then h e)
-    at true t go = refl
-    at false t go = inner (nat_le (len h + 1) n) refl
-      where
-        inner : (b : Bool) → nat_le (len h + 1) n ≡ b → first n (first m h) ≡ (if b then Then h e else first n h)
-        inner true u = let up : len h + 1 ≤ n = search (rules, u) in let down : m < len h + 1 = search (rules, t) in absurd (omega (arith, up, down, le))
-        inner false u = go
 
 pub begins_firsts : (n m : ℕ) (h : History) → n ≤ m → Begins (first n h) (first m h)
 begins_firsts n m h le = subst (λ x. Begins x (first m h)) (first_first n m h le) (begins_first n (first m h))

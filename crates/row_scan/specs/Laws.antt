@@ -1,17 +1,18 @@
 -- Laws of whole scans, over every lawful history.
 use Rattle.std.specs.Prelude.{◌≡◌, ◌↔◌, ℕ, ◌≤◌, Bool, List, [], ◌∷◌, ◌++◌, length, AllPairs, Contains, None, Some, Ok}
 use Rattle.std.specs.declared.cmp.Ordering.TheVariants.{Less}
-use Rattle.cell_model.specs.declared.cells.Row.{Row}
-use Rattle.cell_model.specs.declared.cells.Found.{Found}
+use Rattle.cell_model.specs.declared.row.Row.{Row}
+use Rattle.cell_model.specs.declared.row.Found.{Found}
 use Rattle.cell_model.specs.declared.events.Placed.{Placed}
-use Rattle.cell_model.specs.Store.{bytes_cmp, cells_of}
+use Rattle.list_lemmas.specs.BytesOrder.{bytes_cmp}
+use Rattle.cell_model.specs.Store.{cells_of}
 use Rattle.cell_model.specs.History.{History, first, store_after}
-use Rattle.cell_model.specs.Ids.{name_of}
+use Rattle.cell_model.specs.IdRows.{name_of}
 use Rattle.cell_model.specs.Lawful.{IsLawful}
 use Rattle.cell_model.specs.Readings.{Reading}
 use Rattle.cell_model.specs.Deeds.{InOrder, before_first}
 use Rattle.row_scan.specs.Scans.{Left, IsRowOf, IsStart, left_at, behind, TurnMade, AreOther, Wanting, IsWanted, Skips, Scanned, Scanning, HasCell}
-use Rattle.row_scan.specs.Shown.{ShowsRow, BySeries, AsksWithin, AsksOfWanted, NoClash, OwnCovers}
+use Rattle.row_scan.specs.RowReadings.{ShowsRow, BySeries, AsksWithin, AsksOfWanted, NoConflict, OwnCovers}
 
 -- the row was found with the cells that it had between these lengths
 pub record WasFound (h : History) (start end : ℕ) (f : Found) : Type 0 where
@@ -44,11 +45,11 @@ abbrev pub ScanShows : Type 0
 ScanShows = (wants : Wanting) (h : History) (end : ℕ) (left : Left) (own : List Placed) (founds : List Found) → IsLawful h → InOrder h end own → Scanned wants left own founds
     → (f : Found) → ShowsRow own f ↔ Contains founds f
 
--- a whole scan that shows no clash covers what is asked for, whatever was put, merged and dropped meanwhile
+-- a whole scan that shows no conflict covers what is asked for, whatever was put, merged and dropped meanwhile
 abbrev pub ScanCovers : Type 0
 ScanCovers = (wants : Wanting) (h : History) (end metric first_base last_base : ℕ) (left : Left) (own : List Placed) (founds : List Found) (asked : Reading → Bool)
     → IsLawful h → InOrder h end own → IsStart metric first_base last_base left → Scanned wants left own founds
-    → BySeries asked → AsksWithin asked (first end h) metric first_base last_base → AsksOfWanted wants asked (first end h) → NoClash (name_of (first end h)) asked own → OwnCovers asked own end h
+    → BySeries asked → AsksWithin asked (first end h) metric first_base last_base → AsksOfWanted wants asked (first end h) → NoConflict (name_of (first end h)) asked own → OwnCovers asked own end h
 
 -- where no turn was made yet, all is left
 abbrev pub ScanBegins : Type 0

@@ -4,14 +4,15 @@ use Rattle.std.specs.Ordering.{is_lt}
 use Rattle.row_key.specs.declared.tables.Table.TheVariants.{Points}
 use Rattle.row_key.specs.declared.keys.RowKey.{RowKey}
 use Rattle.row_key.specs.Key.{IsKey, key_bytes}
-use Rattle.cell_model.specs.declared.cells.Row.{Row}
-use Rattle.cell_model.specs.declared.cells.Found.{Found}
+use Rattle.cell_model.specs.declared.row.Row.{Row}
+use Rattle.cell_model.specs.declared.row.Found.{Found}
 use Rattle.cell_model.specs.declared.events.Step.{Step}
 use Rattle.cell_model.specs.declared.events.Step.TheVariants.{NextRow}
 use Rattle.cell_model.specs.declared.events.Reply.TheVariants.{Next}
 use Rattle.cell_model.specs.declared.events.Placed.{Placed}
 use Rattle.cell_model.specs.declared.answers.RowsFault.{RowsFault}
-use Rattle.cell_model.specs.Store.{Store, value_at, bytes_cmp, is_between}
+use Rattle.cell_model.specs.Store.{Store, value_at, is_between}
+use Rattle.list_lemmas.specs.BytesOrder.{bytes_cmp}
 use Rattle.cell_model.specs.Readings.{point_row}
 pub use Rattle.cell_model.specs.Deeds.{MadeSo}
 

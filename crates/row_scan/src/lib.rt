@@ -2,10 +2,10 @@
 #![tactic(auto)]
 
 pub mod laws;
-pub mod points;
+pub mod merged_points;
 pub mod scan;
 #[cfg(test)]
 mod tests;
 
-pub use points::row_points;
+pub use merged_points::row_points;
 pub use scan::Scan;

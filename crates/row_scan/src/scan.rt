@@ -3,14 +3,16 @@ ghost use Rattle.std.specs.Prelude.{◌≡◌, ◌++◌, ◌∷◌, [], ◌≤�
 ghost use Rattle.std.specs.Ordering.{is_lt};
 ghost use Rattle.row_key.specs.Key.{IsKey, hour_bytes, key_bytes};
 ghost use Rattle.cell_model.specs.Ranges.{SameMetric};
-ghost use Rattle.cell_model.specs.Seen.{IsPossible, RoseIfStopped};
-ghost use Rattle.cell_model.specs.Store.{bytes_cmp};
+ghost use Rattle.cell_model.specs.Seen.{IsPossible};
+ghost use Rattle.cell_model.specs.Stops.{is_stop};
+ghost use Rattle.cell_model.specs.Calls.{Leaves};
+ghost use Rattle.list_lemmas.specs.BytesOrder.{bytes_cmp};
 ghost use Rattle.row_scan.specs.Scans.{IsStart, Left, MadeSo, TurnMade, after_turn, left_at};
 
 use arrayvec::ArrayVec;
 use cell_model::{Found, Rows, RowsFault};
 use qual_codec::Bytes;
-use row_key::{RowKey, Table, write_key};
+use row_key::{MOST_IDS, RowKey, Table, write_key};
 use std::alloc::Global;
 use std::marker::Model;
 
@@ -59,7 +61,7 @@ fn held(bytes: &[u8]) -> ArrayVec<u8, LONGEST_START>
 impl Scan {
     /// A scan over the rows of a metric in the hours that begin at the seconds from `first_base` to `last_base`, both included.
     pub fn start(metric: u32, first_base: u32, last_base: u32) -> Scan
-        ensures { metric ≤ 16777215 → IsStart metric first_base last_base result }
+        ensures { metric ≤ MOST_IDS → IsStart metric first_base last_base result }
     {
         // A second behind the last hour will do: the next hour may have no number.
         let end = last_base.saturating_add(1);
@@ -100,10 +102,8 @@ impl Scan {
     pub fn turn<R: Rows>(&mut self, alloc: Global, rows: &mut R) -> Result<Option<Found>, RowsFault>
         ensures made { MadeSo (R.seen rows.old) (TurnMade self.old result) (R.seen rows.new) }
         ensures left { self.new ≡ after_turn self.old result }
-        ensures possible { OnOk result (IsPossible (R.seen rows.new)) }
         ensures lives { OnErr result (IsPossible (R.seen rows.old) → IsPossible (R.seen rows.new)) }
-        ensures grows { R.stops rows.old ≤ R.stops rows.new }
-        ensures stopped { IfErr result (RoseIfStopped (R.stops rows.old) (R.stops rows.new)) }
+        ensures leaves { Leaves is_stop result (R.seen rows.new) (R.stops rows.old) (R.stops rows.new) }
         ensures spare { OnOk result (2 ≤ R.spare rows.new) }
     {
         let Ok(from) = Bytes::of(alloc, self.from.as_slice()) else {

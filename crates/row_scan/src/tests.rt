@@ -1,5 +1,5 @@
 ghost use Rattle.std.specs.Prelude.{◌≡◌, true, All, IfOk, OnOk};
-ghost use Rattle.qual_codec.specs.Dots.{Reads};
+ghost use Rattle.qual_codec.specs.CellDots.{Reads};
 ghost use Rattle.cell_model.specs.Rising.{IsAboveCells};
 
 use crate::row_points;

@@ -1,1 +1,1 @@
-pub mod Queries
+pub mod CaseQueries

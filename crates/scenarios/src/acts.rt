@@ -1,14 +1,14 @@
 //! What other callers do, in words.
 
-use case_readers::cells::tell_hex;
+use case_readers::cell_cases::tell_hex;
 use case_readers::text::{Bad, bytes, first_word, hex, kind, name, small};
 use cell_model::{Bumped, Cells, Claimed, Found, Row};
 use qual_codec::Bytes;
-use row_key::Table;
+use row_key::{Table, id_bytes};
 use scripted_rows::act::{Act, Acted};
 use std::alloc::Global;
 use tsd_base::kinds::Kind;
-use tsd_base::reading::read_point;
+use tsd_base::point_text::read_point;
 use uid_table::Assigned;
 
 /// Bytes of hexadecimal digits.
@@ -25,10 +25,9 @@ fn qualifier(kind: Kind) -> Bytes {
     }
 }
 
-/// The three bytes of an id.
-fn id_bytes(word: &str) -> Result<Bytes, Bad> {
-    let [_, high, middle, low] = small(word)?.to_be_bytes();
-    Ok(Bytes::short(&[high, middle, low]))
+/// The three bytes of an id in decimal digits.
+fn bytes_of_id(word: &str) -> Result<Bytes, Bad> {
+    Ok(Bytes::short(&id_bytes(small(word)?)))
 }
 
 /// The row of words: `ids NAME`, `names ID` or `points HEX`.
@@ -40,7 +39,7 @@ fn row(alloc: Global, table: &str, word: &str) -> Result<Row, Bad> {
         }),
         "names" => Ok(Row {
             table: Table::Names,
-            bytes: id_bytes(word)?,
+            bytes: bytes_of_id(word)?,
         }),
         "points" => Ok(Row {
             table: Table::Points,
@@ -57,7 +56,7 @@ fn claim(alloc: Global, text: &str) -> Result<Act, Bad> {
     let (kind_word, value) = first_word(text);
     let value = match table {
         "names" => Bytes::of(alloc, value.as_bytes())?,
-        "ids" => id_bytes(value)?,
+        "ids" => bytes_of_id(value)?,
         _ => return Err(Bad::Line("no table of names and ids")),
     };
     Ok(Act::Claim {

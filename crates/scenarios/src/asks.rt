@@ -1,16 +1,16 @@
 //! Queries over a store.
 ghost use Rattle.std.specs.Prelude.{All, IfOk};
-ghost use Rattle.query_run.specs.Queries.{CanDown};
-ghost use Rattle.scenarios.specs.Queries.{IsAsked};
+ghost use Rattle.query_run.specs.AskedQueries.{CanDown};
+ghost use Rattle.scenarios.specs.CaseQueries.{IsAsked};
 
-use case_readers::points::tell_bytes;
-use case_readers::queries::option_ms;
+use case_readers::point_cases::tell_bytes;
+use case_readers::query_cases::option_ms;
 use case_readers::text::{Bad, first_word, number};
 use json_reply::reply::reply_text;
 use query_run::{AskFault, ask};
 use query_text::queries::{Query, SubList};
 use query_text::subs::read_m;
-use scripted_rows::rows::Scripted;
+use scripted_rows::scripted::Scripted;
 use std::alloc::Global;
 use tsd_base::times::LAST_TIME;
 use uid_table::Uids;

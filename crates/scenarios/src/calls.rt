@@ -4,18 +4,18 @@ ghost use Rattle.std.specs.Prelude.{◌≤◌};
 use crate::acts::{tell_assigned, tell_found};
 use crate::asks::asked;
 use crate::compactions;
-use case_readers::cells::tell_hex;
-use case_readers::points::tell_bytes;
+use case_readers::cell_cases::tell_hex;
+use case_readers::point_cases::tell_bytes;
 use case_readers::text::{Bad, bytes, first_word, kind, name, small};
 use cell_model::answers::RowsFault;
 use compactor::Queue;
 use point_put::{Config, PutFault, put};
 use row_scan::Scan;
-use scripted_rows::rows::Scripted;
+use scripted_rows::scripted::Scripted;
 use std::alloc::Global;
 use tsd_base::kinds::Kind;
 use tsd_base::names::Name;
-use tsd_base::reading::read_point;
+use tsd_base::point_text::read_point;
 use uid_table::{AssignFault, ResolveFault, Uids};
 
 /// How many rows a scan tells at most.

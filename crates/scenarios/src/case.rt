@@ -1,8 +1,8 @@
 //! The blocks of a file, one after the other.
 
+use crate::case_lines::{Block, Line, add, joined};
 use crate::report::Report;
-use crate::script::{Block, Line, add, joined};
-use crate::{runs, store};
+use crate::{run_cases, store_case};
 use case_readers::readers::read;
 use case_readers::text::Bad;
 use std::alloc::Global;
@@ -23,12 +23,15 @@ fn do_case(
     head: &Line,
     report: &mut Report,
 ) -> Result<(), Bad> {
-    if lines.iter().any(|line| line.verb.as_str() == "run") {
+    if lines
+        .iter()
+        .any(|line| line.verb.as_str().starts_with("run"))
+    {
         let all = joined(alloc, setup, lines)?;
-        runs::case(alloc, all.as_slice(), report)?;
+        run_cases::case(alloc, all.as_slice(), report)?;
         report.end_case(head)
     } else {
-        store::case(alloc, setup, lines, head, report)
+        store_case::case(alloc, setup, lines, head, report)
     }
 }
 

@@ -2,14 +2,14 @@
 ghost use Rattle.std.specs.Prelude.{◌≡◌, IfOk};
 ghost use Rattle.row_key.specs.declared.tables.Table.TheVariants.{Points};
 
-use case_readers::cells::tell_hex;
+use case_readers::cell_cases::tell_hex;
 use case_readers::text::{Bad, first_word, hex, small};
 use cell_model::answers::{RowsFault, Stored};
-use cell_model::cells::Row;
+use cell_model::row::Row;
 use compactor::{CompactFault, Compacted, Queue, compact_row, drain};
 use qual_codec::Bytes;
 use row_key::Table;
-use scripted_rows::rows::Scripted;
+use scripted_rows::scripted::Scripted;
 use std::alloc::Global;
 use uid_table::Uids;
 

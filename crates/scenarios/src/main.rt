@@ -5,11 +5,11 @@ mod acts;
 mod asks;
 mod calls;
 mod case;
+mod case_lines;
 mod compactions;
 mod report;
-mod runs;
-mod script;
-mod store;
+mod run_cases;
+mod store_case;
 
 use crate::case::do_file;
 use anyhow::{Context, Result, anyhow};

@@ -1,6 +1,6 @@
 //! What differs from what is wanted.
 
-use crate::script::Line;
+use crate::case_lines::Line;
 use case_readers::text::{Bad, bytes};
 use std::alloc::Global;
 

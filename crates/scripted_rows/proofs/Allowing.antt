@@ -7,9 +7,9 @@ use Rattle.std.specs.Prelude.{Contains, slice_index_or, Option, None, Some, IfSo
 use Rattle.row_key.specs.declared.tables.Table.TheVariants.{Points}
 use Rattle.qual_codec.specs.declared.cells.Dot.{Dot}
 use Rattle.qual_codec.specs.declared.cells.Item.{Item}
-use Rattle.qual_codec.specs.Dots.{IsDots, items_of}
+use Rattle.qual_codec.specs.CellDots.{IsDots, items_of}
 use Rattle.qual_codec.specs.Order.{IsAsGood, IsBelow}
-use Rattle.cell_model.specs.declared.cells.Row.{Row}
+use Rattle.cell_model.specs.declared.row.Row.{Row}
 use Rattle.cell_model.specs.Lawful.{MergedBasis, DropBasis}
 use Rattle.cell_model.specs.Store.{same_bytes}
 use Rattle.cell_model.specs.Seen.{Seen, KnowsCell}
@@ -17,7 +17,7 @@ use Rattle.scripted_rows.specs.declared.fact.Fact.{Fact}
 use Rattle.scripted_rows.specs.declared.fact.Fact.TheVariants.{Cell}
 use Rattle.scripted_rows.specs.Facts.{AllHold}
 use Rattle.scripted_rows.specs.Merges.{AllWithin, StandsIn, HasAbove, AllBelow}
-use Rattle.scripted_rows.proofs.Lower.{in_none, from_map, into_map}
+use Rattle.list_lemmas.proofs.ListMembers.{not_in, map_in, in_map}
 use Rattle.scripted_rows.proofs.Holding.{shown_known, last_or_before}
 
 at_or_below : (k i : ℕ) → k < i + 1 → (k ≡ i) ⊎ (k < i)
@@ -50,8 +50,8 @@ below qual above v w low high other r s all = record {
     reads = r.items;
     others_read = s.items;
     each = λ i c.
-        let m = from_map (λ (d : Dot). d.item) low i c in
-        (i, subst (λ (j : Item). Contains (items_of high) j) m.2 (into_map (λ (d : Dot). d.item) high m.0 (all m.0 m.1)), as_good i);
+        let m = map_in (λ (d : Dot). d.item) low i c in
+        (i, subst (λ (j : Item). Contains (items_of high) j) m.2 (in_map (λ (d : Dot). d.item) high m.0 (all m.0 m.1)), as_good i);
   };
   differ = other;
 }
@@ -74,7 +74,7 @@ pub drop_known : (s : Seen) (facts : List Fact) (row : Row) (which : List (List 
 drop_known s facts row which all points below = record { in_points = points; each = λ d c. let x = below d c in (x.above, x.value, shown_known s facts row x.above x.value all x.shown, x.below) }
 
 pub none_below : (facts : List Fact) (row : Row) (which : List (List ℕ × ℕ)) → which ≡ [] → AllBelow facts row which
-none_below facts row which is = subst (AllBelow facts row) (sym is) (λ d c. absurd (in_none d c))
+none_below facts row which is = subst (AllBelow facts row) (sym is) (λ d c. absurd (not_in d c))
 
 -- a fact has one qualifier
 pub cell_qual : (fact : Fact) (row other : Row) (qual more value held : List ℕ) (version read : Option ℕ) → fact ≡ Cell row qual value version → fact ≡ Cell other more held read → qual ≡ more

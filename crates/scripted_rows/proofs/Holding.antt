@@ -9,8 +9,8 @@ use Rattle.std.specs.Prelude.{Contains, Option, None, Some, if◌then◌else◌}
 use Rattle.qual_codec.specs.declared.cells.Cell.{Cell as RowCell}
 use Rattle.tsd_base.specs.declared.kinds.Kind.{Kind}
 use Rattle.tsd_base.specs.Points.{DataPoint}
-use Rattle.cell_model.specs.declared.cells.Row.{Row}
-use Rattle.cell_model.specs.declared.cells.Found.{Found}
+use Rattle.cell_model.specs.declared.row.Row.{Row}
+use Rattle.cell_model.specs.declared.row.Found.{Found}
 use Rattle.row_key.specs.declared.tables.Table.{Table}
 use Rattle.cell_model.specs.declared.answers.Bumped.{Bumped}
 use Rattle.cell_model.specs.declared.answers.Bumped.TheVariants.{Full, Given as GivenId}
@@ -25,18 +25,18 @@ use Rattle.cell_model.specs.Seen.Shows.{by_read, by_next, by_claim, by_held, by_
 use Rattle.scripted_rows.specs.declared.fact.Fact.{Fact}
 use Rattle.scripted_rows.specs.declared.fact.Fact.TheVariants.{Cell, Claim, Given}
 use Rattle.scripted_rows.specs.Facts.{Holds, AllHold, IsShown, ShowsAll, ShowsClaim, ShowsFound, ShowsBump}
-use Rattle.scripted_rows.proofs.Lower.{in_none, at_front, behind, front_or_behind}
+use Rattle.list_lemmas.proofs.ListMembers.{not_in, here, there as behind, split}
 
 pub nothing_holds : (s : Seen) → AllHold s []
-nothing_holds s f c = absurd (in_none f c)
+nothing_holds s f c = absurd (not_in f c)
 
 -- what is in a list with one more is that one, or was there before
 pub last_or_before : {X : Type 0} (xs : List X) (x y : X) → Contains (xs ++ x ∷ []) y → (x ≡ y) ⊎ Contains xs y
-last_or_before [] x y c = front_or_behind x y [] c
-last_or_before {X = X} (z ∷ xs) x y c = at (front_or_behind z y (xs ++ x ∷ []) c) (last_or_before xs x y)
+last_or_before [] x y c = split x y [] c
+last_or_before {X = X} (z ∷ xs) x y c = at (split z y (xs ++ x ∷ []) c) (last_or_before xs x y)
   where
     at : (z ≡ y) ⊎ Contains (xs ++ x ∷ []) y → (Contains (xs ++ x ∷ []) y → (x ≡ y) ⊎ Contains xs y) → (x ≡ y) ⊎ Contains (z ∷ xs) y
-    at (inl same) go = inr (subst (λ (w : X). Contains (z ∷ xs) w) same (at_front z xs))
+    at (inl same) go = inr (subst (λ (w : X). Contains (z ∷ xs) w) same (here z xs))
     at (inr more) go = elim (go more) [ inl same ↦ inl same | inr before ↦ inr (behind z y xs before) ]
 
 -- and one more

@@ -1,4 +1,3 @@
-mod Lower
 mod Holding
 mod Passing
 mod Allowing

@@ -11,19 +11,20 @@ use Rattle.std.specs.FinMap.{find, get-from_entries}
 use Rattle.tsd_base.specs.declared.kinds.Kind.{Kind}
 use Rattle.row_key.specs.declared.tables.Table.{Table}
 use Rattle.row_key.specs.declared.tables.Table.TheVariants.{Ids, Points}
-use Rattle.cell_model.specs.declared.cells.Row.{Row}
-use Rattle.cell_model.specs.declared.cells.ListLine.{ListLine}
+use Rattle.cell_model.specs.declared.row.Row.{Row}
+use Rattle.cell_model.specs.declared.row.ListLine.{ListLine}
 use Rattle.cell_model.specs.declared.events.Place.{Place}
 use Rattle.cell_model.specs.declared.events.Content.{Content}
 use Rattle.cell_model.specs.Store.{Store, place_cmp, place_of, content_at, value_at}
 use Rattle.cell_model.specs.Machine.{kind_qual, counter_row, counter_of}
-use Rattle.cell_model.specs.Ids.{name_row, reverse_row}
+use Rattle.cell_model.specs.IdRows.{name_row, reverse_row}
 use Rattle.cell_model.specs.Rising.{place_of_line}
 use Rattle.cell_model.specs.Listed.{entry_of_line, store_of}
 use Rattle.cell_model.specs.Sound.{IsBase, IsCounter}
 use Rattle.map_body.specs.Whole.{HasNoFlaw}
 use Rattle.scripted_rows.specs.Bases.{IsSoundIn, IsSoundLine}
-use Rattle.scripted_rows.proofs.Lower.{at_front, behind, places_total, exact_places}
+use Rattle.list_lemmas.proofs.ListMembers.{here, there as behind}
+use Rattle.cell_model.proofs.CallerLemmas.{places_total, exact_places}
 
 no_some : {A : Type 0} (x : A) → None ≢ Some x
 no_some x e = cc
@@ -49,7 +50,7 @@ find_line (l ∷ lines) p c is = at (eq_by_cmp place_cmp p (place_of_line l)) re
   where
     at : (b : Bool) → eq_by_cmp place_cmp p (place_of_line l) ≡ b → cond b (Some (entry_of_line l).1) (find place_cmp p (map entry_of_line lines)) ≡ Some c
         → (find place_cmp p (map entry_of_line lines) ≡ Some c → IsLine lines p c) → IsLine (l ∷ lines) p c
-    at true same is go = record { line = l; among = at_front l lines; place_is = same_place p (place_of_line l) same; content_is = let e : (entry_of_line l).1 ≡ c = cc in sym e }
+    at true same is go = record { line = l; among = here l lines; place_is = same_place p (place_of_line l) same; content_is = let e : (entry_of_line l).1 ≡ c = cc in sym e }
     at false other is go = let x = go is in record { line = x.line; among = behind l x.line lines x.among; place_is = x.place_is; content_is = x.content_is }
 
 stands_in : (lines : List ListLine) (row : Row) (qual : List ℕ) (c : Content) → content_at (store_of lines) row qual ≡ Some c → IsLine lines (place_of row qual) c

@@ -1,37 +1,29 @@
--- What a step of another caller is to caller 1, and what it still knows behind it.
+-- What a step of another caller is to caller 1, and what it still knows there it.
 use Rattle.std.proofs.Common.{◌≡◌, ◌⊎◌, inl, inr, ℕ, ◌+◌, ◌≤◌, Bool, false, List, refl, sym, ap, subst, ◌∙◌, arith}
 use Rattle.std.proofs.lemmas.Bool.{false≢true}
-use Rattle.std.specs.Prelude.{Contains, nat_eq, Result, Ok, Err, IsOk, IfOk, OnOk, OnErr, IfErr}
+use Rattle.std.specs.Prelude.{Contains, nat_eq, Result, Ok, Err, IsOk, IfOk, OnOk, OnErr}
 use Rattle.row_key.specs.declared.tables.Table.{Table}
 use Rattle.row_key.specs.declared.tables.Table.TheVariants.{Ids, Names, Points}
 use Rattle.tsd_base.specs.Points.{DataPoint}
-use Rattle.cell_model.specs.declared.cells.Row.{Row}
-use Rattle.cell_model.specs.declared.answers.RowsFault.{RowsFault}
-use Rattle.cell_model.specs.declared.answers.RowsFault.TheVariants.{OutOfMemory}
+use Rattle.cell_model.specs.declared.row.Row.{Row}
 use Rattle.cell_model.specs.declared.events.Step.{Step}
 use Rattle.cell_model.specs.declared.events.Step.TheVariants.{Claim, PutPoint, PutMerged, DropCells}
 use Rattle.cell_model.specs.declared.events.Reply.{Reply}
 use Rattle.cell_model.specs.declared.events.Entry.{Entry}
 use Rattle.cell_model.specs.declared.events.Placed.{Placed}
 use Rattle.cell_model.specs.History.{History, len}
-use Rattle.cell_model.specs.History.History.{Base, Then}
+use Rattle.cell_model.specs.History.History.{Then}
 use Rattle.cell_model.specs.Lawful.{ClaimBasis, given}
-use Rattle.cell_model.specs.Seen.{Seen, Saw, IsOwn, Waited, Stepped, IsPossible, Knows, RoseIfStopped}
+use Rattle.cell_model.specs.Seen.{Seen, Saw, IsOwn, Waited, Stepped, IsPossible, Knows}
 use Rattle.cell_solo.specs.Turns.{Play, all_placed, whole_seen, history_of, sight, Steps, Stays}
 use Rattle.scripted_rows.specs.declared.fact.Fact.{Fact}
 use Rattle.scripted_rows.specs.Facts.{AllHold}
 use Rattle.scripted_rows.specs.Sharing.{IsSharing, IsOneStep, Passes}
 use Rattle.scripted_rows.specs.Sharing.IsOneStep.{none, one}
-use Rattle.scripted_rows.proofs.Lower.{behind, front_or_behind, in_none}
+use Rattle.list_lemmas.proofs.ListMembers.{there, split, not_in}
+use Rattle.cell_laws.proofs.CallerLemmas.{nothing_waited, own_after, bounded}
+use Rattle.cell_solo.proofs.CallerLemmas.{placed_at}
 use Rattle.scripted_rows.proofs.Holding.{cell_kept, all_kept}
-
-pub waits_none : (s : Seen) → Waited s s
-waits_none s = record { base = refl; caller = refl; absorbed = refl; length = omega arith; kept = λ place e saw. saw; no_own = λ place e saw own. saw; alone = refl; still = λ a. refl }
-
--- what is one caller's in one sight is so in another of the same caller
-own_too : (a b : Seen) (caller : ℕ) → b.caller ≡ a.caller → b.absorbed ≡ a.absorbed → IsOwn a caller → IsOwn b caller
-own_too a b caller c l (inl is) = inl (is ∙ sym c)
-own_too a b caller c l (inr has) = inr (subst (λ (x : List ℕ). Contains x caller) (sym l) has)
 
 pub waits_join : (a b c : Seen) → Waited a b → Waited b c → Waited a c
 waits_join a b c v w = record {
@@ -40,7 +32,7 @@ waits_join a b c v w = record {
   absorbed = w.absorbed ∙ v.absorbed;
   length = let m = v.length in let n = w.length in omega (arith, m, n);
   kept = λ place e saw. w.kept place e (v.kept place e saw);
-  no_own = λ place e saw own. v.no_own place e (w.no_own place e saw (own_too a b e.caller v.caller v.absorbed own)) own;
+  no_own = λ place e saw own. v.no_own place e (w.no_own place e saw (own_after a b v.caller v.absorbed e.caller own)) own;
   alone = w.alone ∙ v.alone;
   still = λ is. w.still (v.alone ∙ is) ∙ v.still is;
 }
@@ -54,7 +46,7 @@ wait_step a b c step reply w s = record {
   length = let m = w.length in let n = s.length in omega (arith, m, n);
   kept = λ place e saw. s.kept place e (w.kept place e saw);
   stepped = subst (λ (n : ℕ). Saw c c.length (record { caller = n; step = step; reply = reply })) w.caller s.stepped;
-  no_own = λ place e saw own other. w.no_own place e (s.no_own place e saw (own_too a b e.caller w.caller w.absorbed own) other) own;
+  no_own = λ place e saw own other. w.no_own place e (s.no_own place e saw (own_after a b w.caller w.absorbed e.caller own) other) own;
   alone = s.alone ∙ w.alone;
   next = λ is. s.next (w.alone ∙ is) ∙ ap (λ (n : ℕ). n + 1) (w.still is);
 }
@@ -71,7 +63,7 @@ basis_waits a b Names row qual value w k = record {
 basis_waits a b Ids row qual value w k = record { who = k.who; reversed = (k.reversed.0, w.kept k.reversed.0 _ k.reversed.1) }
 basis_waits a b Points row qual value w k = k
 
--- a step that was known to be allowed is so behind others' steps
+-- a step that was known to be allowed is so there others' steps
 pub claim_waits : (a b : Seen) (row : Row) (qual value : List ℕ) → Waited a b → Knows a (Claim row qual value) → Knows b (Claim row qual value)
 claim_waits a b row qual value w k = basis_waits a b row.table row.bytes qual value w k
 
@@ -95,14 +87,6 @@ merge_waits a b row qual value w k = record {
 pub drop_waits : (a b : Seen) (row : Row) (which : List (List ℕ × ℕ)) → Waited a b → Knows a (DropCells row which) → Knows b (DropCells row which)
 drop_waits a b row which w k = record { in_points = k.in_points; each = λ d c. let was = k.each d c in (was.0, was.1, cell_kept a b _ _ _ w.kept was.2, was.3) }
 
-within : (h : History) (p : Placed) → Contains (all_placed h) p → p.place ≤ len h
-within (Base base) p c = absurd (in_none p c)
-within (Then h e) p c = at (front_or_behind _ p (all_placed h) c) (within h p)
-  where
-    at : (◌≡◌ {A = Placed} (record { place = len h + 1; entry = e }) p) ⊎ Contains (all_placed h) p → (Contains (all_placed h) p → p.place ≤ len h) → p.place ≤ len h + 1
-    at (inl same) go = subst (λ (q : Placed). q.place ≤ len h + 1) same (omega arith)
-    at (inr has) go = let le = go has in omega (arith, le)
-
 -- an entry of another caller
 other_waits : (h : History) (e : Entry) (alone : Bool) → alone ≡ false → (e.caller ≡ 1 → ⊥) → Waited (whole_seen h 1 alone) (whole_seen (Then h e) 1 alone)
 other_waits h e alone some other = record {
@@ -110,20 +94,20 @@ other_waits h e alone some other = record {
   caller = refl;
   absorbed = refl;
   length = omega arith;
-  kept = λ place e saw. (let le = saw.0 in omega (arith, le), behind _ _ (all_placed h) saw.1);
-  no_own = λ place x saw own. older place x own (front_or_behind _ _ (all_placed h) saw.1);
+  kept = λ place e saw. (let le = saw.0 in omega (arith, le), there _ _ (all_placed h) saw.1);
+  no_own = λ place x saw own. older place x own (split _ _ (all_placed h) saw.1);
   alone = refl;
   still = λ is. absurd (false≢true (sym some ∙ is));
 }
   where
     not_own : (x : Entry) → e ≡ x → IsOwn (whole_seen h 1 alone) x.caller → ⊥
     not_own x same (inl is) = other (ap (λ (y : Entry). y.caller) same ∙ is)
-    not_own x same (inr has) = in_none x.caller has
+    not_own x same (inr has) = not_in x.caller has
 
     older : (place : ℕ) (x : Entry) → IsOwn (whole_seen h 1 alone) x.caller → (◌≡◌ {A = Placed} (record { place = len h + 1; entry = e }) (record { place = place; entry = x })) ⊎ Contains (all_placed h) (record { place = place; entry = x })
         → Saw (whole_seen h 1 alone) place x
     older place x own (inl same) = absurd (not_own x (ap (λ (p : Placed). p.entry) same) own)
-    older place x own (inr has) = (within h (record { place = place; entry = x }) has, has)
+    older place x own (inr has) = (bounded h place x (placed_at h place x has), has)
 
 -- what caller 1 sees in its turn
 first_sight : (p : Play) → p.caller ≡ 1 → sight p ≡ whole_seen (history_of p) 1 (nat_eq p.callers 1)
@@ -131,7 +115,7 @@ first_sight p is = ap (λ (n : ℕ). whole_seen (history_of p) n (nat_eq p.calle
 
 -- a turn of another caller, with one step or none, between turns of caller 1
 turn_waits : (old b : Play) (caller : ℕ) → old.callers ≡ 4 → 2 ≤ caller → IsOneStep (record old { caller = caller }) b → Waited (whole_seen (history_of old) 1 (nat_eq old.callers 1)) (whole_seen (history_of b) 1 (nat_eq b.callers 1))
-turn_waits old b caller four some (none stays) = subst (λ (p : Play). Waited (whole_seen (history_of old) 1 (nat_eq old.callers 1)) (whole_seen (history_of p) 1 (nat_eq p.callers 1))) (sym stays) (waits_none (whole_seen (history_of old) 1 (nat_eq old.callers 1)))
+turn_waits old b caller four some (none stays) = subst (λ (p : Play). Waited (whole_seen (history_of old) 1 (nat_eq old.callers 1)) (whole_seen (history_of p) 1 (nat_eq p.callers 1))) (sym stays) (nothing_waited (whole_seen (history_of old) 1 (nat_eq old.callers 1)))
 turn_waits old b caller four some (one steps) =
     subst (λ (x : History × ℕ). Waited (whole_seen (history_of old) 1 (nat_eq old.callers 1)) (whole_seen x.0 1 (nat_eq x.1 1))) (λ i. (sym steps.history i, sym steps.callers i))
     (other_waits (history_of old) _ (nat_eq old.callers 1) (ap (λ (n : ℕ). nat_eq n 1) four) (λ is. omega (arith, is, some)))
@@ -145,33 +129,14 @@ in_turn old a b new caller first four some turned step back possible = record {
 }
 
 pub passes_none : (p : Play) → p.caller ≡ 1 → Passes p p
-passes_none p first = record { first = first; waits = waits_none (sight p); lives = λ was. was }
+passes_none p first = record { first = first; waits = nothing_waited (sight p); lives = λ was. was }
 
 pub passes_join : (a b c : Play) → Passes a b → Passes b c → Passes a c
 passes_join a b c x y = record { first = y.first; waits = waits_join (sight a) (sight b) (sight c) x.waits y.waits; lives = λ was. y.lives (x.lives was) }
 
 -- the turn of caller 1, whose turn it is
 pub own_turn : (old new : Play) → old.caller ≡ 1 → new ≡ record old { caller = 1 } → Waited (sight old) (sight new)
-own_turn old new is turned = subst (λ (p : Play). Waited (sight old) (sight p)) (sym turned) (subst (λ (n : ℕ). Waited (sight old) (sight (record old { caller = n }))) is (waits_none (sight old)))
-
--- what stays as it was has waited
-pub stay_waits : (old new : Play) → Stays old new → Waited (sight old) (sight new)
-stay_waits old new stays = subst (λ (p : Play). Waited (sight old) (sight p)) (sym stays) (waits_none (sight old))
-
-pub stay_lives : (old new : Play) → Stays old new → IsPossible (sight old) → IsPossible (sight new)
-stay_lives old new stays p = subst (λ (q : Play). IsPossible (sight q)) (sym stays) p
-
-pub stopped_never : (fault : RowsFault) → fault ≡ OutOfMemory → RoseIfStopped 0 0 fault
-stopped_never fault is = subst (RoseIfStopped 0 0) (sym is) tt
-
--- what holds of each outcome follows for it
-pub on_ok : {T E : Type 0} (r : Result T E) {P Q : Type 0} → (P → Q) → OnOk r P → OnOk r Q
-on_ok (Ok v) f p = f p
-on_ok (Err e) f p = p
-
-pub if_err : {T E : Type 0} (r : Result T E) {P Q : E → Type 0} → ((e : E) → P e → Q e) → IfErr r P → IfErr r Q
-if_err (Ok v) f p = p
-if_err (Err e) f p = f e p
+own_turn old new is turned = subst (λ (p : Play). Waited (sight old) (sight p)) (sym turned) (subst (λ (n : ℕ). Waited (sight old) (sight (record old { caller = n }))) is (nothing_waited (sight old)))
 
 pub from_ok : {T E Q : Type 0} {P : T → Type 0} (r : Result T E) → IsOk r → ((x : T) → P x → Q) → IfOk r P → Q
 from_ok (Ok x) is f p = f x p

@@ -2,17 +2,18 @@
 use Rattle.std.proofs.Common.{◌≡◌, ◌⊎◌, inl, inr, ℕ, ◌≤◌, ◌%◌, List, [], ◌∷◌, length, refl, sym, ap, subst, ◌∙◌, arith}
 use Rattle.std.specs.Prelude.{Contains, AllPairs, ◌<◌}
 use Rattle.std.proofs.lemmas.List.Elements.{All-contains_itself}
+use Rattle.row_key.specs.declared.hours.TheConstants.{HOUR_MILLIS}
 use Rattle.tsd_base.specs.declared.kinds.Kind.{Kind}
 use Rattle.tsd_base.specs.declared.kinds.Kind.TheVariants.{Metric, TagKey, TagValue}
 use Rattle.tsd_base.specs.TagList.{Pair}
 use Rattle.tsd_base.specs.Points.{DataPoint}
 use Rattle.row_key.specs.declared.keys.RowKey.{RowKey}
 use Rattle.row_key.specs.Key.{IsKey, IsId, key_bytes}
-use Rattle.qual_codec.specs.Dots.{IsDots}
+use Rattle.qual_codec.specs.CellDots.{IsDots}
 use Rattle.qual_codec.specs.Spelling.{IsShortest, dot_of}
-use Rattle.cell_model.specs.declared.cells.Row.{Row}
+use Rattle.cell_model.specs.declared.row.Row.{Row}
 use Rattle.cell_model.specs.Machine.{kind_qual, MOST_IDS}
-use Rattle.cell_model.specs.Ids.{name_row, id_bytes}
+use Rattle.cell_model.specs.IdRows.{name_row, id_bytes}
 use Rattle.cell_model.specs.Layout.{HasKey, names_of}
 use Rattle.cell_model.specs.Lawful.{PointBasis}
 use Rattle.cell_model.specs.Readings.{point_row}
@@ -20,7 +21,7 @@ use Rattle.cell_model.specs.Seen.{Seen, KnowsCell}
 use Rattle.scripted_rows.specs.declared.fact.Fact.{Fact}
 use Rattle.scripted_rows.specs.Facts.{AllHold, IsShown}
 use Rattle.scripted_rows.specs.Puts.{ShowsKey}
-use Rattle.scripted_rows.proofs.Lower.{at_front, front_or_behind, in_none}
+use Rattle.list_lemmas.proofs.ListMembers.{here, split, not_in}
 use Rattle.scripted_rows.proofs.Holding.{shown_known}
 
 -- the ids of a kind's one name
@@ -42,31 +43,31 @@ is_key facts p key k = record {
   where
     one : (i : ℕ × ℕ) → (k.tags.ids ≡ i) ⊎ Contains [] i → IsId i.0 × IsId i.1
     one i (inl same) = subst (λ (j : ℕ × ℕ). IsId j.0 × IsId j.1) same (k.tags.shows.0.is_id, k.tags.shows.1.is_id)
-    one i (inr none) = absurd (in_none i none)
+    one i (inr none) = absurd (not_in i none)
 
     each : (i : ℕ × ℕ) → Contains key.pairs.items i → IsId i.0 × IsId i.1
-    each i c = one i (front_or_behind k.tags.ids i [] (subst (λ (x : List (ℕ × ℕ)). Contains x i) k.tags.pairs_are c))
+    each i c = one i (split k.tags.ids i [] (subst (λ (x : List (ℕ × ℕ)). Contains x i) k.tags.pairs_are c))
 
 -- each name of the point has the id of its kind
 resolved : (Has : Kind → List ℕ → ℕ → Type 0) (metric : ℕ) (ids : ℕ × ℕ) (name : List ℕ) (tag : Pair) → Has Metric name metric → Has TagKey tag.0 ids.0 → Has TagValue tag.1 ids.1
     → (kind : Kind) (n : List ℕ) → Contains {X = Kind × List ℕ} ((Metric, name) ∷ (TagKey, tag.0) ∷ (TagValue, tag.1) ∷ []) (kind, n) → Has kind n (by_kind metric ids kind n)
 unfolding by_kind
-resolved Has metric ids name tag m k v kind n c = first (front_or_behind (Metric, name) (kind, n) ((TagKey, tag.0) ∷ (TagValue, tag.1) ∷ []) c)
+resolved Has metric ids name tag m k v kind n c = first (split (Metric, name) (kind, n) ((TagKey, tag.0) ∷ (TagValue, tag.1) ∷ []) c)
   where
     Holds : Kind × List ℕ → Type 0
     Holds x = Has x.0 x.1 (by_kind metric ids x.0 x.1)
 
     third : (◌≡◌ {A = Kind × List ℕ} (TagValue, tag.1) (kind, n)) ⊎ Contains {X = Kind × List ℕ} [] (kind, n) → Holds (kind, n)
     third (inl same) = subst Holds same v
-    third (inr none) = absurd (in_none (kind, n) none)
+    third (inr none) = absurd (not_in (kind, n) none)
 
     second : (◌≡◌ {A = Kind × List ℕ} (TagKey, tag.0) (kind, n)) ⊎ Contains {X = Kind × List ℕ} ((TagValue, tag.1) ∷ []) (kind, n) → Holds (kind, n)
     second (inl same) = subst Holds same k
-    second (inr more) = third (front_or_behind (TagValue, tag.1) (kind, n) [] more)
+    second (inr more) = third (split (TagValue, tag.1) (kind, n) [] more)
 
     first : (◌≡◌ {A = Kind × List ℕ} (Metric, name) (kind, n)) ⊎ Contains {X = Kind × List ℕ} ((TagKey, tag.0) ∷ (TagValue, tag.1) ∷ []) (kind, n) → Holds (kind, n)
     first (inl same) = subst Holds same m
-    first (inr more) = second (front_or_behind (TagKey, tag.0) (kind, n) ((TagValue, tag.1) ∷ []) more)
+    first (inr more) = second (split (TagKey, tag.0) (kind, n) ((TagValue, tag.1) ∷ []) more)
 
 -- an id of the name was seen
 abbrev Seen_id : Seen → Kind → List ℕ → ℕ → Type 0
@@ -79,16 +80,16 @@ has_key facts p key k = record {
   metric = refl;
   base = k.base;
   count = ap length k.tags.pairs_are ∙ sym (ap length k.tags.tags_are);
-  each_tag = λ t c. subst (λ (x : List (ℕ × ℕ)). Contains x (k.tags.ids.0, k.tags.ids.1)) (sym k.tags.pairs_are) (at_front k.tags.ids []);
-  each_pair = λ i c. (k.tags.tag, subst (λ (x : List Pair). Contains x k.tags.tag) (sym k.tags.tags_are) (at_front k.tags.tag []), only i (front_or_behind k.tags.ids i [] (subst (λ (x : List (ℕ × ℕ)). Contains x i) k.tags.pairs_are c)));
+  each_tag = λ t c. subst (λ (x : List (ℕ × ℕ)). Contains x (k.tags.ids.0, k.tags.ids.1)) (sym k.tags.pairs_are) (here k.tags.ids []);
+  each_pair = λ i c. (k.tags.tag, subst (λ (x : List Pair). Contains x k.tags.tag) (sym k.tags.tags_are) (here k.tags.tag []), only i (split k.tags.ids i [] (subst (λ (x : List (ℕ × ℕ)). Contains x i) k.tags.pairs_are c)));
 }
   where
     only : (i : ℕ × ℕ) → (k.tags.ids ≡ i) ⊎ Contains [] i → (k.tags.ids.0, k.tags.ids.1) ≡ i
     only i (inl same) = same
-    only i (inr none) = absurd (in_none i none)
+    only i (inr none) = absurd (not_in i none)
 
 -- the cell with the key's row, and the shortest value, is known to be allowed
-pub put_known : (s : Seen) (facts : List Fact) (p : DataPoint) (key : RowKey) (row : Row) (qual value list : List ℕ) → AllHold s facts → ShowsKey facts p key → list ≡ value → row ≡ point_row (key_bytes key) → IsDots qual list (dot_of (p.time % 3600000) p.fine p.value (length list) ∷ []) → IsShortest p.value value
+pub put_known : (s : Seen) (facts : List Fact) (p : DataPoint) (key : RowKey) (row : Row) (qual value list : List ℕ) → AllHold s facts → ShowsKey facts p key → list ≡ value → row ≡ point_row (key_bytes key) → IsDots qual list (dot_of (p.time % HOUR_MILLIS) p.fine p.value (length list) ∷ []) → IsShortest p.value value
     → PointBasis (Seen_id s) p row qual value
 put_known s facts p key row qual value list all k same row_is dot shortest = record {
   is_point = k.is_point;
@@ -101,7 +102,7 @@ put_known s facts p key row qual value list all k same row_is dot shortest = rec
     key = key;
     has = has_key facts p key k;
     row_is = ap (λ (r : Row). r.bytes) row_is;
-    dot = subst (λ (v : List ℕ). IsDots qual v (dot_of (p.time % 3600000) p.fine p.value (length v) ∷ [])) same dot;
+    dot = subst (λ (v : List ℕ). IsDots qual v (dot_of (p.time % HOUR_MILLIS) p.fine p.value (length v) ∷ [])) same dot;
     shortest = shortest;
   };
 }

@@ -2,7 +2,7 @@
 use Rattle.std.specs.Prelude.{◌≡◌, ◌≢◌, ℕ, List, [], ◌∷◌}
 use Rattle.row_key.specs.declared.tables.Table.{Table}
 use Rattle.row_key.specs.declared.tables.Table.TheVariants.{Ids, Names, Points}
-use Rattle.cell_model.specs.declared.cells.ListLine.{ListLine}
+use Rattle.cell_model.specs.declared.row.ListLine.{ListLine}
 use Rattle.cell_model.specs.Listed.{store_of}
 use Rattle.cell_model.specs.Sound.{IsCounter, IsForward, IsReverse}
 

@@ -1,9 +1,9 @@
 -- What the entries of a history showed, as it is kept to tell which steps are allowed.
 use Rattle.std.specs.Prelude.{◌≡◌, ℕ, List, Option, None, Some, Contains}
 use Rattle.qual_codec.specs.declared.cells.Cell.{Cell as RowCell}
-use Rattle.cell_model.specs.declared.cells.Row.{Row}
+use Rattle.cell_model.specs.declared.row.Row.{Row}
 use Rattle.tsd_base.specs.declared.kinds.Kind.{Kind}
-use Rattle.cell_model.specs.declared.cells.Found.{Found}
+use Rattle.cell_model.specs.declared.row.Found.{Found}
 use Rattle.cell_model.specs.declared.answers.Bumped.{Bumped}
 use Rattle.cell_model.specs.declared.answers.Bumped.TheVariants.{Full, Given as GivenId}
 use Rattle.cell_model.specs.declared.answers.Claimed.{Claimed as Reply}

@@ -1,9 +1,9 @@
 -- What facts show of the data points of a row.
 use Rattle.std.specs.Prelude.{ℕ, List, Contains}
 use Rattle.qual_codec.specs.declared.cells.Dot.{Dot}
-use Rattle.qual_codec.specs.Dots.{IsDots}
+use Rattle.qual_codec.specs.CellDots.{IsDots}
 use Rattle.qual_codec.specs.Order.{IsBelow}
-use Rattle.cell_model.specs.declared.cells.Row.{Row}
+use Rattle.cell_model.specs.declared.row.Row.{Row}
 use Rattle.scripted_rows.specs.declared.fact.Fact.{Fact}
 use Rattle.scripted_rows.specs.Facts.{ShowsValue, IsShown}
 

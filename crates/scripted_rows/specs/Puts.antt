@@ -7,7 +7,7 @@ use Rattle.tsd_base.specs.Points.{DataPoint}
 use Rattle.row_key.specs.declared.keys.RowKey.{RowKey}
 use Rattle.row_key.specs.Key.{IsId}
 use Rattle.cell_model.specs.Machine.{kind_qual}
-use Rattle.cell_model.specs.Ids.{name_row, id_bytes}
+use Rattle.cell_model.specs.IdRows.{name_row, id_bytes}
 use Rattle.cell_model.specs.Layout.{IsPoint, base_time}
 use Rattle.scripted_rows.specs.declared.fact.Fact.{Fact}
 use Rattle.scripted_rows.specs.Facts.{IsShown}

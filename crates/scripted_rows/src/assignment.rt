@@ -3,8 +3,8 @@ ghost use Rattle.scripted_rows.specs.Sharing.{IsOneStep};
 
 use crate::act::Acted;
 use crate::claim::{bytes_of_id, id_in, qualifier};
-use crate::key::row_of_name;
-use crate::shared::Shared;
+use crate::script_key::row_of_name;
+use crate::sharing::Shared;
 use crate::step::{bump, claim, read};
 use cell_model::{Bumped, Cells, Claimed, Row};
 use qual_codec::Bytes;
@@ -42,18 +42,15 @@ fn ended(answer: Assigned) -> Came {
 
 /// Behind a read: the id that the name has, or the next stage.
 fn behind_look(cells: &Cells, kind: Kind) -> Came {
-    for i in 0..cells.len() {
-        let cell = cells.cell(i);
-        if cell.qual == qualifier(kind).list() {
-            return match id_in(cell.value) {
-                Some(id) => ended(Assigned::Existing { id }),
-                None => Came::End {
-                    acted: Acted::Astray,
-                },
-            };
-        }
+    let Some(value) = cells.value_at(qualifier(kind).list()) else {
+        return Came::Next { stage: Stage::Bump };
+    };
+    match id_in(value) {
+        Some(id) => ended(Assigned::Existing { id }),
+        None => Came::End {
+            acted: Acted::Astray,
+        },
     }
-    Came::Next { stage: Stage::Bump }
 }
 
 /// Behind the claim of a name with this id.

@@ -2,10 +2,10 @@
 ghost use Rattle.std.specs.Prelude.{◌≡◌, ◌≤◌, All, IfSome, IsTrue, Some};
 ghost use Rattle.std.specs.Int.{w64, to_be_bytes};
 ghost use Rattle.std.specs.Ordering.{is_eq};
-ghost use Rattle.cell_model.specs.Order.{place_cmp, table_number};
+ghost use Rattle.cell_model.specs.PlaceOrder.{place_cmp, table_number};
 ghost use Rattle.cell_model.specs.Rising.{place_of_line};
 ghost use Rattle.cell_model.specs.Listed.{store_of};
-ghost use Rattle.cell_model.specs.Ids.{id_row};
+ghost use Rattle.cell_model.specs.IdRows.{id_row};
 ghost use Rattle.cell_model.specs.Machine.{counter_of};
 ghost use Rattle.cell_model.specs.Sound.{IsBase, IsCounter, IsForward, IsReverse};
 ghost use Rattle.cell_model.specs.Store.{value_at};
@@ -13,11 +13,11 @@ ghost use Rattle.map_body.specs.Whole.{HasNoFlaw};
 ghost use Rattle.scripted_rows.specs.Bases.{IsSoundLine};
 
 use crate::claim::{bytes_of_id, id_in, is_name, kind_of, qualifier};
-use crate::shared::{CALLERS, Shared};
+use crate::sharing::{CALLERS, Shared};
 use cell_model::{ListLine, Listing};
 use cell_solo::Solo;
 use map_body::MapBody;
-use row_key::Table;
+use row_key::{MOST_IDS, Table};
 use std::alloc::{AllocError, Global};
 use tsd_base::kinds::Kind;
 
@@ -83,7 +83,7 @@ fn is_counter(line: &ListLine) -> bool
     ensures { IsTrue result → IsCounter line.now.qual line.now.value }
 {
     match (kind_of(line.qual.list()), number_in(line.value.list())) {
-        (Some(_), Some(number)) => 1 <= number && number <= 16_777_215,
+        (Some(_), Some(number)) => 1 <= number && number <= u64::from(MOST_IDS),
         _ => false,
     }
 }

@@ -3,7 +3,7 @@ ghost use Rattle.std.specs.Prelude.{◌≡◌, ℕ, IfSome, IsTrue};
 ghost use Rattle.tsd_base.specs.Alphabet.{IsName};
 ghost use Rattle.row_key.specs.declared.tables.Table.TheVariants.{Ids, Names};
 ghost use Rattle.cell_model.specs.Machine.{kind_qual};
-ghost use Rattle.cell_model.specs.Ids.{id_bytes};
+ghost use Rattle.cell_model.specs.IdRows.{id_bytes};
 ghost use Rattle.cell_model.specs.Lawful.{ClaimBasis};
 ghost use Rattle.cell_model.specs.Seen.{Seen, Saw};
 ghost use Rattle.scripted_rows.specs.Facts.{AllHold};
@@ -12,13 +12,10 @@ ghost use Rattle.scripted_rows.specs.Puts.{IsBytesOf};
 use crate::fact::{Fact, was_claimed, was_given};
 use cell_model::Row;
 use qual_codec::Bytes;
-use row_key::Table;
+use row_key::{MOST_IDS, Table, id_bytes};
 use std::alloc::Global;
 use tsd_base::kinds::Kind;
 use tsd_base::names::Name;
-
-/// The greatest id.
-const MOST_IDS: u32 = 16_777_215;
 
 /// The qualifier of a kind.
 pub fn qualifier(kind: Kind) -> Bytes
@@ -57,8 +54,7 @@ pub fn kind_of(qual: &[u8]) -> Option<Kind>
 pub fn bytes_of_id(id: u32) -> Bytes
     ensures { result ≡ id_bytes id }
 {
-    let [_, high, middle, low] = id.to_be_bytes();
-    Bytes::short(&[high, middle, low])
+    Bytes::short(&id_bytes(id))
 }
 
 /// The number in three bytes.

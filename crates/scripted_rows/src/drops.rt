@@ -1,14 +1,14 @@
 //! Drops of cells that others of their row stand above.
 ghost use Rattle.std.specs.Prelude.{◌≡◌, ℕ, List, IfOk, IfSome, IsTrue};
 ghost use Rattle.row_key.specs.declared.tables.Table.TheVariants.{Points};
-ghost use Rattle.qual_codec.specs.Dots.{IsDots};
+ghost use Rattle.qual_codec.specs.CellDots.{IsDots};
 ghost use Rattle.cell_model.specs.Lawful.{DropBasis};
 ghost use Rattle.cell_model.specs.Seen.{Seen, KnowsCell};
 ghost use Rattle.scripted_rows.specs.Facts.{AllHold};
 ghost use Rattle.scripted_rows.specs.Merges.{AllBelow, HasAbove, ShowsAbove};
 
 use crate::fact::{Fact, last_value, last_version};
-use crate::merge::{all_within, dots_in, is_points};
+use crate::merge_step::{all_within, dots_in, is_points};
 use cell_model::{Drops, Row};
 use qual_codec::{Bytes, Dot, read_cell};
 use std::alloc::{AllocError, Global};

@@ -1,6 +1,5 @@
 //! What the entries of a history showed.
-ghost use Rattle.std.specs.Prelude.{◌≡◌, IfSome, IsTrue, Contains, Some};
-ghost use Rattle.cell_model.specs.Store.{value_among};
+ghost use Rattle.std.specs.Prelude.{◌≡◌, IfSome, IsTrue, Contains};
 ghost use Rattle.cell_model.specs.Seen.{Seen, KnowsCell};
 ghost use Rattle.scripted_rows.specs.declared.fact.Fact.TheVariants.{Claim, Given};
 ghost use Rattle.scripted_rows.specs.Facts.{AllHold, Holds, IsShown, ShowsValue, ShowsAll, ShowsBump, ShowsClaim, ShowsFound};
@@ -153,26 +152,13 @@ pub fn note_cell(
     );
 }
 
-/// The value at a qualifier of cells.
-fn value_at<'a>(cells: &'a Cells, qual: &[u8]) -> Option<&'a [u8]>
-    ensures { IfSome result (λ value. value_among cells.now qual.now ≡ Some value.now) }
-{
-    for i in 0..cells.len() {
-        let cell = cells.cell(i);
-        if cell.qual == qual {
-            return Some(cell.value);
-        }
-    }
-    None
-}
-
 /// Notes the cells that a row was read with, where there is memory for them.
 pub fn note_cells(facts: &mut Vec<Fact>, alloc: Global, row: &Row, cells: &Cells)
     ensures { (s : Seen) → AllHold s facts.old.items → ShowsAll s row.now cells.now → AllHold s facts.new.items }
 {
     for i in 0..cells.len() {
         let cell = cells.cell(i);
-        if let Some(value) = value_at(cells, cell.qual) {
+        if let Some(value) = cells.value_at(cell.qual) {
             note_cell(facts, alloc, row, cell.qual, value, Some(cell.version));
         }
     }

@@ -4,7 +4,7 @@ ghost use Rattle.scripted_rows.specs.Sharing.{IsOneStep, Passes};
 
 use crate::act::{Act, Acted};
 use crate::assignment::{Came, Stage, advance};
-use crate::shared::{CALLERS, Shared};
+use crate::sharing::{CALLERS, Shared};
 use crate::step::{bump, claim, drop_cells, find, merge, put, read};
 use std::alloc::{AllocError, Global};
 

@@ -6,7 +6,8 @@ use Rattle.std.specs.Cmp.{nat_cmp_is}
 use Rattle.std.specs.Ordering.{nat_cmp, ordering_then}
 use Rattle.std.specs.declared.cmp.Ordering.{Ordering}
 use Rattle.std.specs.declared.cmp.Ordering.TheVariants.{Less, Equal, Greater}
-use Rattle.short_bytes.proofs.Words.{bytes_cmp, then_assoc}
+use Rattle.list_lemmas.specs.BytesOrder.{bytes_cmp}
+use Rattle.list_lemmas.proofs.OrderedBytes.{then_assoc}
 
 suc_cmp : (m n : ℕ) → nat_cmp (suc m) (suc n) ≡ nat_cmp m n
 suc_cmp m n = at (nat_cmp m n) refl

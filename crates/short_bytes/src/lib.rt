@@ -2,7 +2,7 @@
 #![tactic(auto)]
 
 mod blocks;
-pub mod compared;
+pub mod comparison;
 pub mod short;
 #[cfg(test)]
 mod tests;

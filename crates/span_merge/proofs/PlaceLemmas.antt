@@ -1,10 +1,9 @@
 -- Series before and behind a place.
-use Rattle.std.proofs.Common.{◌≡◌, suc, ◌≢◌, ◌⊎◌, inl, inr, ℕ, ℤ, ◌+◌, ◌-◌, ◌<◌, ◌≤◌, List, [], ◌∷◌, ◌++◌, length, map, reverse, refl, sym, ap, subst, ◌∙◌, slice_index_or, slice_set, arith}
+use Rattle.std.proofs.Common.{◌≡◌, ◌≢◌, ◌⊎◌, inl, inr, ℕ, ℤ, ◌+◌, ◌-◌, ◌<◌, ◌≤◌, List, [], ◌∷◌, ◌++◌, length, map, reverse, refl, sym, ap, subst, ◌∙◌, slice_index_or, slice_set, arith}
 use Rattle.std.specs.Prelude.{All, Option, None, Some, slice_get, unwrap_or, take, cond, option_map, OnOk, OnErr, Result, Ok, Err, IfSome}
 use Rattle.std.proofs.lemmas.List.{append_assoc, append-nil, reverse-append, map-append, get_or-reverse, get_or-append_right, take_more, take_more_set, take_all, length-set, map-set, set-get_or, length-append, length-map, length-reverse}
 use Rattle.std.proofs.lemmas.Option.{slice_get-map, slice_get-get_or, slice_get_within, get_or_from_slice_get}
-use Rattle.std.proofs.lemmas.List.Elements.{All-nil, All-cons, All-append, All-weaker}
-use Rattle.std.proofs.lemmas.List.Kept.{AllPairs-cons}
+use Rattle.std.proofs.lemmas.List.Elements.{All-nil, All-cons, All-weaker}
 use Rattle.std.proofs.lemmas.Map.Views.{All-values-insert_entry, IfSome-lookup_from_All}
 use Rattle.std.specs.Cmp.{IsTotalOrder, on_total, then_total, nat_cmp_total, alike_right, tied_back}
 use Rattle.std.specs.Cmp.Lexicographic.{lists_total}
@@ -16,7 +15,8 @@ use Rattle.std.specs.Ordering.{nat_cmp, ordering_reverse, is_eq, match_ordering}
 use Rattle.std.specs.declared.cmp.Ordering.{Ordering}
 use Rattle.std.specs.declared.cmp.Ordering.TheVariants.{Less, Equal, Greater}
 use Rattle.std.proofs.lemmas.Map.Lookups.{exact_pairs, exact_unsigned}
-use Rattle.row_key.specs.Order.{pair_cmp}
+use Rattle.tsd_base.proofs.CallerLemmas.{append_rising}
+use Rattle.row_key.specs.KeyOrder.{pair_cmp}
 use Rattle.tsd_base.specs.Dots.{IsRising, IsAboveAll}
 use Rattle.span_merge.specs.Spans.{Span, span_of, pairs_cmp, dots_of, added, AreSpans}
 use Rattle.span_merge.specs.Places.{spans_of, MovesLast, LastIsAbove, LastIsNotAbove, LastHas, LastHasNot}
@@ -313,16 +313,6 @@ in_either P None n h = n
 -- what holds of no points and of those of each series holds of those with these ids
 pub of_dots : (P : List (ℕ × ℤ) → Type 0) (spans : List Span) (k : List (ℕ × ℕ)) → P [] → All P (values_of spans) → P (dots_of spans k)
 of_dots P spans k none all = in_either P (lookup (is_at (pairs_cmp k)) spans) none (IfSome-lookup_from_All P (is_at (pairs_cmp k)) spans all)
-
-append_rising : (xs ys : List (ℕ × ℤ)) → IsRising xs → IsRising ys → All (λ d. IsAboveAll d.0 xs) ys → IsRising (xs ++ ys)
-append_rising [] ys ux uy above = uy
-append_rising (x ∷ xs) ys ux uy above =
-    AllPairs-cons (λ (p q : ℕ × ℤ). p.0 < q.0) x (xs ++ ys)
-    (All-append (λ (q : ℕ × ℤ). x.0 < q.0) xs ys
-    (λ k d lt. ux 0 (suc k) d (omega arith) (omega (arith, lt)))
-    (All-weaker (λ (d : ℕ × ℤ). IsAboveAll d.0 (x ∷ xs)) (λ (q : ℕ × ℤ). x.0 < q.0) (λ d p. p.0) ys above))
-    (append_rising xs ys (λ i j d lt within. ux (suc i) (suc j) d (omega (arith, lt)) (omega (arith, within))) uy
-    (All-weaker (λ (d : ℕ × ℤ). IsAboveAll d.0 (x ∷ xs)) (λ (d : ℕ × ℤ). IsAboveAll d.0 xs) (λ d p. p.1) ys above))
 
 -- later points behind those of a series rise
 pub joined_rise : (spans : List Span) (k : List (ℕ × ℕ)) (dots : List (ℕ × ℤ)) → AreSpans spans → IsRising dots → All (λ d. IsAboveAll d.0 (dots_of spans k)) dots → IsRising (dots_of spans k ++ dots)

@@ -5,7 +5,7 @@ use Rattle.std.specs.Cmp.Lexicographic.{slice_cmp}
 use Rattle.std.specs.List.Sorted.{IsStrictlySortedBy}
 use Rattle.std.specs.Map.{keys_of, values_of, lookup}
 use Rattle.std.specs.BTreeMap.{insert_entry, is_at}
-use Rattle.row_key.specs.Order.{pair_cmp}
+use Rattle.row_key.specs.KeyOrder.{pair_cmp}
 use Rattle.tsd_base.specs.Dots.{IsRising}
 use Rattle.span_merge.specs.declared.series.Series.{Series}
 

@@ -10,7 +10,7 @@ ghost use Rattle.span_merge.specs.Spans.{added, dots_of, pairs_cmp, span_of};
 use crate::series::{Series, append, order, series_of};
 use std::alloc::{AllocError, Global};
 use std::cmp::Ordering;
-use tsd_base::series::Dots;
+use tsd_base::dots::Dots;
 
 /// Moves the place behind the series that don't stand above these ids.
 pub(crate) fn step_forward(

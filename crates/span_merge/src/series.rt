@@ -5,7 +5,7 @@ ghost use Rattle.span_merge.specs.Spans.{pairs_cmp, span_of};
 
 use std::alloc::{AllocError, Global};
 use std::cmp::Ordering;
-use tsd_base::series::Dots;
+use tsd_base::dots::Dots;
 
 /// The points of one series, under the ids of its tags.
 #[derive(Drop)]

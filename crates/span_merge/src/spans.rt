@@ -8,7 +8,7 @@ use crate::places::{add_last, step_back, step_forward, step_to_end};
 use crate::series::Series;
 use std::alloc::{AllocError, Global};
 use std::marker::Model;
-use tsd_base::series::Dots;
+use tsd_base::dots::Dots;
 
 /// The points of series by the ids of their tags, each key's and its value's.
 ///

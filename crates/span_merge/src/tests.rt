@@ -5,7 +5,7 @@ ghost use Rattle.tsd_base.specs.Dots.{IsAboveAll};
 use crate::series::Series;
 use crate::spans::Spans;
 use std::alloc::{AllocError, Global};
-use tsd_base::series::Dots;
+use tsd_base::dots::Dots;
 
 /// Adds a point at this time, later than all, to the series of one tag with this value.
 fn add_point(spans: &mut Spans, alloc: Global, value: u32, time: u64) -> Result<(), AllocError>

@@ -7,7 +7,8 @@ use Rattle.std.proofs.lemmas.Bool.Decides.{nat_tests}
 use Rattle.std.proofs.lemmas.List.{length-drop, take-append-drop}
 use Rattle.std.proofs.lemmas.List.Folds.{list_any-append}
 use Rattle.std.proofs.Math.Seq.{drop-append-add, get_or-append_seam, take-append_seam}
-use Rattle.line_stream.specs.Lines.{EndsLine, LONGEST_LINE, has_line_end, is_too_long, lines_of, text_of, whole_line}
+use Rattle.line_stream.specs.declared.line.TheConstants.{LONGEST_LINE}
+use Rattle.line_stream.specs.Lines.{EndsLine, has_line_end, is_too_long, lines_of, text_of, whole_line}
 use Rattle.line_stream.proofs.CallerLemmas.{lines_of_front, splits_line}
 use Rattle.telnet_put.specs.Requests.{Request, closes, request_of_text, request_of_line, requests_of, through_closing}
 use Rattle.telnet_put.specs.Requests.Request.{TooLong}

@@ -1,6 +1,6 @@
 -- What is to come of a telnet session.
 use Rattle.std.specs.Prelude.{◌≡◌, ℕ, ◌+◌, ◌≤◌, true, false, List, [], ◌∷◌, ◌++◌, length, Option, None, Some, if◌then◌else◌}
-use Rattle.line_stream.specs.Lines.{LONGEST_LINE}
+use Rattle.line_stream.specs.declared.line.TheConstants.{LONGEST_LINE}
 use Rattle.telnet_put.specs.declared.telnet_command.Command.{Command}
 use Rattle.telnet_put.specs.TelnetCommands.{request_of}
 use Rattle.telnet_put.specs.Requests.{Request, closes, requests_of}

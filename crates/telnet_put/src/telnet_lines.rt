@@ -1,6 +1,7 @@
 //! Bytes that come in pieces, and the requests of their lines.
 ghost use Rattle.std.specs.Prelude.{◌≡◌, ℕ, ◌+◌, ◌≤◌, false, List, ◌++◌, length, IfOk, OnErr, OnOk};
-ghost use Rattle.line_stream.specs.Lines.{LONGEST_LINE, has_line_end};
+ghost use Rattle.line_stream.specs.declared.line.TheConstants.{LONGEST_LINE};
+ghost use Rattle.line_stream.specs.Lines.{has_line_end};
 ghost use Rattle.telnet_put.specs.Requests.{requests_of};
 ghost use Rattle.telnet_put.specs.Sessions.{ComesAs, Turns, to_come};
 

@@ -10,8 +10,8 @@ ghost use Rattle.telnet_put.specs.Requests.Request.{Put};
 use crate::telnet_command::Command;
 use line_stream::line::{LONGEST_LINE, is_blank, text_of};
 use std::alloc::{AllocError, Global};
+use tsd_base::point_text::read_point;
 use tsd_base::points::PointFault;
-use tsd_base::reading::read_point;
 use tsd_base::words::next_word;
 
 /// The command of a line that an LF ended, without its LF. None where it is blank. It fails only for want of memory.

@@ -1,8 +1,8 @@
-pub mod DotsLemmas
-pub mod EntryLemmas
-pub mod NamesLemmas
-pub mod Numerals
-pub mod Parts
-pub mod PointLemmas
-pub mod TagLemmas
-pub mod TimesLemmas
+mod DotsLemmas
+mod NamesLemmas
+mod Numerals
+mod Parts
+mod PointLemmas
+mod TagLemmas
+mod TimesLemmas
+pub mod CallerLemmas

@@ -11,12 +11,14 @@ use Rattle.std.specs.FinMap.Entries.{find, put, by_order, is_sorted, find_tied, 
 use Rattle.std.proofs.lemmas.Bool.{cases_Bool, or_from, or_left, or_right, and_from, and_left, and_right, not_from_true, not_from_false, le-ltb, lt-ltb}
 use Rattle.std.proofs.lemmas.List.{get_or_default, nil_from_length, append-nil, take-append-drop, drop_more}
 use Rattle.std.proofs.lemmas.List.Elements.{recursion_from_All}
-use Rattle.tsd_base.specs.declared.tagged.TagsFault.{TagsFault}
-use Rattle.tsd_base.specs.declared.tagged.TagsFault.TheVariants.{NoTags, TwoValues, TooManyTags, OutOfMemory}
-use Rattle.tsd_base.specs.TagList.{Pair, bytes_cmp, is_same, IsPair, IsTags, RiseByKey, StandsAt, WouldStandAt}
+use Rattle.tsd_base.specs.declared.tags.TagsFault.{TagsFault}
+use Rattle.tsd_base.specs.declared.tags.TagsFault.TheVariants.{NoTags, TwoValues, TooManyTags, OutOfMemory}
+use Rattle.tsd_base.specs.TagList.{Pair, is_same, IsPair, IsTags, RiseByKey, StandsAt, WouldStandAt}
+use Rattle.list_lemmas.specs.BytesOrder.{bytes_cmp}
 use Rattle.tsd_base.specs.TagOrder.{bytes_exact}
 use Rattle.tsd_base.specs.Tags.{contradicts, contradicted_key, distinct_pairs, counted, tags_of, Adds, Refuses, FailsTags}
-use Rattle.tsd_base.proofs.EntryLemmas.{equal, insert_entry-put, lookup-find, Each-append, AreBelow, put-between, find-between, find-behind, before-below, all_before, above_more, find-entries, entries_push, length-entries, sorted-rising, sorted_from_rising, put_again}
+use Rattle.list_lemmas.proofs.BoolTests.{is_equal}
+use Rattle.list_lemmas.proofs.EntryLemmas.{insert_entry-put, lookup-find, Each-append, AreBelow, put-between, find-between, find-behind, before-below, all_before, above_more, find-entries, entries_push, length-entries, sorted-rising, sorted_from_rising, put_again}
 
 -- ---- the place of a key
 
@@ -87,7 +89,7 @@ AreFound-put p [] sorted agrees found = tt
 AreFound-put p (q ∷ done) sorted agrees found = (
   find-put bytes_cmp nat_list_cmp_total q.0 p.0 p.1 sorted ∙ elim (cases_Bool (eq_by_cmp bytes_cmp q.0 p.0)) [
     | inl b ↦
-        let tied : find bytes_cmp p.0 sorted ≡ find bytes_cmp q.0 sorted = find_tied bytes_cmp nat_list_cmp_total q.0 p.0 (equal _ b) sorted in
+        let tied : find bytes_cmp p.0 sorted ≡ find bytes_cmp q.0 sorted = find_tied bytes_cmp nat_list_cmp_total q.0 p.0 (is_equal _ b) sorted in
         rw b (ap (λ (w : List ℕ). Some w) (sym (value_of (find bytes_cmp p.0 sorted) q.1 p.1 (tied ∙ found.0) agrees)))
     | inr b ↦ rw b found.0
   ],

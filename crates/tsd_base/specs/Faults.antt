@@ -6,8 +6,8 @@ use Rattle.tsd_base.specs.declared.names.NameFault.{NameFault}
 use Rattle.tsd_base.specs.declared.names.NameFault.TheVariants as names
 use Rattle.tsd_base.specs.declared.values.ValueFault.{ValueFault}
 use Rattle.tsd_base.specs.declared.values.ValueFault.TheVariants as values
-use Rattle.tsd_base.specs.declared.tagged.TagsFault.{TagsFault}
-use Rattle.tsd_base.specs.declared.tagged.TagsFault.TheVariants as tags
+use Rattle.tsd_base.specs.declared.tags.TagsFault.{TagsFault}
+use Rattle.tsd_base.specs.declared.tags.TagsFault.TheVariants as tags
 use Rattle.tsd_base.specs.declared.points.PointFault.{PointFault}
 use Rattle.tsd_base.specs.declared.points.PointFault.TheVariants as points
 

@@ -5,7 +5,7 @@ pub mod Faults
 pub mod Moments
 pub mod Names
 pub mod Points
-pub mod Readings
+pub mod LastPoints
 pub mod TagList
 pub mod TagOrder
 pub mod Tags

@@ -1,12 +1,12 @@
 -- Reading a point of a line.
 use Rattle.std.specs.Prelude.{◌≡◌, ℕ, ◌+◌, ◌<◌, ◌≤◌, Bool, true, List, [], ◌∷◌, length, nat_eq, Result, Ok, Err, MatchResult, if◌then◌else◌, ℤ}
 use Rattle.std.specs.List.{list_any, before_first, after_first}
-use Rattle.tsd_base.specs.declared.tagged.TagsFault.{TagsFault}
-use Rattle.tsd_base.specs.declared.tagged.TagsFault.TheVariants as tags_faults
+use Rattle.tsd_base.specs.declared.tags.TagsFault.{TagsFault}
+use Rattle.tsd_base.specs.declared.tags.TagsFault.TheVariants as tags_faults
 use Rattle.tsd_base.specs.declared.points.Point.{Point}
 use Rattle.tsd_base.specs.declared.points.PointFault.{PointFault}
 use Rattle.tsd_base.specs.declared.points.PointFault.TheVariants.{FewWords, Metric, Time, Value, TagForm, TagKey, TagValue, Tags, OutOfMemory}
-use Rattle.tsd_base.specs.declared.reading.Parts.{Parts}
+use Rattle.tsd_base.specs.declared.point_text.Parts.{Parts}
 use Rattle.tsd_base.specs.Names.{name_of}
 use Rattle.tsd_base.specs.Tags.{Pair, tags_of}
 use Rattle.tsd_base.specs.Times.{time_of}

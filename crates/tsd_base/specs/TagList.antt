@@ -1,21 +1,18 @@
 -- Tags as lists of pairs.
 use Rattle.std.specs.Prelude.{◌≡◌, ℕ, ◌<◌, ◌≤◌, Bool, ◌&&◌, nat_eq, List, length, take, drop, slice_index_or, All, AllPairs}
 use Rattle.std.specs.List.{AllByRecursion}
-use Rattle.std.specs.Ordering.{nat_cmp, on, then_cmp}
+use Rattle.std.specs.Ordering.{on, then_cmp}
 use Rattle.std.specs.Cmp.{IsTotalOrder}
 use Rattle.std.specs.Cmp.Lexicographic.{slice_cmp, pointwise}
 use Rattle.std.specs.FinMap.{IsAntisymmetric}
 use Rattle.std.specs.declared.cmp.Ordering.{Ordering}
 use Rattle.std.specs.declared.cmp.Ordering.TheVariants.{Less}
+use Rattle.list_lemmas.specs.BytesOrder.{bytes_cmp}
 use Rattle.tsd_base.specs.Alphabet.{IsName}
 
 -- a key and a value
 abbrev pub Pair : Type 0
 Pair = List ℕ × List ℕ
-
--- the order of bytes as a whole
-abbrev pub bytes_cmp : List ℕ → List ℕ → Ordering
-bytes_cmp = slice_cmp nat_cmp
 
 abbrev pub is_same : List ℕ → List ℕ → Bool
 is_same = pointwise nat_eq

@@ -6,7 +6,8 @@ use Rattle.std.specs.Ordering.{eq_by_cmp, ordering_then}
 use Rattle.std.specs.Cmp.{Equal-is, IsEquivalence, IsTotalOrder, IsPartialOrder, on_equiv, and_equiv, on_total, then_total, both_tied, po}
 use Rattle.std.specs.Cmp.Lexicographic.{lists_equiv, lists_total, lists_ties, nat_list_eq_equiv, nat_list_cmp_total, texts_ties, bytes_decides}
 use Rattle.std.specs.Hash as fed
-use Rattle.tsd_base.specs.TagList.{Pair, bytes_cmp, is_same_pair, is_same_tags, pair_cmp, tags_cmp}
+use Rattle.tsd_base.specs.TagList.{Pair, is_same_pair, is_same_tags, pair_cmp, tags_cmp}
+use Rattle.list_lemmas.specs.BytesOrder.{bytes_cmp}
 
 pub is_same_tags_equiv : IsEquivalence is_same_tags
 is_same_tags_equiv = lists_equiv (and_equiv (on_equiv (λ p. p.0) nat_list_eq_equiv) (on_equiv (λ p. p.1) nat_list_eq_equiv))

@@ -2,9 +2,10 @@
 use Rattle.std.specs.Prelude.{◌≡◌, ℕ, Bool, not, ◌&&◌, nat_lt, List, [], ◌∷◌, ◌++◌, length, Option, Some, None, Result, Ok, Err, IfSome, IsSomeAnd, MatchResult, false, if◌then◌else◌}
 use Rattle.std.specs.List.{list_any}
 use Rattle.std.specs.FinMap.{from_entries, entries, find, put}
-use Rattle.tsd_base.specs.declared.tagged.TagsFault.{TagsFault}
-use Rattle.tsd_base.specs.declared.tagged.TagsFault.TheVariants.{NoTags, TwoValues, TooManyTags, OutOfMemory}
-use Rattle.tsd_base.specs.TagList.{bytes_cmp, IsPair}
+use Rattle.tsd_base.specs.declared.tags.TagsFault.{TagsFault}
+use Rattle.tsd_base.specs.declared.tags.TagsFault.TheVariants.{NoTags, TwoValues, TooManyTags, OutOfMemory}
+use Rattle.list_lemmas.specs.BytesOrder.{bytes_cmp}
+use Rattle.tsd_base.specs.TagList.{IsPair}
 pub use Rattle.tsd_base.specs.TagList.{Pair, is_same, IsTags}
 
 -- two pairs of one key with different values

@@ -2,12 +2,12 @@
 ghost use Rattle.std.specs.Prelude.{◌≡◌, ◌<◌, ◌++◌, [], ◌∷◌, codes, decimal, OnOk};
 ghost use Rattle.tsd_base.specs.Faults.{kind_text, hex_digit, hex_byte, name_fault_text, value_fault_text, tags_fault_text, point_fault_text};
 
+use crate::decimals::write_number;
 use crate::kinds::Kind;
 use crate::names::NameFault;
 use crate::points::PointFault;
-use crate::tagged::TagsFault;
+use crate::tags::TagsFault;
 use crate::values::ValueFault;
-use itoa::Buffer;
 use std::alloc::AllocError;
 
 const OUT_OF_MEMORY: &[u8] = b"out of memory";
@@ -39,7 +39,7 @@ impl NameFault {
             NameFault::TooLong { len } => {
                 out.extend_from_slice(kind.text().as_bytes())?;
                 out.extend_from_slice(b" name has ")?;
-                write_number(*len, out)?;
+                write_number(*len as u64, out)?;
                 out.extend_from_slice(b" bytes (255 at most)")
             }
             NameFault::BadByte { at, byte } => {
@@ -78,7 +78,7 @@ impl TagsFault {
                 out.extend_from_slice(key.bytes())
             }
             TagsFault::TooManyTags { count } => {
-                write_number(*count, out)?;
+                write_number(*count as u64, out)?;
                 out.extend_from_slice(b" tags (8 at most)")
             }
             TagsFault::OutOfMemory => out.extend_from_slice(OUT_OF_MEMORY),
@@ -95,7 +95,7 @@ impl PointFault {
         match self {
             PointFault::FewWords { found } => {
                 out.extend_from_slice(b"not enough words (4 needed, ")?;
-                write_number(*found, out)?;
+                write_number(*found as u64, out)?;
                 out.extend_from_slice(b" found)")
             }
             PointFault::Metric { fault } => fault.write_text(Kind::Metric, out),
@@ -129,21 +129,14 @@ fn write_bad_byte(at: usize, byte: u8, out: &mut Vec<u8>) -> Result<(), AllocErr
     out.extend_from_slice(b" name has byte 0x")?;
     write_byte(byte, out)?;
     out.extend_from_slice(b" at ")?;
-    write_number(at, out)
+    write_number(at as u64, out)
 }
 
 fn write_tag(index: usize, out: &mut Vec<u8>) -> Result<(), AllocError>
     ensures { OnOk result (out.new.items ≡ out.old.items ++ (codes "tag " ++ decimal index)) }
 {
     out.extend_from_slice(b"tag ")?;
-    write_number(index, out)
-}
-
-fn write_number(n: usize, out: &mut Vec<u8>) -> Result<(), AllocError>
-    ensures { OnOk result (out.new.items ≡ out.old.items ++ decimal n) }
-{
-    let mut buffer = Buffer::new();
-    out.extend_from_slice(buffer.format(n).as_bytes())
+    write_number(index as u64, out)
 }
 
 /// Writes a byte in two hexadecimal digits.

@@ -1,14 +1,15 @@
 //! Names, tags, times, values and points, and the readers of their texts.
 #![tactic(auto)]
 
+pub mod decimals;
 pub mod digits;
+pub mod dots;
 pub mod faults;
 pub mod kinds;
 pub mod names;
+pub mod point_text;
 pub mod points;
-pub mod reading;
-pub mod series;
-pub mod tagged;
+pub mod tags;
 pub mod times;
 pub mod values;
 pub mod words;

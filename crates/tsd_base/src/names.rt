@@ -124,7 +124,7 @@ impl PartialEq for Name {
 
     #[inline]
     fn eq(&self, other: &Self) -> bool {
-        self.bytes() == other.bytes()
+        self.bytes == other.bytes
     }
 }
 
@@ -154,7 +154,7 @@ impl Ord for Name {
 
     #[inline]
     fn cmp(&self, other: &Self) -> Ordering {
-        self.bytes().cmp(&other.bytes())
+        self.bytes.cmp(&other.bytes)
     }
 }
 
@@ -165,7 +165,6 @@ impl Hash for Name {
 
     #[inline]
     fn hash<H: Hasher>(&self, state: &mut H) {
-        state.write(self.bytes());
-        state.write_u8(0xff);
+        self.bytes.hash(state);
     }
 }

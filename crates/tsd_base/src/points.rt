@@ -3,7 +3,7 @@ ghost use Rattle.std.specs.Prelude.{ℕ, Bool};
 ghost use Rattle.tsd_base.specs.Moments.{IsTime};
 
 use crate::names::{Name, NameFault};
-use crate::tagged::{Tags, TagsFault};
+use crate::tags::{Tags, TagsFault};
 use crate::values::ValueFault;
 
 /// A data point: a value of a series at a time.

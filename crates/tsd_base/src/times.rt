@@ -1,5 +1,5 @@
-//! Times in text, and the hour of a row.
-ghost use Rattle.std.specs.Prelude.{◌≡◌, ◌≤◌, ◌*◌, ◌/◌, length};
+//! Times in text.
+ghost use Rattle.std.specs.Prelude.{◌≡◌, length};
 ghost use Rattle.tsd_base.specs.Times.{time_of, whole_time, dotted_of, is_dotted};
 
 use crate::digits::read_digits;
@@ -29,14 +29,6 @@ pub fn read_time(text: &[u8]) -> Result<(u64, bool), BadTime>
         Some(n) => whole_time(n),
         None => Err(BadTime),
     }
-}
-
-/// The base time of the row that holds a time: its seconds rounded down to a multiple of 3600.
-pub fn base_of(time: u64) -> u32
-    requires { time ≤ 4294967295999 }
-    ensures { result ≡ time / 3600000 * 3600 }
-{
-    (time / 3_600_000 * 3600) as u32
 }
 
 /// Whether a text has the form of seconds, a dot and three digits.

@@ -1,2 +1,4 @@
 pub mod Causes
+pub mod Halts
 pub mod Memory
+pub mod Ticks

@@ -1,7 +1,9 @@
-//! Sources and sinks of bytes, in memory and over standard input and output.
+//! Sources and sinks of bytes, clocks and halts, in memory and over the system's own.
 #![tactic(auto)]
 
+pub mod clock;
 pub mod give_all;
+pub mod halt;
 pub mod memory;
 pub mod ports;
 pub mod standard;

@@ -1,12 +1,15 @@
-//! Sources and sinks over readers and writers of `std`, as standard input and output.
+//! Sources and sinks over readers and writers of `std`, as standard input and output, and the machine's clock.
 //!
-//! They tell nothing of the bytes: no proof knows what a system gives or takes.
+//! They tell nothing of the bytes and moments: no proof knows what a system gives or takes.
 ghost use Rattle.std.specs.Prelude.{◌≡◌, ◌<◌, length, None, IfOk};
 ghost use Rattle.std.specs.Io.{ReadsAtMost, WritesAtMost};
 
+use crate::clock::Clock;
 use crate::ports::{Failed, Sink, Source};
+use std::alloc::{AllocError, Global};
 use std::io::{ErrorKind, Read, Write};
 use std::marker::Model;
+use std::time::{self, SystemTime};
 
 /// A source over a reader. Its number is 0.
 ///
@@ -93,6 +96,65 @@ impl<W: Write + Drop> Sink for WriteSink<W> {
         }
         given
     }
+}
+
+/// The machine's clock.
+///
+/// Contracts see it as its count of faults.
+#[derive(Drop)]
+pub struct SystemClock<T> {
+    time: T,
+    faults: u64,
+}
+
+impl<T> Model for SystemClock<T> {
+    ghost use Rattle.std.specs.Prelude.{ℕ};
+
+    ghost Value = { ℕ };
+
+    ghost view = { λ s. s.faults };
+}
+
+impl<T: time::Clock + Copy> SystemClock<T> {
+    /// A clock over this one of `std`, as `&rt` is, which hasn't failed yet.
+    pub fn make(time: T) -> SystemClock<T>
+        ensures { result ≡ 0 }
+    {
+        SystemClock { time, faults: 0 }
+    }
+}
+
+impl<T: time::Clock + Copy> Clock for SystemClock<T> {
+    ghost moments = { λ _. None };
+
+    ghost faults = { λ faults. faults };
+
+    fn now(&mut self) -> Result<u64, Failed> {
+        let moment = millis(&self.time);
+        if moment.is_err() {
+            self.faults = self.faults.saturating_add(1);
+        }
+        moment
+    }
+
+    fn twin(&self, _alloc: Global) -> Result<SystemClock<T>, AllocError> {
+        Ok(SystemClock::make(self.time))
+    }
+
+    fn rejoin(&mut self, twin: SystemClock<T>) {
+        self.faults = self.faults.saturating_add(twin.faults);
+    }
+}
+
+/// The milliseconds since 1970. A time before it is a failure.
+fn millis<T: time::Clock>(time: &T) -> Result<u64, Failed> {
+    let Ok(now) = SystemTime::now(time) else {
+        return Err(Failed);
+    };
+    let Ok(since) = now.duration_since(SystemTime::UNIX_EPOCH) else {
+        return Err(Failed);
+    };
+    u64::try_from(since.as_millis()).map_err(|_| Failed)
 }
 
 /// Reads once, and again where the read was interrupted.

@@ -5,7 +5,8 @@ use std::alloc::AllocError;
 use std::env;
 use std::io::ErrorKind;
 use std::process::ExitCode;
-use tsd_io::standard::{ReadSource, WriteSink};
+use tsd_io::halt::MemHalt;
+use tsd_io::standard::{ReadSource, SystemClock, WriteSink};
 use tsd_run::run::run;
 use tsd_run::status::Status;
 
@@ -14,7 +15,17 @@ fn main(rt: HostRuntime) -> ExitCode {
         Ok(words) => {
             let mut input = ReadSource::make(rt.stdin());
             let mut output = WriteSink::make(rt.stdout());
-            run(rt.alloc(), &words, &mut input, &mut output)
+            let mut clock = SystemClock::make(&rt);
+            let never = MemHalt::make(Vec::new(rt.alloc()));
+            run(
+                rt.alloc(),
+                &words,
+                &mut input,
+                &mut output,
+                &mut clock,
+                never,
+            )
+            .status
         }
         Err(_) => Status::Memory,
     };

@@ -1,26 +1,26 @@
 -- Reading lines one after the other.
 use Rattle.std.proofs.Common.{◌≡◌, ℕ, ◌+◌, ◌^◌, ◌<◌, ◌≤◌, false, List, [], ◌∷◌, ◌++◌, length, take, drop, refl, sym, ap, subst, ◌∙◌, append_assoc, append-nil, add-zero, arith, cond, lt-ltb, length-append}
 use Rattle.std.specs.Prelude.{codes, Option, Some, None, Result, Ok, Err}
-use Rattle.tsd_run.specs.declared.gathered.Gathered.{Gathered}
-use Rattle.tsd_run.specs.Ids.{Names}
+use Rattle.batch_job.specs.PendingIds.{Names}
 use Rattle.tsd_run.specs.declared.input.BadLine.{BadLine}
 use Rattle.std.specs.Io.KnownBytes.{Appends, Consumes}
 use Rattle.std.proofs.KnownBytes.{Appends-nil, Consumes-nil, Appends-trans, Consumes-trans}
 use Rattle.tsd_base.specs.Points.{DataPoint}
-use Rattle.tsd_run.specs.Gathering.{Gathers}
+use Rattle.batch_job.specs.Pending.{Gathers, SoFar}
 use Rattle.tsd_base.specs.declared.kinds.Kind.{Kind}
 use Rattle.cell_model.specs.Layout.{names_of}
 use Rattle.std.specs.Prelude.{is_some}
 use Rattle.std.proofs.lemmas.Bool.{true≢false}
 use Rattle.std.proofs.lemmas.Bool.Decides.{nat_tests}
-use Rattle.tsd_run.specs.Naming.{no_names, noted_all, exhausted_text}
-use Rattle.tsd_run.specs.Gathering.{AddsPoint}
-use Rattle.tsd_run.specs.PointLines.{Judged, judged, judged_text, points_from, points_of, with_point, with_line, with_points}
-use Rattle.tsd_run.specs.PointLines.Judged.{Blank, Taken, Refused}
+use Rattle.batch_job.specs.NotedIds.{no_names, noted_all, exhausted_text}
+use Rattle.batch_job.specs.Pending.{AddsPoint}
+use Rattle.batch_job.specs.PointLines.{Judged, judged, judged_text, points_from, points_of, with_point, with_line, with_points}
+use Rattle.batch_job.specs.PointLines.Judged.{Blank, Taken, Refused}
 use Rattle.tsd_run.specs.Inputs.{IsRead, IsBad, ReadsLine, IsUnrefused, full_text, refusal}
-use Rattle.tsd_run.proofs.KnownLemmas.{ok_is}
-use Rattle.line_stream.specs.Lines.{Line, LONGEST_LINE, Splits, is_too_long, last_line, lines_of, text_of, whole_line}
-use Rattle.line_stream.specs.Readings.{Reading}
+use Rattle.batch_job.proofs.CallerLemmas.{ok_is}
+use Rattle.line_stream.specs.declared.line.TheConstants.{LONGEST_LINE}
+use Rattle.line_stream.specs.Lines.{Line, Splits, is_too_long, last_line, lines_of, text_of, whole_line}
+use Rattle.line_stream.specs.LineReadings.{Reading}
 use Rattle.line_stream.specs.Reads.{BeginsTooLong, BeginsWithLine, Finds, IsFront, NextLineIs, no_bytes, with_bytes, without_line}
 use Rattle.line_stream.specs.declared.reader.InputFault.{InputFault}
 use Rattle.line_stream.specs.declared.reader.NextLine.{NextLine}
@@ -53,19 +53,19 @@ one_behind : (number : ℕ) (lines : List Line) (line : Line) → number + lengt
 one_behind number lines line = let grown = length-append lines (line ∷ []) in omega (arith, grown)
 
 -- behind lines that were read, further ones of the bytes were
-pub record ReadsFurther (bytes rest : List ℕ) (lines : List Line) (c : Gathered) (count : ℕ) : Type 0 where
+pub record ReadsFurther (bytes rest : List ℕ) (lines : List Line) (c : SoFar) (count : ℕ) : Type 0 where
   pub more : List Line
   pub splits : Splits bytes more rest
   pub reads : IsRead (lines ++ more) c
   pub count_is : length (lines ++ more) ≡ count
 
-pub refused_behind : (lines : List Line) (c : Gathered) (line : Line) (others : List Line) (bad : BadLine) → (r : IsRead lines c) → IsBad r.gathers.names line (1 + length lines) bad → points_from 1 no_names (lines ++ line ∷ others) ≡ Err (bad.number, bad.text.items)
+pub refused_behind : (lines : List Line) (c : SoFar) (line : Line) (others : List Line) (bad : BadLine) → (r : IsRead lines c) → IsBad r.gathers.names line (1 + length lines) bad → points_from 1 no_names (lines ++ line ∷ others) ≡ Err (bad.number, bad.text.items)
 refused_behind lines c line others bad r b =
     r.first 1 (line ∷ others)
     ∙ ap (with_points r.points) (refused_line r.gathers.names (judged line) (1 + length lines) bad.text.items (λ more. points_from (1 + length lines + 1) more others) b.0)
     ∙ ap (λ n. Err (n, bad.text.items)) (sym b.1)
 
-pub blank_read : (line : Line) (number : ℕ) (c : Gathered) → judged line ≡ Blank → ReadsLine line number c c None
+pub blank_read : (line : Line) (number : ℕ) (c : SoFar) → judged line ≡ Blank → ReadsLine line number c c None
 blank_read line number c is lines r = record {
   points = r.points;
   gathers = r.gathers;
@@ -75,7 +75,7 @@ blank_read line number c is lines r = record {
       ∙ ap (λ k. with_points r.points (points_from k r.gathers.names more)) (one_behind n lines line);
 }
 
-pub point_read : (line : Line) (number : ℕ) (old new : Gathered) (p : DataPoint) → judged line ≡ Taken p → AddsPoint old p None new → ReadsLine line number old new None
+pub point_read : (line : Line) (number : ℕ) (old new : SoFar) (p : DataPoint) → judged line ≡ Taken p → AddsPoint old p None new → ReadsLine line number old new None
 point_read line number old new p is adds lines r =
     let added = adds r.points r.gathers in
     record {
@@ -89,11 +89,11 @@ point_read line number old new p is adds lines r =
           ∙ ap (λ k. with_points (r.points ++ p ∷ []) (points_from k added.0.names more)) (one_behind n lines line);
     }
 
-pub point_full : (line : Line) (old new : Gathered) (p : DataPoint) (kind : Kind) (text : List ℕ) → judged line ≡ Taken p → AddsPoint old p (Some kind) new → text ≡ exhausted_text kind → (lines : List Line) → (r : IsRead lines old) → refusal r.gathers.names (judged line) ≡ Some text
+pub point_full : (line : Line) (old new : SoFar) (p : DataPoint) (kind : Kind) (text : List ℕ) → judged line ≡ Taken p → AddsPoint old p (Some kind) new → text ≡ exhausted_text kind → (lines : List Line) → (r : IsRead lines old) → refusal r.gathers.names (judged line) ≡ Some text
 point_full line old new p kind text is adds told lines r = ap (refusal r.gathers.names) is ∙ ap full_text (adds r.points r.gathers) ∙ ap Some (sym told)
 
 -- one more line was read
-pub read_on : (bytes rest : List ℕ) (n : ℕ) (lines : List Line) (c d : Gathered) (count : ℕ) → BeginsWithLine rest n → ReadsFurther bytes rest lines c count → ReadsLine (whole_line (take n rest)) (count + 1) c d None
+pub read_on : (bytes rest : List ℕ) (n : ℕ) (lines : List Line) (c d : SoFar) (count : ℕ) → BeginsWithLine rest n → ReadsFurther bytes rest lines c count → ReadsLine (whole_line (take n rest)) (count + 1) c d None
     → ReadsFurther bytes (drop (n + 1) rest) lines d (count + 1)
 read_on bytes rest n lines c d count t f one =
     let line : Line = whole_line (take n rest) in
@@ -106,7 +106,7 @@ read_on bytes rest n lines c d count t f one =
     }
 
 -- one more line is refused
-pub refuse_on : (bytes rest : List ℕ) (n : ℕ) (c d : Gathered) (count : ℕ) (bad : BadLine) → BeginsWithLine rest n → ReadsFurther bytes rest [] c count → ReadsLine (whole_line (take n rest)) (count + 1) c d (Some bad)
+pub refuse_on : (bytes rest : List ℕ) (n : ℕ) (c d : SoFar) (count : ℕ) (bad : BadLine) → BeginsWithLine rest n → ReadsFurther bytes rest [] c count → ReadsLine (whole_line (take n rest)) (count + 1) c d (Some bad)
     → (more : List ℕ) → points_of (bytes ++ more) ≡ Err (bad.number, bad.text.items)
 refuse_on bytes rest n c d count bad t f b more =
     let line : Line = whole_line (take n rest) in
@@ -116,7 +116,7 @@ refuse_on bytes rest n c d count bad t f b more =
     ap (points_from 1 no_names) (f.splits more ∙ ap (λ ls. f.more ++ ls) (t.splits more)) ∙ refused_behind f.more c line others bad f.reads is_bad
 
 -- these bytes were taken, and all lines of them up to the bytes that aren't used up were read
-pub record HasRead (taken taken' left left' : Option (List ℕ)) (c : Gathered) (r : Reading) : Type 0 where
+pub record HasRead (taken taken' left left' : Option (List ℕ)) (c : SoFar) (r : Reading) : Type 0 where
   pub input : List ℕ
   pub takes : Appends taken taken' input
   pub leaves : Consumes left left' input
@@ -124,7 +124,7 @@ pub record HasRead (taken taken' left left' : Option (List ℕ)) (c : Gathered) 
   pub reads : ReadsFurther input r.bytes [] c r.lines
 
 -- nothing was read yet
-pub nothing_read : (taken left : Option (List ℕ)) (c : Gathered) → Gathers [] c → HasRead taken taken left left c no_bytes
+pub nothing_read : (taken left : Option (List ℕ)) (c : SoFar) → Gathers [] c → HasRead taken taken left left c no_bytes
 nothing_read taken left c empty = record {
   input = [];
   takes = Appends-nil taken;
@@ -156,7 +156,7 @@ short_judged line short = ap (λ t. cond t (Refused (codes "line too long")) (ju
     fits = grind (arith, nat_tests, short)
 
 -- the next line is too long
-pub too_long_further : (input rest : List ℕ) (count : ℕ) (c : Gathered) (bad : BadLine) → ReadsFurther input rest [] c count → BeginsTooLong rest → bad.text.items ≡ codes "line too long" → bad.number ≡ count + 1
+pub too_long_further : (input rest : List ℕ) (count : ℕ) (c : SoFar) (bad : BadLine) → ReadsFurther input rest [] c count → BeginsTooLong rest → bad.text.items ≡ codes "line too long" → bad.number ≡ count + 1
     → (more : List ℕ) → points_of (input ++ more) ≡ Err (bad.number, bad.text.items)
 too_long_further input rest count c bad f long text number more =
     let b = long more in
@@ -165,18 +165,18 @@ too_long_further input rest count c bad f long text number more =
     ∙ refused_behind f.more c b.line b.others bad f.reads (ap (refusal f.reads.gathers.names) (long_judged b.line b.long) ∙ ap Some (sym text), number ∙ omega (arith, count_is))
 
 -- further bytes were taken
-taken_further : (input rest bytes : List ℕ) (count : ℕ) (c : Gathered) → ReadsFurther input rest [] c count → ReadsFurther (input ++ bytes) (rest ++ bytes) [] c count
+taken_further : (input rest bytes : List ℕ) (count : ℕ) (c : SoFar) → ReadsFurther input rest [] c count → ReadsFurther (input ++ bytes) (rest ++ bytes) [] c count
 taken_further input rest bytes count c f = record { more = f.more; splits = splits_with input rest bytes f.more f.splits; reads = f.reads; count_is = f.count_is }
 
-pub unrefused : (input rest : List ℕ) (count : ℕ) (c : Gathered) → ReadsFurther input rest [] c count → IsFront rest → IsUnrefused input
+pub unrefused : (input rest : List ℕ) (count : ℕ) (c : SoFar) → ReadsFurther input rest [] c count → IsFront rest → IsUnrefused input
 unrefused input rest count c f front = record { lines = f.more; rest = rest; splits = f.splits; read = (f.reads.points, ap (points_from 1 no_names) (sym (append-nil f.more)) ∙ f.reads.first 1 [] ∙ ap Ok (append-nil f.reads.points)); front = front }
 
-pub record AllRead (input : List ℕ) (c : Gathered) : Type 0 where
+pub record AllRead (input : List ℕ) (c : SoFar) : Type 0 where
   pub points : List DataPoint
   pub is : points_of input ≡ Ok points
   pub gathers : Gathers points c
 
-pub all_read : (input rest : List ℕ) (count : ℕ) (c d : Gathered) → ReadsFurther input rest [] c count → IsFront rest → ReadsLine (last_line rest) (count + 1) c d None → AllRead input d
+pub all_read : (input rest : List ℕ) (count : ℕ) (c d : SoFar) → ReadsFurther input rest [] c count → IsFront rest → ReadsLine (last_line rest) (count + 1) c d None → AllRead input d
 all_read input rest count c d f front one =
     let all = one f.more f.reads in
     record {
@@ -185,14 +185,14 @@ all_read input rest count c d f front one =
       gathers = all.gathers;
     }
 
-pub last_refused : (input rest : List ℕ) (count : ℕ) (c d : Gathered) (bad : BadLine) → ReadsFurther input rest [] c count → IsFront rest → ReadsLine (last_line rest) (count + 1) c d (Some bad)
+pub last_refused : (input rest : List ℕ) (count : ℕ) (c d : SoFar) (bad : BadLine) → ReadsFurther input rest [] c count → IsFront rest → ReadsLine (last_line rest) (count + 1) c d (Some bad)
     → points_of input ≡ Err (bad.number, bad.text.items)
 last_refused input rest count c d bad f front b =
     let count_is = f.count_is in
     let told = b f.more f.reads in
     ap (points_from 1 no_names) (lines_at_end input rest f.more f.splits front.whole) ∙ refused_behind f.more c (last_line rest) [] bad f.reads (told.0, told.1 ∙ omega (arith, count_is))
 
-module _ (taken taken' taken'' left left' left'' : Option (List ℕ)) (c : Gathered) (old new : Reading) (h : HasRead taken taken' left left' c old) where
+module _ (taken taken' taken'' left left' left'' : Option (List ℕ)) (c : SoFar) (old new : Reading) (h : HasRead taken taken' left left' c old) where
   -- the next line was looked for
   pub looked_for : (result : Result NextLine InputFault) (n : NextLineIs taken' taken'' left' left'' old result new) → HasRead taken taken'' left left'' c (with_bytes old n.more)
   looked_for result n = record {
@@ -212,6 +212,6 @@ module _ (taken taken' taken'' left left' left'' : Option (List ℕ)) (c : Gathe
   )
 
 -- a line was read
-pub line_read : (taken taken' left left' : Option (List ℕ)) (c d : Gathered) (r : Reading) (end : ℕ) → HasRead taken taken' left left' c r → BeginsWithLine r.bytes end → ReadsLine (whole_line (take end r.bytes)) (r.lines + 1) c d None
+pub line_read : (taken taken' left left' : Option (List ℕ)) (c d : SoFar) (r : Reading) (end : ℕ) → HasRead taken taken' left left' c r → BeginsWithLine r.bytes end → ReadsLine (whole_line (take end r.bytes)) (r.lines + 1) c d None
     → HasRead taken taken' left left' d (without_line r end)
 line_read taken taken' left left' c d r end h t one = record { input = h.input; takes = h.takes; leaves = h.leaves; size = h.size; reads = read_on h.input r.bytes end [] c d r.lines t h.reads one }

@@ -1,34 +1,5 @@
-pub mod AnswerLemmas
-pub mod Asking
-pub mod Beginning
-pub mod Clashing
-pub mod CommandLemmas
-pub mod Entering
-pub mod FirstClashes
-pub mod FoundCells
-pub mod Follows
-pub mod GatherLemmas
-pub mod InputEnds
-pub mod InputLemmas
-pub mod Known
-pub mod KnownLemmas
-pub mod LastPoints
-pub mod Lower
-pub mod MapLemmas
-pub mod NameLemmas
-pub mod NamedPoints
-pub mod Noting
-pub mod NotedLemmas
-pub mod OneValue
-pub mod PairsOfTags
-pub mod PointRows
-pub mod Puts
-pub mod PutsStand
-pub mod QueryLemmas
-pub mod RowCells
-pub mod RunLemmas
-pub mod SeriesLemmas
-pub mod SettleLemmas
-pub mod StoredPoints
-pub mod TextLemmas
-pub mod ValueLemmas
+mod InputEnds
+mod InputLemmas
+mod QueryLemmas
+mod RunLemmas
+mod StdioLemmas

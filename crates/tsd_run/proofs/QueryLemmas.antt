@@ -6,9 +6,10 @@ use Rattle.query_text.specs.declared.queries.Query.{Query}
 use Rattle.query_text.specs.declared.queries.QueryFault.{QueryFault}
 use Rattle.query_text.specs.declared.queries.QueryFault.TheVariants.{BadM, UnknownAggregator, RateRefused, BadDownsample, BadFilter, OutOfMemory}
 use Rattle.query_text.specs.declared.queries.Sub.{Sub}
-use Rattle.query_run.specs.Queries.{CanDown}
-use Rattle.tsd_run.specs.Commands.{Batch}
-use Rattle.tsd_run.specs.Queries.{CanAsk, GivesQuery, IsQueryOf}
+use Rattle.query_run.specs.AskedQueries.{CanDown}
+use Rattle.batch_job.specs.JobAnswers.{CanAsk}
+use Rattle.command_words.specs.CommandWords.{Batch}
+use Rattle.tsd_run.specs.BatchQueries.{GivesQuery, IsQueryOf}
 
 module _ (query : Query) (batch : Batch) (s : Sub) (start : query.start ≡ batch.start * 1000) (end : query.end ≡ batch.end * 1000) (ms : query.ms ≡ batch.ms) (subs : query.subs ≡ s ∷ []) (is : sub_of batch.ms batch.query ≡ Ok s) where
   pub is_query_of : IsQueryOf query batch

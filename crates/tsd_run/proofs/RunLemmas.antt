@@ -1,6 +1,6 @@
 -- What is printed, and its status.
-use Rattle.std.proofs.Common.{◌≡◌, ◌≢◌, ⊎_elim, ℕ, ◌<◌, Bool, true, false, List, [], ◌∷◌, ◌++◌, refl, sym, ap, subst, ◌∙◌, arith}
-use Rattle.std.specs.Prelude.{Option, Some, None, Result, Ok, Err}
+use Rattle.std.proofs.Common.{◌≡◌, ◌≢◌, ⊎_elim, ℕ, ◌<◌, ◌≤◌, Bool, true, false, List, [], ◌∷◌, ◌++◌, refl, sym, ap, subst, ◌∙◌, arith, ◌+◌, add-zero}
+use Rattle.std.specs.Prelude.{Option, Some, None, Result, Ok, Err, IfOk, IfErr}
 use Rattle.std.proofs.KnownBytes.{Appends-nil, Consumes-nil}
 use Rattle.std.proofs.lemmas.Bool.{false≢true}
 use Rattle.std.specs.Io.KnownBytes.{Appends}
@@ -13,21 +13,24 @@ use Rattle.query_text.specs.declared.queries.QueryFault.TheVariants.{BadM, Unkno
 use Rattle.query_text.specs.declared.queries.Sub.{Sub}
 use Rattle.query_run.specs.declared.fault.AskFault.{AskFault}
 use Rattle.tsd_run.specs.declared.status.Status.{Status}
-use Rattle.tsd_run.specs.declared.status.Status.TheVariants.{Done, Usage, Refused, ReadFault, WriteFault, Memory, SessionFull}
+use Rattle.tsd_run.specs.declared.status.Status.TheVariants.{Done, Usage, Refused, ReadFault, WriteFault, Memory, Stopped as Halted, SessionFull}
 use Rattle.tsd_run.specs.declared.input.BadLine.{BadLine}
-use Rattle.line_stream.specs.declared.reader.InputFault.{InputFault}
-use Rattle.line_stream.specs.declared.reader.InputFault.TheVariants as fault
-use Rattle.tsd_run.specs.declared.gathered.Gathered.{Gathered}
-use Rattle.tsd_run.specs.declared.printed.Printed.{Printed}
-use Rattle.tsd_run.specs.Commands.{Batch}
-use Rattle.tsd_run.specs.Gathering.{Gathers}
+use Rattle.tsd_run.specs.declared.run_fault.RunFault.{RunFault}
+use Rattle.tsd_run.specs.declared.run_fault.RunFault.TheVariants as fault
+use Rattle.tsd_run.specs.declared.output_text.Printed.{Printed}
+use Rattle.command_words.specs.CommandWords.{Batch, Asked, asked_of}
+use Rattle.batch_job.specs.Pending.{Gathers, SoFar}
+use Rattle.batch_job.specs.JobAnswers.{GivesAnswer, answered}
+use Rattle.json_reply.specs.declared.reply.Reply.{Reply}
 use Rattle.tsd_run.specs.Inputs.{IsPointsOf, ReadsInputTo}
-use Rattle.tsd_run.specs.PointLines.{points_of}
-use Rattle.tsd_run.specs.Outcomes.{Outcome, answered, outcome, over_input, over_points, refused_line, refused_query, replied}
-use Rattle.tsd_run.specs.Printing.{outcome_of}
-use Rattle.tsd_run.specs.Queries.{GivesQuery, IsQueryOf, query_of}
-use Rattle.tsd_run.specs.QueryFaults.{query_fault_text}
-use Rattle.tsd_run.specs.Runs.{Decides, ReadsInput, Taken, Works, Answers, Runs}
+use Rattle.batch_job.specs.PointLines.{points_of}
+use Rattle.tsd_run.specs.Outcomes.{Outcome, outcome, over_input, over_points, refused_line, refused_query, replied, usage_line}
+use Rattle.tsd_run.specs.OutputText.{Tells, outcome_of}
+use Rattle.tsd_run.specs.RunFaults.{LineCause, RunCause}
+use Rattle.tsd_run.proofs.InputEnds.{line_cause}
+use Rattle.tsd_run.specs.BatchQueries.{GivesQuery, IsQueryOf, query_of}
+use Rattle.query_text.specs.QueryFaultTexts.{query_fault_text}
+use Rattle.tsd_run.specs.Runs.{Decides, ReadsInput, Taken, Works, Answers, RunsPrinted}
 
 -- a status that something printed has
 abbrev pub IsPrinted : Status → Type 0
@@ -37,6 +40,7 @@ IsPrinted Refused = Unit {0}
 IsPrinted ReadFault = ⊥
 IsPrinted WriteFault = ⊥
 IsPrinted Memory = ⊥
+IsPrinted Halted = ⊥
 IsPrinted SessionFull = ⊥
 
 replied_printed : (r : Result (List Group) AskFault) → IsPrinted (replied r).status
@@ -67,11 +71,12 @@ printed_answers command input ended output Refused p d e = d
 printed_answers command input ended output ReadFault p d e = absurd p
 printed_answers command input ended output WriteFault p d e = absurd p
 printed_answers command input ended output Memory p d e = absurd p
+printed_answers command input ended output Halted p d e = absurd p
 printed_answers command input ended output SessionFull p d e = absurd p
 
 module _ (command : Option Batch) (taken taken' left left' held held' : Option (List ℕ)) where
   -- all was printed
-  pub runs_printed : (printed : Printed) → Works command taken taken' left left' (Ok printed) → Appends held held' printed.text.items → Runs command taken taken' left left' held held' printed.status
+  pub runs_printed : (printed : Printed) → Works command taken taken' left left' (Ok printed) → Appends held held' printed.text.items → RunsPrinted command taken taken' left left' held held' printed.status
   runs_printed printed w h = record {
     input = w.input;
     ended = w.ended;
@@ -82,7 +87,7 @@ module _ (command : Option Batch) (taken taken' left left' held held' : Option (
   }
 
   -- a front was printed
-  pub runs_front : (printed : Printed) (front rest : List ℕ) → Works command taken taken' left left' (Ok printed) → printed.text.items ≡ front ++ rest → Appends held held' front → Runs command taken taken' left left' held held' WriteFault
+  pub runs_front : (printed : Printed) (front rest : List ℕ) → Works command taken taken' left left' (Ok printed) → printed.text.items ≡ front ++ rest → Appends held held' front → RunsPrinted command taken taken' left left' held held' WriteFault
   runs_front printed front rest w is h = record { input = w.input; ended = w.ended; output = front; bytes = w.bytes; gives = h; answers = (outcome_of printed, w.decided.0, (rest, is)) }
 
   pub printed_status : (printed : Printed) → Works command taken taken' left left' (Ok printed) → IsPrinted printed.status
@@ -93,7 +98,7 @@ not_done e = cc
 
 -- ---- before anything was taken
 module _ (taken left : Option (List ℕ)) (command : Option Batch) where
-  nothing_taken : Taken command taken taken left left [] false
+  pub nothing_taken : Taken command taken taken left left [] false
   nothing_taken = record {
     takes = Appends-nil taken;
     leaves = Consumes-nil left;
@@ -126,11 +131,11 @@ module _ (taken left : Option (List ℕ)) (batch : Batch) (printed : Printed) wh
   refuses_query NoMemory told asked is = absurd (told refl)
 
 -- ---- the input of a good query was read
-module _ (query : Query) (batch : Batch) (q : IsQueryOf query batch) (taken taken' left left' : Option (List ℕ)) (g : Gathered) where
+module _ (query : Query) (batch : Batch) (q : IsQueryOf query batch) (taken taken' left left' : Option (List ℕ)) (g : SoFar) where
   reads_input : ReadsInput (Some batch)
   reads_input = record { batch = batch; command_is = refl; sub = q.sub; query = q.sub_is }
 
-  bytes_taken : {read : Result (Option BadLine) InputFault} (r : ReadsInputTo taken taken' left left' g read) → Taken (Some batch) taken taken' left left' r.input r.ended
+  bytes_taken : {read : Result (Option BadLine) RunFault} (r : ReadsInputTo taken taken' left left' g read) → Taken (Some batch) taken taken' left left' r.input r.ended
   bytes_taken r = record { takes = r.takes; leaves = r.leaves; end = r.end; asked = λ _. reads_input; most = r.most; early = r.early }
 
   outcome_is : (input : List ℕ) → outcome (Some batch) input ≡ over_points batch q.sub (points_of input)
@@ -141,13 +146,14 @@ module _ (query : Query) (batch : Batch) (q : IsQueryOf query batch) (taken take
   decides input false points are = λ more. outcome_is (input ++ more) ∙ ap (over_points batch q.sub) (are more)
 
   -- but neither to its end nor to a line that is refused
-  pub not_read : (f : InputFault) → ReadsInputTo taken taken' left left' g (Err f) → Works (Some batch) taken taken' left left' (Err f)
+  pub not_read : (f : RunFault) → ReadsInputTo taken taken' left left' g (Err f) → Works (Some batch) taken taken' left left' (Err f)
   not_read fault.Failed r = record { input = r.input; ended = r.ended; bytes = bytes_taken r; decided = ((reads_input, r.reads.0), r.reads.1) }
   not_read fault.Full r = record { input = r.input; ended = r.ended; bytes = bytes_taken r; decided = ((reads_input, r.reads.0), r.reads.1) }
   not_read fault.OutOfMemory r = record { input = r.input; ended = r.ended; bytes = bytes_taken r; decided = tt }
+  not_read fault.Stopped r = record { input = r.input; ended = r.ended; bytes = bytes_taken r; decided = tt }
 
   -- and there was no memory behind it
-  pub not_told : (read : Result (Option BadLine) InputFault) → ReadsInputTo taken taken' left left' g read → Works (Some batch) taken taken' left left' (Err fault.OutOfMemory)
+  pub not_told : (read : Result (Option BadLine) RunFault) → ReadsInputTo taken taken' left left' g read → Works (Some batch) taken taken' left left' (Err fault.OutOfMemory)
   not_told read r = record { input = r.input; ended = r.ended; bytes = bytes_taken r; decided = tt }
 
   -- and a line is refused
@@ -162,10 +168,10 @@ module _ (query : Query) (batch : Batch) (q : IsQueryOf query batch) (taken take
     );
   }
 
-  -- and the query was answered over its points
-  pub query_answered : (printed : Printed) → ReadsInputTo taken taken' left left' g (Ok None) → ((s : Sub) (points : List DataPoint) → query.subs ≡ s ∷ [] → Gathers points g → outcome_of printed ≡ replied (answered query s points))
+  -- and the query was answered over its points, or that had no memory, or was stopped
+  answered_printed : (printed : Printed) → ReadsInputTo taken taken' left left' g (Ok None) → ((s : Sub) (points : List DataPoint) → query.subs ≡ s ∷ [] → Gathers points g → outcome_of printed ≡ replied (answered query s points))
       → Works (Some batch) taken taken' left left' (Ok printed)
-  query_answered printed r told =
+  answered_printed printed r told =
       let points = r.reads.1.0 in
       let is : outcome_of printed ≡ over_points batch q.sub (Ok points) =
       told q.sub points (ap (λ (x : Query). x.subs) q.query_is) r.reads.1.2 ∙ ap (λ (x : Query). replied (answered x q.sub points)) q.query_is in
@@ -178,3 +184,59 @@ module _ (query : Query) (batch : Batch) (q : IsQueryOf query batch) (taken take
           λ _. r.reads.0,
         );
       }
+
+  pub query_answered : (result : Result Printed RunFault) (answer : Result Reply AskFault) → ReadsInputTo taken taken' left left' g (Ok None) → ((s : Sub) (points : List DataPoint) → query.subs ≡ s ∷ [] → Gathers points g → GivesAnswer answer (answered query s points))
+      → ((told : Result (List Group) AskFault) → GivesAnswer answer told → Tells result told) → Works (Some batch) taken taken' left left' result
+  query_answered (Ok printed) answer r gives tells = answered_printed printed r (λ s points one h. tells (answered query s points) (gives s points one h))
+  query_answered (Err fault.OutOfMemory) answer r gives tells = not_told (Ok None) r
+  query_answered (Err fault.Stopped) answer r gives tells = record { input = r.input; ended = r.ended; bytes = bytes_taken r; decided = tt }
+  query_answered (Err fault.Failed) answer r gives tells = absurd (tells (answered query q.sub r.reads.1.0) (gives q.sub r.reads.1.0 (ap (λ (x : Query). x.subs) q.query_is) r.reads.1.2))
+  query_answered (Err fault.Full) answer r gives tells = absurd (tells (answered query q.sub r.reads.1.0) (gives q.sub r.reads.1.0 (ap (λ (x : Query). x.subs) q.query_is) r.reads.1.2))
+
+-- ---- the words are no command
+abbrev usage_outcome : Outcome
+usage_outcome = record { status = Usage; text = usage_line }
+
+module _ (taken left : Option (List ℕ)) where
+  pub usage_shown : (result : Result Printed RunFault) → IfOk result (λ printed. outcome_of printed ≡ usage_outcome) → IfErr result (λ f. f ≡ fault.OutOfMemory) → Works None taken taken left left result
+  usage_shown (Ok printed) shown fails = record {
+    input = [];
+    ended = false;
+    bytes = nothing_taken taken left None;
+    decided = (λ more. sym shown, λ done. absurd (usage_not_done (sym (ap (λ (o : Outcome). o.status) shown) ∙ done)));
+  }
+    where
+      usage_not_done : Usage ≡ Done → ⊥
+      usage_not_done e = cc
+  usage_shown (Err fault) shown fails = subst (λ (f : RunFault). Works None taken taken left left (Err f)) (sym fails) (no_memory taken left None)
+
+  pub query_refused : (batch : Batch) (why : QueryFault) (result : Result Printed RunFault) → GivesQuery (Err why) batch → IfOk result (λ printed. (outcome_of printed ≡ refused_query (query_fault_text why)) × (why ≢ NoMemory)) → IfErr result (λ f. f ≡ fault.OutOfMemory) → Works (Some batch) taken taken left left result
+  query_refused batch why (Ok printed) gives is fails = refuses_query taken left batch printed why is.1 gives is.0
+  query_refused batch why (Err error) gives is fails = subst (λ (f : RunFault). Works (Some batch) taken taken left left (Err f)) (sym fails) (no_memory taken left (Some batch))
+
+-- ---- causes
+pub memory_cause : (faults faults' stops stops' : ℕ) (result : Result Printed RunFault) → IfErr result (λ f. f ≡ fault.OutOfMemory) → IfErr result (RunCause faults faults' stops stops')
+memory_cause faults faults' stops stops' (Ok printed) fails = tt
+memory_cause faults faults' stops stops' (Err fault) fails = subst (RunCause faults faults' stops stops') (sym fails) tt
+
+abbrev pub status_for : RunFault → Status
+status_for fault.Failed = ReadFault
+status_for fault.Full = SessionFull
+status_for fault.OutOfMemory = Memory
+status_for fault.Stopped = Halted
+
+-- nothing was printed
+pub runs_fault : (command : Option Batch) (taken taken' left left' held : Option (List ℕ)) (f : RunFault) → Works command taken taken' left left' (Err f) → RunsPrinted command taken taken' left left' held held (status_for f)
+runs_fault command taken taken' left left' held fault.Failed w = record { input = w.input; ended = w.ended; output = []; bytes = w.bytes; gives = Appends-nil held; answers = (w.decided.0, w.decided.1, refl) }
+runs_fault command taken taken' left left' held fault.Full w = record { input = w.input; ended = w.ended; output = []; bytes = w.bytes; gives = Appends-nil held; answers = (w.decided.0, w.decided.1, refl) }
+runs_fault command taken taken' left left' held fault.OutOfMemory w = record { input = w.input; ended = w.ended; output = []; bytes = w.bytes; gives = Appends-nil held; answers = refl }
+runs_fault command taken taken' left left' held fault.Stopped w = record { input = w.input; ended = w.ended; output = []; bytes = w.bytes; gives = Appends-nil held; answers = refl }
+
+-- each cause of a run is one of its halt too, whose count of stops alone rises
+pub halt_cause : (faults faults' a b : ℕ) (result : Result Printed RunFault) → IfErr result (RunCause faults faults' (a + 0) (b + 0)) → IfErr result (RunCause faults faults' a b)
+halt_cause faults faults' a b result cause = subst (λ (n : ℕ). IfErr result (RunCause faults faults' n b)) (add-zero a) (subst (λ (n : ℕ). IfErr result (RunCause faults faults' (a + 0) n)) (add-zero b) cause)
+
+-- a fault of an answer is none of the source
+pub answer_cause : (faults faults' a b c : ℕ) (result : Result Printed RunFault) → a ≤ b → IfErr result (LineCause b c) → IfErr result (RunCause faults faults' a c)
+answer_cause faults faults' a b c (Ok printed) later cause = tt
+answer_cause faults faults' a b c (Err f) later cause = line_cause faults faults' a b c f later cause

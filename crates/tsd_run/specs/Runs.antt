@@ -1,17 +1,23 @@
 -- What `run` promises.
-use Rattle.std.specs.Prelude.{◌≡◌, ℕ, ◌^◌, ◌<◌, ◌≤◌, ◌⊎◌, Bool, true, false, List, [], ◌++◌, length, Option, Some, Result, Ok, Err}
+use Rattle.std.specs.Prelude.{◌≡◌, ℕ, ◌^◌, ◌<◌, ◌≤◌, ◌⊎◌, Bool, true, false, List, [], ◌++◌, length, Option, None, Some, Result, Ok, Err}
 use Rattle.std.specs.Io.KnownBytes.{Appends, Consumes, IsAtEnd}
 use Rattle.tsd_run.specs.declared.status.Status.{Status}
-use Rattle.tsd_run.specs.declared.status.Status.TheVariants.{Done, Usage, Refused, ReadFault, WriteFault, Memory, SessionFull}
-use Rattle.line_stream.specs.declared.reader.InputFault.{InputFault}
-use Rattle.line_stream.specs.declared.reader.InputFault.TheVariants.{Failed, Full, OutOfMemory}
-use Rattle.tsd_run.specs.declared.printed.Printed.{Printed}
-use Rattle.tsd_run.specs.Commands.{Batch}
+use Rattle.tsd_run.specs.declared.status.Status.TheVariants.{Done, Usage, Refused, ReadFault, WriteFault, Memory, Stopped as Halted, SessionFull}
+use Rattle.tsd_run.specs.declared.run_fault.RunFault.{RunFault}
+use Rattle.tsd_run.specs.declared.run_fault.RunFault.TheVariants.{Failed, Full, OutOfMemory, Stopped}
+use Rattle.tsd_run.specs.declared.output_text.Printed.{Printed}
+use Rattle.point_put.specs.declared.config.Config.{Config}
+use Rattle.tsd_daemon.specs.declared.served.Served.{Served}
+use Rattle.tsd_daemon.specs.declared.served.Served.TheVariants as served
+use Rattle.tsd_daemon.specs.ServedConns.{Passes}
+use Rattle.stdio_job.specs.LoneConnections.{ServesAlone}
+use Rattle.command_words.specs.CommandWords.{Batch, Stdio, Asked}
+use Rattle.command_words.specs.CommandWords.Asked.{BatchAsked, StdioAsked}
 use Rattle.query_text.specs.Subs.{sub_of}
 use Rattle.query_text.specs.declared.queries.Sub.{Sub}
 use Rattle.tsd_run.specs.Inputs.{IsUnrefused}
 use Rattle.tsd_run.specs.Outcomes.{Outcome, outcome}
-use Rattle.tsd_run.specs.Printing.{outcome_of}
+use Rattle.tsd_run.specs.OutputText.{outcome_of}
 
 -- The input so far decides the outcome: it has ended, or whatever comes doesn't matter.
 abbrev pub Decides : Option Batch → List ℕ → Bool → Outcome → Type 0
@@ -39,14 +45,15 @@ pub record Taken (command : Option Batch) (taken taken' left left' : Option (Lis
   pub early : ended ≡ true → length input < 2 ^ 40
 
 -- What is to be printed is decided, an answer at the input's end alone, or why it isn't.
-abbrev pub Decided : Option Batch → List ℕ → Bool → Result Printed InputFault → Type 0
+abbrev pub Decided : Option Batch → List ℕ → Bool → Result Printed RunFault → Type 0
 Decided command input ended (Ok printed) = Decides command input ended (outcome_of printed) × (printed.status ≡ Done → ended ≡ true)
 Decided command input ended (Err Failed) = AsksOn command input × (length input < 2 ^ 40)
 Decided command input ended (Err Full) = AsksOn command input × (length input ≡ 2 ^ 40)
 Decided command input ended (Err OutOfMemory) = Unit {0}
+Decided command input ended (Err Stopped) = Unit {0}
 
 -- The command is worked up to what is to be printed.
-pub record Works (command : Option Batch) (taken taken' left left' : Option (List ℕ)) (result : Result Printed InputFault) : Type 0 where
+pub record Works (command : Option Batch) (taken taken' left left' : Option (List ℕ)) (result : Result Printed RunFault) : Type 0 where
   pub input : List ℕ
   pub ended : Bool
   pub bytes : Taken command taken taken' left left' input ended
@@ -69,12 +76,40 @@ Answers command input ended output ReadFault = AsksOn command input × (length i
 Answers command input ended output SessionFull = AsksOn command input × (length input ≡ 2 ^ 40) × (output ≡ [])
 Answers command input ended output WriteFault = (o : Outcome) × Decides command input ended o × IsFront output o.text
 Answers command input ended output Memory = output ≡ []
+Answers command input ended output Halted = output ≡ []
 
--- A run took these bytes and gave those, where source and sink tell them, and its status is right for them.
-pub record Runs (command : Option Batch) (taken taken' left left' held held' : Option (List ℕ)) (status : Status) : Type 0 where
+-- A run that prints at its end took these bytes and gave those, where source and sink tell them, and its status is right for them.
+pub record RunsPrinted (command : Option Batch) (taken taken' left left' held held' : Option (List ℕ)) (status : Status) : Type 0 where
   pub input : List ℕ
   pub ended : Bool
   pub output : List ℕ
   pub bytes : Taken command taken taken' left left' input ended
   pub gives : Appends held held' output
   pub answers : Answers command input ended output status
+
+-- Of each status how the serving of a connection ended. That the clock failed is none: no request that is built asks it.
+abbrev pub HasStatus : Served → Status → Type 0
+HasStatus served.End status = status ≡ Done
+HasStatus served.Exit status = status ≡ Done
+HasStatus served.Die status = status ≡ Done
+HasStatus served.Closed status = status ≡ Done
+HasStatus served.ReadFault status = status ≡ ReadFault
+HasStatus served.WriteFault status = status ≡ WriteFault
+HasStatus served.ClockFault status = ⊥
+HasStatus served.Stopped status = status ≡ Halted
+HasStatus served.SessionFull status = status ≡ SessionFull
+HasStatus served.OutOfMemory status = status ≡ Memory
+
+-- of which kinds names that have no id are given one
+abbrev pub config_of : Stdio → Config
+config_of s = record { auto_metric = s.auto_metric; auto_tag_key = s.auto_tag_key; auto_tag_value = s.auto_tag_value }
+
+-- One connection was served over an empty store that nobody else steps: these bytes were taken and these given, and the status is that of its end.
+abbrev pub ServesStdio : Stdio → Status → List ℕ → List ℕ → Type 0
+ServesStdio s status input output = (result : Served) × ServesAlone (config_of s) result input output × HasStatus result status
+
+-- What a run of these words took and gave, and its status. Words that are no command print the usage line.
+abbrev pub Runs : Option Asked → (taken taken' left left' held held' : Option (List ℕ)) → Status → Type 0
+Runs (Some (BatchAsked batch)) taken taken' left left' held held' status = RunsPrinted (Some batch) taken taken' left left' held held' status
+Runs (Some (StdioAsked s)) taken taken' left left' held held' status = Passes taken taken' left left' held held' (ServesStdio s status)
+Runs None taken taken' left left' held held' status = RunsPrinted None taken taken' left left' held held' status

@@ -1,7 +1,7 @@
 -- The numbers of statuses.
 use Rattle.std.specs.Prelude.{ℕ}
 use Rattle.tsd_run.specs.declared.status.Status.{Status}
-use Rattle.tsd_run.specs.declared.status.Status.TheVariants.{Done, Usage, Refused, ReadFault, WriteFault, Memory, SessionFull}
+use Rattle.tsd_run.specs.declared.status.Status.TheVariants.{Done, Usage, Refused, ReadFault, WriteFault, Memory, Stopped, SessionFull}
 
 abbrev pub number_of : Status → ℕ
 number_of Done = 0
@@ -10,4 +10,5 @@ number_of Refused = 2
 number_of ReadFault = 3
 number_of WriteFault = 4
 number_of Memory = 5
+number_of Stopped = 6
 number_of SessionFull = 8

@@ -1,17 +1,20 @@
 //! Reading all points of an input.
-ghost use Rattle.std.specs.Prelude.{◌≡◌, ◌≤◌, [], codes, length, Err, IfOk};
-ghost use Rattle.line_stream.specs.Lines.{LONGEST_LINE};
-ghost use Rattle.tsd_io.specs.Causes.{Rose};
-ghost use Rattle.tsd_run.specs.Gathering.{Gathers};
-ghost use Rattle.tsd_run.specs.Naming.{exhausted_text};
+ghost use Rattle.std.specs.Prelude.{◌≡◌, ◌≤◌, [], codes, length, IfOk, IfErr};
+ghost use Rattle.line_stream.specs.declared.line.TheConstants.{LONGEST_LINE};
+ghost use Rattle.batch_job.specs.Pending.{Gathers, so_far};
+ghost use Rattle.batch_job.specs.NotedIds.{exhausted_text};
 ghost use Rattle.tsd_run.specs.Inputs.{ReadsLine, ReadsInputTo};
+ghost use Rattle.tsd_run.specs.RunFaults.{LineCause, RunCause};
 
-use crate::gathered::Gathered;
-use crate::point_line::{Judgement, judge};
-use line_stream::reader::{InputFault, LineReader, NextLine};
+use crate::run_fault::RunFault;
+use batch_job::pending::Gathered;
+use batch_job::point_line::{Judgement, judge};
+use cell_model::Rows;
+use line_stream::reader::{LineReader, NextLine};
 use std::alloc::{AllocError, Global};
 use tsd_base::kinds::Kind;
 use tsd_io::ports::Source;
+use uid_table::Uids;
 
 /// A line that is refused: its number, from 1, and what is wrong with it.
 #[derive(Drop)]
@@ -21,28 +24,37 @@ pub struct BadLine {
 }
 
 /// Reads lines to the end of the input, or to the first line that is refused, which is the answer.
-pub fn read_points<S: Source>(
+pub fn read_points<S: Source, R: Rows + Drop>(
     alloc: Global,
     source: &mut S,
+    store: &mut Uids<R>,
     gathered: &mut Gathered,
-) -> Result<Option<BadLine>, InputFault>
-    requires empty { Gathers [] gathered.old }
-    ensures reads { ReadsInputTo (S.taken source.old) (S.taken source.new) (S.left source.old) (S.left source.new) gathered.new result }
+) -> Result<Option<BadLine>, RunFault>
+    requires empty { Gathers [] (so_far (R.seen store.old) gathered.old) }
+    ensures reads { ReadsInputTo (S.taken source.old) (S.taken source.new) (S.left source.old) (S.left source.new) (so_far (R.seen store.new) gathered.new) result }
     ensures later { S.faults source.old ≤ S.faults source.new }
-    ensures failed { result ≡ Err InputFault.Failed → Rose (S.faults source.old) (S.faults source.new) }
+    ensures grows { R.stops store.old ≤ R.stops store.new }
+    ensures cause { IfErr result (RunCause (S.faults source.old) (S.faults source.new) (R.stops store.old) (R.stops store.new)) }
 {
     let mut reader = LineReader::make(alloc)?;
     loop {
         match reader.next_line(source)? {
             NextLine::Whole { end } => {
                 let line = &reader.bytes()[..end];
-                if let Some(bad) = read_line(alloc, line, true, reader.number(), gathered)? {
+                if let Some(bad) = read_line(alloc, line, true, reader.number(), store, gathered)? {
                     return Ok(Some(bad));
                 }
                 reader.skip_line(end);
             }
             NextLine::Last => {
-                return Ok(read_line(alloc, reader.bytes(), false, reader.number(), gathered)?);
+                return read_line(
+                    alloc,
+                    reader.bytes(),
+                    false,
+                    reader.number(),
+                    store,
+                    gathered,
+                );
             }
             NextLine::TooLong => return Ok(Some(too_long(alloc, reader.number())?)),
         }
@@ -58,19 +70,22 @@ fn too_long(alloc: Global, number: u64) -> Result<BadLine, AllocError>
 }
 
 /// Reads one line of these bytes, which isn't too long, and of which an LF followed or not. A line that is refused is the answer.
-fn read_line(
+fn read_line<R: Rows + Drop>(
     alloc: Global,
     bytes: &[u8],
     ended: bool,
     number: u64,
+    store: &mut Uids<R>,
     gathered: &mut Gathered,
-) -> Result<Option<BadLine>, AllocError>
+) -> Result<Option<BadLine>, RunFault>
     requires { length bytes.now ≤ LONGEST_LINE }
-    ensures { IfOk result (ReadsLine (record { bytes = bytes.now; ended = ended }) number gathered.old gathered.new) }
+    ensures reads { IfOk result (ReadsLine (record { bytes = bytes.now; ended = ended }) number (so_far (R.seen store.old) gathered.old) (so_far (R.seen store.new) gathered.new)) }
+    ensures grows { R.stops store.old ≤ R.stops store.new }
+    ensures cause { IfErr result (LineCause (R.stops store.old) (R.stops store.new)) }
 {
     match judge(alloc, bytes, ended)? {
         Judgement::Blank => Ok(None),
-        Judgement::Taken { point } => match gathered.add(alloc, point)? {
+        Judgement::Taken { point } => match gathered.add(alloc, store, point)? {
             None => Ok(None),
             Some(kind) => Ok(Some(exhausted(alloc, kind, number)?)),
         },

@@ -1,19 +1,11 @@
 //! Everything that the program does, over any input and output.
 #![tactic(auto)]
 
-mod answer;
-mod command;
-mod gathered;
 mod input;
-mod naming;
-mod point_line;
-mod printed;
-mod putting;
+mod output_text;
 mod query;
 mod refusal;
-mod reply;
+mod reply_line;
 pub mod run;
-mod settling;
+mod run_fault;
 pub mod status;
-mod store;
-mod values;

@@ -1,9 +1,10 @@
 //! The query of a batch.
 ghost use Rattle.std.specs.Prelude.{◌≡◌, ◌≤◌, ◌*◌, [], ◌∷◌, IfOk};
-ghost use Rattle.tsd_run.specs.Batches.{plain_batch};
-ghost use Rattle.tsd_run.specs.Queries.{CanAsk, GivesQuery};
+ghost use Rattle.batch_job.specs.JobAnswers.{CanAsk};
+ghost use Rattle.command_words.specs.PlainAsked.{plain_batch};
+ghost use Rattle.tsd_run.specs.BatchQueries.{GivesQuery};
 
-use crate::command::Batch;
+use command_words::Batch;
 use query_text::queries::{Query, QueryFault, Sub, SubList};
 use query_text::subs::read_m;
 use std::alloc::{AllocError, Global};

@@ -17,6 +17,8 @@ pub enum Status {
     WriteFault,
     /// There was no memory.
     Memory,
+    /// The halt refused a step.
+    Stopped,
     /// 2^40 bytes of input came without their end.
     SessionFull,
 }
@@ -33,6 +35,7 @@ impl Status {
             Status::ReadFault => 3,
             Status::WriteFault => 4,
             Status::Memory => 5,
+            Status::Stopped => 6,
             Status::SessionFull => 8,
         }
     }

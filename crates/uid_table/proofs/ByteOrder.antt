@@ -5,8 +5,8 @@ use Rattle.std.specs.declared.cmp.Ordering.{Ordering}
 use Rattle.std.specs.Ordering.{nat_cmp, is_lt, ordering_then, ordering_reverse}
 use Rattle.std.proofs.lemmas.Cmp.{nat_list_cmp_total, nat_cmp_total, tied_itself, by_ranked, ranked}
 use Rattle.std.proofs.lemmas.Map.Lookups.{exact_bytes}
-use Rattle.cell_model.specs.Order.{bytes_cmp}
-use Rattle.uid_table.specs.Suggesting.{HasPrefix, Skips, StartsAt}
+use Rattle.list_lemmas.specs.BytesOrder.{bytes_cmp}
+use Rattle.uid_table.specs.Suggest.{HasPrefix, Skips, StartsAt}
 
 -- by the order of two bytes
 pub by_order : {G : Type 0} (x y : ℕ) → (nat_cmp x y ≡ Less → x < y → G) → (nat_cmp x y ≡ Equal → x ≡ y → G) → (nat_cmp x y ≡ Greater → y < x → G) → G

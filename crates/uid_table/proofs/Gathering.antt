@@ -11,25 +11,28 @@ use Rattle.tsd_base.specs.declared.kinds.Kind.{Kind}
 use Rattle.tsd_base.specs.Alphabet.{IsName}
 use Rattle.row_key.specs.declared.tables.Table.{Table}
 use Rattle.row_key.specs.declared.tables.Table.TheVariants.{Ids, Names, Points}
-use Rattle.cell_model.specs.declared.cells.Row.{Row}
-use Rattle.cell_model.specs.declared.cells.Found.{Found}
+use Rattle.cell_model.specs.declared.row.Row.{Row}
+use Rattle.cell_model.specs.declared.row.Found.{Found}
 use Rattle.cell_model.specs.declared.events.Step.TheVariants.{NextRow}
 use Rattle.cell_model.specs.declared.events.Reply.TheVariants.{Next}
-use Rattle.cell_model.specs.Order.{bytes_cmp, row_cmp, table_number}
+use Rattle.list_lemmas.specs.BytesOrder.{bytes_cmp}
+use Rattle.cell_model.specs.PlaceOrder.{row_cmp, table_number}
 use Rattle.cell_model.specs.Store.{Store, value_at, value_among, is_between, next_row_of}
 use Rattle.cell_model.specs.Machine.{kind_qual}
 use Rattle.cell_model.specs.History.{History, first, store_after}
-use Rattle.cell_model.specs.Ids.{name_row, id_number}
+use Rattle.cell_model.specs.IdRows.{name_row, id_number}
 use Rattle.cell_model.specs.Lawful.{IsLawful}
 use Rattle.cell_model.specs.declared.events.Placed.{Placed}
 use Rattle.cell_model.specs.declared.answers.RowsFault.{RowsFault}
 use Rattle.cell_model.specs.Seen.{Seen, Fits, Waited, Stepped, IsPossible, KnowsCell}
 use Rattle.cell_model.specs.Seen.Shows.{by_next}
 use Rattle.uid_table.specs.Shown.{HasShown}
-use Rattle.uid_table.specs.Suggesting.{IsResolved, HasPrefix, NamesRise, AreBelow, Covers, Gathers, AddsShown, Takes, TurnsTo, AllLooks}
-use Rattle.uid_table.specs.Steps.{MadeSo}
+use Rattle.uid_table.specs.Suggest.{IsResolved, HasPrefix, NamesRise, AreBelow, Covers, Gathers, AddsShown, Takes, TurnsTo, AllLooks}
+use Rattle.uid_table.specs.IdSteps.{MadeSo}
 use Rattle.uid_table.proofs.Making.{nothing_made}
-use Rattle.uid_table.proofs.Lower.{wait_made, step_made, made_joined, at_front, behind, front_or_behind, in_none, first_lawful, each_entry, id_kept, sound_after, step_extends, cells_have}
+use Rattle.cell_laws.proofs.CallerLemmas.{wait_made, step_made, made_joined, first_lawful, each_entry, keeps_id, sound_after, step_extends}
+use Rattle.list_lemmas.proofs.ListMembers.{here as at_front, there, split, not_in}
+use Rattle.cell_model.proofs.CallerLemmas.{value_among-cells_of}
 use Rattle.uid_table.proofs.ByteOrder.{three, not_both, less_or_not, past_prefix, behind_is_above, up_to_behind, below_trans, at_least, not_below}
 use Rattle.uid_table.proofs.NextRows.{found_row, no_row}
 use Rattle.uid_table.proofs.Shows.{shown_kept, shown_cell}
@@ -52,7 +55,7 @@ value_of (Some v) id e = (v, refl)
 stands_at : (start s t : Seen) (from to : List ℕ) (found : Option Found) (h : History) (kind : Kind) (name : List ℕ) → start.length ≤ s.length → Stepped s (NextRow Ids from to) (Next found) t → IsLawful h
     → IsResolved kind (first start.length h) name → (v : List ℕ) × (value_at (store_at h t) (name_row name) (kind_qual kind) ≡ Some v)
 stands_at start s t from to found h kind name le step l r =
-    let kept = id_kept h start.length (t.length - 1) kind name r.1.0 l r.0 (let lt = step.length in omega (arith, le, lt)) r.1.1 in
+    let kept = keeps_id h start.length (t.length - 1) kind name r.1.0 l r.0 (let lt = step.length in omega (arith, le, lt)) r.1.1 in
     value_of (value_at (store_at h t) (name_row name) (kind_qual kind)) r.1.0 kept
 
 in_between : (from to n : List ℕ) → is_lt (bytes_cmp n from) ≡ false → bytes_cmp n to ≡ Less → is_between Ids from to (name_row n) ≡ true
@@ -143,10 +146,10 @@ covers_past start s t kind prefix from to found names le step above place lacks 
 ]
 
 contains_more : (xs : List (List ℕ)) (n b : List ℕ) → Contains xs n → Contains (xs ++ b ∷ []) n
-contains_more [] n b c = absurd (in_none n c)
-contains_more (x ∷ xs) n b c = elim (front_or_behind x n xs c) [
+contains_more [] n b c = absurd (not_in n c)
+contains_more (x ∷ xs) n b c = elim (split x n xs c) [
   | inl same ↦ subst (Contains (x ∷ (xs ++ b ∷ []))) same (at_front x (xs ++ b ∷ []))
-  | inr later ↦ behind x n (xs ++ b ∷ []) (contains_more xs n b later)
+  | inr later ↦ there x n (xs ++ b ∷ []) (contains_more xs n b later)
 ]
 
 nothing : (v : List ℕ) → None ≡ Some v → ⊥
@@ -174,7 +177,7 @@ covers_found start s t kind prefix from to found shown names more le step place 
         let row = found_row (store_at h t) from to found (sym (reply_is s t from to (Some found) h step l f)) in
         let v = stands_at start s t from to (Some found) h kind name le step l r in
         let here = subst (λ (w : Row). value_at (store_at h t) w (kind_qual kind) ≡ Some v.0) (ap name_row is ∙ sym place.row_is) v.1 in
-        absurd (nothing v.0 (sym e ∙ ap (λ cells. value_among cells (kind_qual kind)) row.cells ∙ sym (cells_have (store_at h t) found.row (kind_qual kind)) ∙ here))
+        absurd (nothing v.0 (sym e ∙ ap (λ cells. value_among cells (kind_qual kind)) row.cells ∙ sym (value_among-cells_of (store_at h t) found.row (kind_qual kind)) ∙ here))
 
 -- names below bytes are below what isn't below these
 below_on : (n from b : List ℕ) → bytes_cmp n from ≡ Less → is_lt (bytes_cmp b from) ≡ false → bytes_cmp n b ≡ Less
@@ -248,13 +251,13 @@ gathers_more start s t kind prefix max from to found shown names more step p tur
     with_last v e xs all n c = last_or xs n c (all n)
       where
         last_or : (ys : List (List ℕ)) (m : List ℕ) → Contains (ys ++ b ∷ []) m → (Contains ys m → HasPrefix prefix m × ((id : ℕ) × HasShown t kind m id)) → HasPrefix prefix m × ((id : ℕ) × HasShown t kind m id)
-        last_or [] m d go = elim (front_or_behind b m [] d) [
+        last_or [] m d go = elim (split b m [] d) [
           | inl same ↦ subst (λ x. HasPrefix prefix x × ((id : ℕ) × HasShown t kind x id)) same (taken v e)
-          | inr none ↦ absurd (in_none m none)
+          | inr none ↦ absurd (not_in m none)
         ]
-        last_or (y ∷ ys) m d go = elim (front_or_behind y m (ys ++ b ∷ []) d) [
+        last_or (y ∷ ys) m d go = elim (split y m (ys ++ b ∷ []) d) [
           | inl same ↦ go (subst (Contains (y ∷ ys)) same (at_front y ys))
-          | inr later ↦ last_or ys m later (λ x. go (behind y m ys x))
+          | inr later ↦ last_or ys m later (λ x. go (there y m ys x))
         ]
 
     each : (o : Option (List ℕ)) → value_among found.cells (kind_qual kind) ≡ o → AddsShown o b names more → EachShown kind prefix more t
@@ -287,9 +290,9 @@ turn_found s t kind prefix from high found names more (Err e) step p some at abo
 
 in_either : (xs ys : List Placed) (y : Placed) → Contains (xs ++ ys) y → Contains xs y ⊎ Contains ys y
 in_either [] ys y c = inr c
-in_either (x ∷ xs) ys y c = elim (front_or_behind x y (xs ++ ys) c) [
+in_either (x ∷ xs) ys y c = elim (split x y (xs ++ ys) c) [
   | inl same ↦ inl (subst (Contains (x ∷ xs)) same (at_front x xs))
-  | inr later ↦ elim (in_either xs ys y later) [ inl l ↦ inl (behind x y xs l) | inr r ↦ inr r ]
+  | inr later ↦ elim (in_either xs ys y later) [ inl l ↦ inl (there x y xs l) | inr r ↦ inr r ]
 ]
 
 -- the entries of a look
@@ -297,17 +300,17 @@ pub one_look : (s t : Seen) (from to : List ℕ) (found : Option Found) → Step
 one_look s t from to found step p = (
   _,
   step_made s t _ _ step p,
-  λ d c. elim (front_or_behind _ d [] c) [
+  λ d c. elim (split _ d [] c) [
     | inl same ↦ (from, to, found, (ap (λ (x : Placed). x.entry.step) (sym same), ap (λ (x : Placed). x.entry.reply) (sym same)))
-    | inr none ↦ absurd (in_none d none)
+    | inr none ↦ absurd (not_in d none)
   ],
 )
 
 pub no_look : (s t : Seen) → Waited s t → (IsPossible s → IsPossible t) → MadeSo s AllLooks t
-no_look s t w lives = ([], wait_made s t w lives, λ d c. absurd (in_none d c))
+no_look s t w lives = ([], wait_made s t w lives, λ d c. absurd (not_in d c))
 
 pub looks_joined : (a b c : Seen) → MadeSo a AllLooks b → MadeSo b AllLooks c → MadeSo a AllLooks c
 looks_joined a b c (xs, m, p) (ys, n, q) = (xs ++ ys, made_joined a b c xs ys m n, λ d e. elim (in_either xs ys d e) [ inl l ↦ p d l | inr r ↦ q d r ])
 
 pub looks_none : (s : Seen) → MadeSo s AllLooks s
-looks_none s = ([], nothing_made s, λ d c. absurd (in_none d c))
+looks_none s = ([], nothing_made s, λ d c. absurd (not_in d c))

@@ -1,41 +1,45 @@
 -- What is kept was kept before or put, and stays shown.
-use Rattle.std.proofs.Common.{◌≡◌, inl, inr, ℕ, Bool, true, false, List, [], Contains, rules, IfSome, Option, Some, None, refl, sym, ap, subst, ◌∙◌}
+use Rattle.std.proofs.Common.{◌≡◌, inl, inr, ℕ, Bool, true, List, [], Contains, rules, IfSome, Option, Some, None, refl, sym, ap, subst, ◌∙◌}
 use Rattle.std.specs.Borrow.{Bor}
-use Rattle.std.specs.Prelude.{◌&&◌, option_copied, Result, Ok, Err, IfOk, OnOk, OnErr}
+use Rattle.std.specs.Prelude.{option_copied, Result, Ok, Err, IfOk, OnOk, OnErr}
 use Rattle.std.specs.Map.{lookup}
+use Rattle.list_lemmas.proofs.BoolTests.{both_true}
 use Rattle.lru.specs.LruCache.{LruCache, lru_cache, promoted, put_entries}
 use Rattle.lru.proofs.CallerLemmas.{Contains-lookup, Contains-promoted, Contains-put_entries}
 use Rattle.short_bytes.specs.Alike.{same_list}
 use Rattle.tsd_base.specs.declared.kinds.Kind.{Kind}
 use Rattle.tsd_base.specs.contracts.kinds.KindPartialEq.TheImpl as kinds
-use Rattle.uid_table.specs.declared.kept.NameKey.{NameKey}
-use Rattle.uid_table.specs.declared.kept.IdKey.{IdKey}
-use Rattle.uid_table.specs.contracts.kept.NameKeyPartialEq.TheImpl as names
-use Rattle.uid_table.specs.contracts.kept.IdKeyPartialEq.TheImpl as ids
+use Rattle.row_key.specs.declared.tables.Table.{Table}
+use Rattle.row_key.specs.contracts.tables.TablePartialEq.TheImpl as tables
+use Rattle.uid_table.specs.declared.cache.NameKey.{NameKey}
+use Rattle.uid_table.specs.declared.cache.IdKey.{IdKey}
+use Rattle.uid_table.specs.contracts.cache.NameKeyPartialEq.TheImpl as names
+use Rattle.uid_table.specs.contracts.cache.IdKeyPartialEq.TheImpl as ids
 use Rattle.cell_model.specs.declared.events.Step.{Step}
 use Rattle.cell_model.specs.declared.events.Reply.{Reply}
 use Rattle.cell_model.specs.declared.events.Placed.{Placed}
 use Rattle.cell_model.specs.Seen.{Seen, Waited, Stepped, IsPossible}
 use Rattle.cell_model.specs.Deeds.{Extends}
 use Rattle.uid_table.specs.Shown.{HasShown, HasShownName}
-use Rattle.uid_table.specs.Steps.{MadeSo}
-use Rattle.uid_table.specs.Kept.{AreAmong, IsShownId, KeepsIds, KeepsNames}
-use Rattle.uid_table.proofs.Lower.{wait_made, step_extends, extends_joined}
+use Rattle.uid_table.specs.IdSteps.{MadeSo}
+use Rattle.uid_table.specs.Cache.{AreAmong, IsShownId, KeepsIds, KeepsNames}
+use Rattle.cell_laws.proofs.CallerLemmas.{wait_made, step_extends, extends_joined}
 use Rattle.uid_table.proofs.Shows.{shown_kept}
 
 same_kind : (k j : Kind) → (kinds.eq-value).it k j ≡ true → k ≡ j
 same_kind k j e = search rules
 
-both : (a b : Bool) → (a && b) ≡ true → (a ≡ true) × (b ≡ true)
-both true b e = (refl, e)
-both false b e = cc
+same_table : (t u : Table) → (tables.eq-value).it t u ≡ true → t ≡ u
+same_table t u e = search rules
 
 pub same_name_key : (k j : NameKey) → (names.eq-value).it k j ≡ true → k ≡ j
 same_name_key k j e =
-    let p = both _ _ e in
+    let p = both_true _ _ e in
+    let q = both_true _ _ p.1 in
     let kind = same_kind k.kind j.kind p.0 in
-    let name = same_list k.name j.name p.1 in
-    λ i. record { kind = kind i; name = name i }
+    let table = same_table k.row.table j.row.table q.0 in
+    let bytes = same_list k.row.bytes j.row.bytes q.1 in
+    λ i. record { kind = kind i; row = record { table = table i; bytes = bytes i } }
 
 pub same_id_key : (k j : IdKey) → (ids.eq-value).it k j ≡ true → k ≡ j
 same_id_key k j e = search rules
@@ -80,7 +84,7 @@ name_shown_kept s t kind id name e h = record {
 
 -- then what is kept stays shown
 pub ids_kept : (s t : Seen) (ids : List (NameKey × ℕ)) → IsLater s t → KeepsIds s ids → KeepsIds t ids
-ids_kept s t ids on all pair is = let shown = all pair is in (shown_kept s t pair.0.kind pair.0.name pair.1 on.0 shown.0, on.1 shown.1)
+ids_kept s t ids on all pair is = let shown = all pair is in (shown_kept s t pair.0.kind pair.0.row.bytes pair.1 on.0 shown.0, on.1 shown.1)
 
 pub names_kept : (s t : Seen) (names : List (IdKey × List ℕ)) → IsLater s t → KeepsNames s names → KeepsNames t names
 names_kept s t names on all pair is = let shown = all pair is in (name_shown_kept s t pair.0.kind pair.0.id pair.1 on.0 shown.0, on.1 shown.1)
@@ -103,7 +107,7 @@ pub look_kept : {K V : Type 0} (P : K × V → Type 0) (old new : List (K × V))
 look_kept P old new among all e is = all e (among e is)
 
 -- what was shown, under the names of its key
-pub shown_as : (s : Seen) (key : NameKey) (kind : Kind) (name : List ℕ) (id id' : ℕ) → key.kind ≡ kind → key.name ≡ name → id' ≡ id → HasShown s kind name id → IsPossible s → IsShownId s (key, id')
+pub shown_as : (s : Seen) (key : NameKey) (kind : Kind) (name : List ℕ) (id id' : ℕ) → key.kind ≡ kind → key.row.bytes ≡ name → id' ≡ id → HasShown s kind name id → IsPossible s → IsShownId s (key, id')
 shown_as s key kind name id id' k n i shown possible = (subst (λ (x : Kind × List ℕ × ℕ). HasShown s x.0 x.1 x.2) (λ j. (sym k j, sym n j, sym i j)) shown, possible)
 
 -- what holds of the id that a look showed

@@ -1,10 +1,10 @@
 mod ByteOrder
 mod Gathering
 mod Keeping
-mod Lower
 mod Making
 mod NamesThere
 mod Shows
 mod NextRows
 mod Ranks
 mod Searches
+pub mod CallerLemmas

@@ -6,7 +6,7 @@ use Rattle.std.specs.Prelude.{Result, Ok, Err, IsErr, IsErrAnd, Option, None}
 use Rattle.tsd_base.specs.declared.kinds.Kind.{Kind}
 use Rattle.row_key.specs.Key.{IsId}
 use Rattle.qual_codec.specs.declared.cells.Cell.{Cell}
-use Rattle.cell_model.specs.declared.cells.Row.{Row}
+use Rattle.cell_model.specs.declared.row.Row.{Row}
 use Rattle.cell_model.specs.declared.events.Step.{Step}
 use Rattle.cell_model.specs.declared.events.Step.TheVariants.{Read, Bump, Claim}
 use Rattle.cell_model.specs.declared.events.Reply.{Reply}
@@ -19,27 +19,25 @@ use Rattle.cell_model.specs.declared.answers.Claimed.{Claimed}
 use Rattle.cell_model.specs.declared.answers.Claimed.TheVariants.{Done, Held}
 use Rattle.cell_model.specs.Store.{value_among}
 use Rattle.cell_model.specs.Machine.{kind_qual}
-use Rattle.cell_model.specs.Ids.{name_row, id_row, id_bytes}
+use Rattle.cell_model.specs.IdRows.{name_row, id_row, id_bytes}
 use Rattle.cell_model.specs.Seen.{Seen, Waited, Stepped, IsPossible}
 use Rattle.cell_model.specs.Deeds.{Made, placed}
-use Rattle.uid_table.specs.declared.answers.Assigned.{Assigned}
-use Rattle.uid_table.specs.declared.answers.Assigned.TheVariants.{Fresh, Existing, Lost}
-use Rattle.uid_table.specs.declared.answers.AssignFault.{AssignFault}
-use Rattle.uid_table.specs.declared.answers.AssignFault.TheVariants as assign
-use Rattle.uid_table.specs.declared.answers.ResolveFault.{ResolveFault}
-use Rattle.uid_table.specs.Answers.{resolve_fault, assign_fault}
-use Rattle.uid_table.specs.Steps.{MadeSo, DidReverse, DidForward, Gave, OneLook, LookMade, ResolveMade, ReverseMade, ForwardMade, BindMade, GiveMade, GaveUp, AssignMade}
-use Rattle.uid_table.specs.Steps.GaveUp.{before, bumped, reversed}
-use Rattle.uid_table.proofs.Lower.{given_id, wait_made, step_made, made_joined}
+use Rattle.uid_table.specs.declared.id_answers.Assigned.{Assigned}
+use Rattle.uid_table.specs.declared.id_answers.Assigned.TheVariants.{Fresh, Existing, Lost}
+use Rattle.uid_table.specs.declared.id_answers.AssignFault.{AssignFault}
+use Rattle.uid_table.specs.declared.id_answers.AssignFault.TheVariants as assign
+use Rattle.uid_table.specs.declared.id_answers.ResolveFault.{ResolveFault}
+use Rattle.uid_table.specs.IdAnswers.{resolve_fault, assign_fault}
+use Rattle.uid_table.specs.IdSteps.{MadeSo, DidReverse, DidForward, Gave, OneLook, LookMade, ResolveMade, ReverseMade, ForwardMade, BindMade, GiveMade, GaveUp, AssignMade}
+use Rattle.uid_table.specs.IdSteps.GaveUp.{before, bumped, reversed}
+use Rattle.cell_laws.proofs.CallerLemmas.{given_id, wait_made, step_made, made_joined}
+-- nothing was made yet
+pub use Rattle.cell_laws.proofs.CallerLemmas.{nothing_made}
 
 -- a claim under other names of its parts
 pub recast : (old new : Seen) (row row' : Row) (qual qual' value value' : List ℕ) (reply reply' : Claimed) → row ≡ row' → qual ≡ qual' → value ≡ value' → reply ≡ reply'
     → Stepped old (Claim row qual value) (ClaimReply reply) new → Stepped old (Claim row' qual' value') (ClaimReply reply') new
 recast old new row row' qual qual' value value' reply reply' r q v p s = subst (λ (x : Row × List ℕ × List ℕ × Claimed). Stepped old (Claim x.0 x.1 x.2) (ClaimReply x.3) new) (λ i. (r i, q i, v i, p i)) s
-
--- nothing was made yet
-pub nothing_made : (s : Seen) → Made s [] s
-nothing_made s = wait_made s s (record { base = refl; caller = refl; absorbed = refl; length = omega arith; kept = λ p e saw. saw; no_own = λ p e saw own. saw; alone = refl; still = λ a. refl }) (λ p. p)
 
 -- where a step wasn't made, nothing was
 pub none_made : {T E : Type 0} (Q : Result T E → List Placed → Type 0) (old new : Seen) (r : Result T E) → IsErr r → ((e : E) → Q (Err e) []) → Waited old new → (IsPossible old → IsPossible new) → MadeSo old (Q r) new

@@ -3,7 +3,7 @@ use Rattle.std.proofs.Common.{◌≡◌, inl, inr, ℕ, ◌-◌, List, [], refl,
 use Rattle.std.specs.Prelude.{Some, None, Result, Ok, Err, IfOk}
 use Rattle.tsd_base.specs.declared.kinds.Kind.{Kind}
 use Rattle.qual_codec.specs.declared.cells.Cell.{Cell}
-use Rattle.cell_model.specs.declared.cells.Row.{Row}
+use Rattle.cell_model.specs.declared.row.Row.{Row}
 use Rattle.cell_model.specs.declared.events.Step.TheVariants.{Read}
 use Rattle.cell_model.specs.declared.events.Reply.TheVariants.{Shown}
 use Rattle.cell_model.specs.declared.answers.RowsFault.{RowsFault}
@@ -11,12 +11,13 @@ use Rattle.cell_model.specs.declared.answers.RowsFault.TheVariants as rows
 use Rattle.cell_model.specs.Store.{value_among, cells_of}
 use Rattle.cell_model.specs.Machine.{kind_qual}
 use Rattle.cell_model.specs.History.{History, first, store_after}
-use Rattle.cell_model.specs.Ids.{id_row, id_of}
+use Rattle.cell_model.specs.IdRows.{id_row, id_of}
 use Rattle.cell_model.specs.Seen.{Seen, Stepped, IsPossible, KnowsCell}
 use Rattle.cell_model.specs.Seen.Shows.{by_read}
 use Rattle.uid_table.specs.Shown.{KnowsName, HasShownName}
-use Rattle.uid_table.specs.Steps.{MadeSo, NameMade, IsNamed}
-use Rattle.uid_table.proofs.Lower.{first_lawful, each_entry, id_kept, named_back, first_fits, step_extends, step_made, cells_have, shown_name}
+use Rattle.uid_table.specs.IdSteps.{MadeSo, NameMade, IsNamed}
+use Rattle.cell_laws.proofs.CallerLemmas.{first_lawful, each_entry, keeps_id, names_back, first_fits, step_extends, step_made, shown_name}
+use Rattle.cell_model.proofs.CallerLemmas.{value_among-cells_of}
 
 same_cells : (a b : List Cell) → Shown a ≡ Shown b → a ≡ b
 same_cells a b e = cc
@@ -32,10 +33,10 @@ name_there old new kind id cells step p knows =
     let entry = each_entry h new.length _ p.lawful (p.fits.seen _ _ step.stepped) in
     let old_fits = first_fits old h ((step_extends old new _ _ step).fits h p.fits) in
     let name = knows (first old.length h) (first_lawful h old.length p.lawful) old_fits in
-    let kept = id_kept h old.length (new.length - 1) kind name.0 id p.lawful name.1 (let lt = step.length in omega (arith, lt)) name.2 in
-    let back = named_back before kind name.0 id (first_lawful h (new.length - 1) p.lawful) name.1 kept in
+    let kept = keeps_id h old.length (new.length - 1) kind name.0 id p.lawful name.1 (let lt = step.length in omega (arith, lt)) name.2 in
+    let back = names_back before kind name.0 id (first_lawful h (new.length - 1) p.lawful) name.1 kept in
     let same : cells ≡ cells_of (store_after before) (id_row id) = same_cells _ _ entry.reply in
-    (name.0, ap (λ (xs : List Cell). value_among xs (kind_qual kind)) same ∙ sym (cells_have (store_after before) (id_row id) (kind_qual kind)) ∙ back)
+    (name.0, ap (λ (xs : List Cell). value_among xs (kind_qual kind)) same ∙ sym (value_among-cells_of (store_after before) (id_row id) (kind_qual kind)) ∙ back)
 
 -- and what it shows is the name
 pub has_shown_name : (old new : Seen) (kind : Kind) (id : ℕ) (cells : List Cell) (name : List ℕ) → Stepped old (Read (id_row id)) (Shown cells) new → IsPossible new → KnowsName old kind id
@@ -49,7 +50,7 @@ has_shown_name old new kind id cells name step p knows shows =
           let fits = ext.fits h f in
           let stands = (shown_name new h kind id name l fits known).1 in
           let of = knows h l ((step_extends old new _ _ step).fits h fits) in
-          let same = same_name _ _ (sym (named_back h kind of.0 id l of.1 of.2) ∙ stands) in
+          let same = same_name _ _ (sym (names_back h kind of.0 id l of.1 of.2) ∙ stands) in
           (stands, subst (λ n. id_of h kind n ≡ Some id) same of.2);
     }
 

@@ -1,43 +1,32 @@
 -- The least row of a range that has a cell.
 use Rattle.std.proofs.Common.{◌≡◌, inl, inr, ℕ, Bool, true, false, cond, T, List, [], ◌∷◌, refl, sym, ap, subst, ◌∙◌, Less, Equal, Greater}
-use Rattle.std.specs.Prelude.{Option, Some, None, Contains, option_map, find, ◌&&◌}
-use Rattle.std.specs.declared.cmp.Ordering.{Ordering}
-use Rattle.std.specs.Ordering.{is_lt, is_eq, eq_by_cmp, ordering_then, ordering_reverse}
+use Rattle.std.specs.Prelude.{Option, Some, None, Contains, option_map, find}
+use Rattle.std.specs.Ordering.{is_eq, eq_by_cmp, ordering_then, ordering_reverse}
 use Rattle.std.specs.FinMap.{entries, entries_sorted, get-entries}
 use Rattle.std.specs.FinMap as map
 use Rattle.std.specs.FinMap.Entries.{is_sorted, below_all}
 use Rattle.std.proofs.lemmas.Cmp.{tied_itself}
+use Rattle.list_lemmas.proofs.BoolTests.{T_left, T_less, T_right, is_equal}
 use Rattle.row_key.specs.declared.tables.Table.TheVariants.{Ids}
-use Rattle.cell_model.specs.declared.cells.Row.{Row}
-use Rattle.cell_model.specs.declared.cells.Found.{Found}
+use Rattle.cell_model.specs.declared.row.Row.{Row}
+use Rattle.cell_model.specs.declared.row.Found.{Found}
 use Rattle.cell_model.specs.declared.events.Place.{Place}
 use Rattle.cell_model.specs.declared.events.Content.{Content}
-use Rattle.cell_model.specs.Order.{bytes_cmp, row_cmp, place_cmp}
+use Rattle.list_lemmas.specs.BytesOrder.{bytes_cmp}
+use Rattle.cell_model.specs.PlaceOrder.{row_cmp, place_cmp}
 use Rattle.cell_model.specs.Store.{Store, place_of, content_at, value_at, cells_of, is_between, next_row_of}
-use Rattle.uid_table.proofs.Lower.{at_front, behind, front_or_behind, in_none, places_total, rows_total, exact_places}
+use Rattle.list_lemmas.proofs.ListMembers.{here, there as behind, split, not_in}
+use Rattle.cell_model.proofs.CallerLemmas.{places_total, rows_total, exact_places}
 
 abbrev Line : Type 0
 Line = Place × Content
 
-both_left : (a b : Bool) → T (a && b) → T a
-both_left true b h = tt
-both_left false b h = h
-
-both_right : (a b : Bool) → T (a && b) → T b
-both_right true b h = h
-both_right false b h = absurd h
-
-is_less : (o : Ordering) → T (is_lt o) → o ≡ Less
-is_less Less h = refl
-is_less Equal h = absurd h
-is_less Greater h = absurd h
-
 -- a key below all is below each
 below_each : (p : Place) (es : List Line) (e : Line) → T (below_all place_cmp p es) → Contains es e → place_cmp p e.0 ≡ Less
-below_each p [] e h c = absurd (in_none e c)
-below_each p (x ∷ es) e h c = elim (front_or_behind x e es c) [
-  | inl same ↦ subst (λ (y : Line). place_cmp p y.0 ≡ Less) same (is_less _ (both_left _ _ h))
-  | inr later ↦ below_each p es e (both_right _ _ h) later
+below_each p [] e h c = absurd (not_in e c)
+below_each p (x ∷ es) e h c = elim (split x e es c) [
+  | inl same ↦ subst (λ (y : Line). place_cmp p y.0 ≡ Less) same (T_less _ (T_left _ _ h))
+  | inr later ↦ below_each p es e (T_right _ _ h) later
 ]
 
 -- a place whose row is below another's is below it
@@ -58,17 +47,17 @@ same_line a b e = cc
 
 pub find_first : (test : Row → Bool) (es : List Line) (e : Line) → T (is_sorted place_cmp es) → find (λ (x : Line). test x.0.row) es ≡ Some e → IsFirst test es e
 find_first test [] e sorted found = cc
-find_first test (x ∷ es) e sorted found = at (test x.0.row) refl found (find_first test es e (both_right _ _ sorted))
+find_first test (x ∷ es) e sorted found = at (test x.0.row) refl found (find_first test es e (T_right _ _ sorted))
   where
     at : (b : Bool) → test x.0.row ≡ b → cond b (Some x) (find (λ (y : Line). test y.0.row) es) ≡ Some e → (find (λ (y : Line). test y.0.row) es ≡ Some e → IsFirst test es e) → IsFirst test (x ∷ es) e
     at true t is go =
         let same = same_line x e is in
         let first : IsFirst test (x ∷ es) x = record {
-          among = at_front x es;
+          among = here x es;
           passes = t;
-          least = λ y c p lt. elim (front_or_behind x y es c) [
+          least = λ y c p lt. elim (split x y es c) [
             | inl one ↦ (let e : Equal ≡ Less = sym (tied_itself rows_total x.0.row) ∙ subst (λ (z : Line). row_cmp z.0.row x.0.row ≡ Less) (sym one) lt in cc)
-            | inr later ↦ turned x.0 y.0 (below_each x.0 es y (both_left _ _ sorted) later) lt
+            | inr later ↦ turned x.0 y.0 (below_each x.0 es y (T_left _ _ sorted) later) lt
           ];
         } in
         subst (IsFirst test (x ∷ es)) same first
@@ -77,26 +66,21 @@ find_first test (x ∷ es) e sorted found = at (test x.0.row) refl found (find_f
         record {
           among = behind x e es rest.among;
           passes = rest.passes;
-          least = λ y c p lt. elim (front_or_behind x y es c) [
+          least = λ y c p lt. elim (split x y es c) [
             | inl one ↦ (let f : false ≡ true = sym t ∙ ap (λ (z : Line). test z.0.row) one ∙ p in cc)
             | inr later ↦ rest.least y later p lt
           ];
         }
 
 pub find_none : (test : Row → Bool) (es : List Line) → find (λ (x : Line). test x.0.row) es ≡ None → (x : Line) → Contains es x → test x.0.row ≡ true → ⊥
-find_none test [] found x c p = in_none x c
+find_none test [] found x c p = not_in x c
 find_none test (y ∷ es) found x c p = at (test y.0.row) refl found (λ f d. find_none test es f x d p)
   where
     at : (b : Bool) → test y.0.row ≡ b → cond b (Some y) (find (λ (z : Line). test z.0.row) es) ≡ None → (find (λ (z : Line). test z.0.row) es ≡ None → Contains es x → ⊥) → ⊥
     at true t is go = cc
-    at false t is go = elim (front_or_behind y x es c) [ inl one ↦ (let f : false ≡ true = sym t ∙ ap (λ (z : Line). test z.0.row) one ∙ p in cc) | inr later ↦ go is later ]
+    at false t is go = elim (split y x es c) [ inl one ↦ (let f : false ≡ true = sym t ∙ ap (λ (z : Line). test z.0.row) one ∙ p in cc) | inr later ↦ go is later ]
 
 -- what the store has at a place is among its entries, and what is among them it has there
-is_equal : (o : Ordering) → is_eq o ≡ true → o ≡ Equal
-is_equal Less e = cc
-is_equal Equal e = refl
-is_equal Greater e = cc
-
 same_content : (a b : Content) → Some a ≡ Some b → a ≡ b
 same_content a b e = cc
 
@@ -105,17 +89,17 @@ found_among [] p c e = cc
 found_among (x ∷ es) p c e = at (eq_by_cmp place_cmp p x.0) refl e (found_among es p c)
   where
     at : (b : Bool) → eq_by_cmp place_cmp p x.0 ≡ b → cond b (Some x.1) (map.find place_cmp p es) ≡ Some c → (map.find place_cmp p es ≡ Some c → Contains es (p, c)) → Contains (x ∷ es) (p, c)
-    at true t is go = subst (Contains (x ∷ es)) (λ i. ((sym (exact_places p x.0 (is_equal _ t))) i, (same_content x.1 c is) i)) (at_front x es)
+    at true t is go = subst (Contains (x ∷ es)) (λ i. ((sym (exact_places p x.0 (is_equal _ t))) i, (same_content x.1 c is) i)) (here x es)
     at false t is go = behind x (p, c) es (go is)
 
 among_found : (es : List Line) (e : Line) → T (is_sorted place_cmp es) → Contains es e → map.find place_cmp e.0 es ≡ Some e.1
-among_found [] e sorted c = absurd (in_none e c)
-among_found (x ∷ es) e sorted c = elim (front_or_behind x e es c) [
+among_found [] e sorted c = absurd (not_in e c)
+among_found (x ∷ es) e sorted c = elim (split x e es c) [
   | inl same ↦ subst (λ (y : Line). map.find place_cmp y.0 (x ∷ es) ≡ Some y.1) same (ap (λ b. cond b (Some x.1) (map.find place_cmp x.0 es)) (ap is_eq (tied_itself places_total x.0)))
   | inr later ↦
-      let lt = below_each x.0 es e (both_left _ _ sorted) later in
+      let lt = below_each x.0 es e (T_left _ _ sorted) later in
       let other : place_cmp e.0 x.0 ≡ Greater = places_total.antisymm e.0 x.0 ∙ ap ordering_reverse lt in
-      ap (λ b. cond b (Some x.1) (map.find place_cmp e.0 es)) (ap is_eq other) ∙ among_found es e (both_right _ _ sorted) later
+      ap (λ b. cond b (Some x.1) (map.find place_cmp e.0 es)) (ap is_eq other) ∙ among_found es e (T_right _ _ sorted) later
 ]
 
 some_mapped : (o : Option Content) (v : List ℕ) → option_map (λ (c : Content). c.value) o ≡ Some v → (c : Content) × (o ≡ Some c)

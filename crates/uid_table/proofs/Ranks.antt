@@ -1,14 +1,15 @@
 -- Bytes as numbers that rise with their order, by which a search comes to its end.
-use Rattle.std.proofs.Common.{◌≡◌, ◌⊎◌, inl, inr, ℕ, zero, suc, ◌+◌, ◌-◌, ◌≤◌, ◌<◌, true, false, List, [], ◌∷◌, ◌++◌, length, refl, sym, ap, subst, ◌∙◌, arith, length-append, Less, Equal, Greater}
-use Rattle.std.specs.Prelude.{All, ◌&&◌, Bool}
+use Rattle.std.proofs.Common.{◌≡◌, ◌⊎◌, inl, inr, ℕ, zero, suc, ◌+◌, ◌-◌, ◌≤◌, ◌<◌, true, false, List, [], ◌∷◌, ◌++◌, length, sym, ap, subst, ◌∙◌, arith, length-append, Less, Equal, Greater}
+use Rattle.std.specs.Prelude.{All}
 use Rattle.std.specs.List.{list_all}
 use Rattle.std.specs.Ordering.{is_lt}
 use Rattle.std.proofs.lemmas.List.Elements.{All-cons, All-nil, All-tail, All-head, All-push}
+use Rattle.list_lemmas.proofs.BoolTests.{both_true}
 use Rattle.tsd_base.specs.Alphabet.{is_name_byte}
 use Rattle.row_key.specs.declared.tables.Table.TheVariants.{Ids}
-use Rattle.cell_model.specs.Order.{bytes_cmp}
+use Rattle.list_lemmas.specs.BytesOrder.{bytes_cmp}
 use Rattle.cell_model.specs.Ranges.{InOneRange, IsWithin}
-use Rattle.uid_table.specs.Suggesting.{CanSearch, IsBehind, IsNameRange}
+use Rattle.uid_table.specs.Suggest.{CanSearch, IsBehind, IsNameRange}
 use Rattle.uid_table.proofs.ByteOrder.{by_order, decides, greater_less, nothing_below, at_least, not_below, not_both, less_or_not, behind_above, behind_in, behind_is_above, below_first, first_above, tied}
 
 -- (k + 1) * t
@@ -74,13 +75,9 @@ left_from xs = top 256 - rank 256 xs
 byte_small : (b : ℕ) → is_name_byte b ≡ true → b < 256
 byte_small b e = grind (arith)
 
-split_and : (a b : Bool) → (a && b) ≡ true → (a ≡ true) × (b ≡ true)
-split_and true b e = (refl, e)
-split_and false b e = absurd cc
-
 pub name_bytes : (xs : List ℕ) → list_all is_name_byte xs ≡ true → All (λ b. b < 256) xs
 name_bytes [] e = All-nil (λ b. b < 256)
-name_bytes (x ∷ xs) e = let w = split_and (is_name_byte x) (list_all is_name_byte xs) e in All-cons (λ b. b < 256) x xs (byte_small x w.0) (name_bytes xs w.1)
+name_bytes (x ∷ xs) e = let w = both_true (is_name_byte x) (list_all is_name_byte xs) e in All-cons (λ b. b < 256) x xs (byte_small x w.0) (name_bytes xs w.1)
 
 -- the edges of a range
 pub range_edges : (low high : ℕ) → IsNameRange low high → (1 ≤ low) × (low < high)

@@ -1,15 +1,17 @@
 -- What a search through the four ranges gathers.
 use Rattle.std.proofs.Common.{◌≡◌, ◌⊎◌, inl, inr, ℕ, ◌≤◌, ◌<◌, true, false, List, [], ◌∷◌, length, refl, sym, subst, arith, Less}
-use Rattle.std.specs.Prelude.{Contains, Result, Ok, Err, OnOk, ◌&&◌, Bool}
+use Rattle.std.specs.Prelude.{Contains, Result, Ok, Err, OnOk}
 use Rattle.std.specs.List.{list_all}
 use Rattle.std.specs.Ordering.{is_lt}
+use Rattle.list_lemmas.proofs.BoolTests.{both_true}
 use Rattle.tsd_base.specs.declared.kinds.Kind.{Kind}
 use Rattle.tsd_base.specs.Alphabet.{IsName, is_name_byte}
-use Rattle.cell_model.specs.Order.{bytes_cmp}
+use Rattle.list_lemmas.specs.BytesOrder.{bytes_cmp}
 use Rattle.cell_model.specs.History.{first}
 use Rattle.cell_model.specs.Seen.{Seen}
-use Rattle.uid_table.specs.Suggesting.{Gathers, GathersTo, GoesOn, Skips, CanSearch, AreBelow, Suggests}
-use Rattle.uid_table.proofs.Lower.{in_none, first_lawful, first_fits, itself}
+use Rattle.uid_table.specs.Suggest.{Gathers, GathersTo, GoesOn, Skips, CanSearch, AreBelow, Suggests}
+use Rattle.list_lemmas.proofs.ListMembers.{not_in}
+use Rattle.cell_laws.proofs.CallerLemmas.{first_lawful, first_fits, itself}
 use Rattle.uid_table.proofs.ByteOrder.{less_or_not, not_both, first_below, below_first, first_above}
 use Rattle.uid_table.proofs.Gathering.{all_below}
 
@@ -43,10 +45,6 @@ from_start kind prefix max low high from names more s t room can skips go start 
     go start (gathers_skipping start s kind prefix max low from names can.on skips (subst (λ (b : List ℕ). Gathers start kind prefix max b names s) is g))
 from_start kind prefix max low high from names more s t room can skips go start (upto, g, inr full) = absurd (omega (arith, room, full))
 
-split_and : (a b : Bool) → (a && b) ≡ true → (a ≡ true) × (b ≡ true)
-split_and true b e = (refl, e)
-split_and false b e = absurd cc
-
 byte_range : (b : ℕ) → is_name_byte b ≡ true → (1 ≤ b) × (b < 123)
 byte_range b e = (grind (arith), grind (arith))
 
@@ -54,7 +52,7 @@ byte_range b e = (grind (arith), grind (arith))
 pub name_between : (name : List ℕ) → IsName name → (bytes_cmp name (1 ∷ []) ≡ Less → ⊥) × (bytes_cmp name (123 ∷ []) ≡ Less)
 name_between [] n = absurd (let s = n.some in omega (arith, s))
 name_between (x ∷ xs) n =
-    let w = byte_range x (split_and (is_name_byte x) (list_all is_name_byte xs) n.alphabet).0 in
+    let w = byte_range x (both_true (is_name_byte x) (list_all is_name_byte xs) n.alphabet).0 in
     (λ lt. let u = first_below x 1 xs lt in let a = w.0 in omega (arith, u, a), below_first x 123 xs w.1)
 
 -- before anything was looked for
@@ -66,7 +64,7 @@ nothing_gathered s kind prefix max names is = subst (λ xs. GathersTo s kind pre
     rising = λ i j d lt more. absurd (omega (arith, more));
     most = omega arith;
     below = λ k d lt. absurd (omega (arith, lt));
-    each = λ n c. absurd (in_none n c);
+    each = λ n c. absurd (not_in n c);
     covers = λ h l f name r pre lt. absurd ((name_between name r.0).0 lt);
   },
   inl refl,

@@ -5,18 +5,18 @@ use Rattle.tsd_base.specs.declared.kinds.Kind.{Kind}
 use Rattle.tsd_base.specs.Alphabet.{IsName}
 use Rattle.row_key.specs.Key.{IsId}
 use Rattle.qual_codec.specs.declared.cells.Cell.{Cell}
-use Rattle.cell_model.specs.declared.cells.Row.{Row}
+use Rattle.cell_model.specs.declared.row.Row.{Row}
 use Rattle.cell_model.specs.declared.events.Step.TheVariants.{Read, Claim}
 use Rattle.cell_model.specs.declared.events.Reply.TheVariants.{Shown, ClaimReply}
 use Rattle.cell_model.specs.declared.answers.Claimed.TheVariants.{Done, Held}
 use Rattle.cell_model.specs.Store.{value_among}
 use Rattle.cell_model.specs.Machine.{kind_qual}
-use Rattle.cell_model.specs.Ids.{name_row, id_bytes, id_number}
+use Rattle.cell_model.specs.IdRows.{name_row, id_bytes, id_number}
 use Rattle.cell_model.specs.Seen.{Seen, Stepped, IsPossible, KnowsCell}
 use Rattle.cell_model.specs.Seen.Shows.{by_read, by_claim, by_held}
 use Rattle.cell_model.specs.Deeds.{Extends}
 use Rattle.uid_table.specs.Shown.{HasShown}
-use Rattle.uid_table.proofs.Lower.{shown_id, id_read_back, extends_joined}
+use Rattle.cell_laws.proofs.CallerLemmas.{shown_id, number-bytes, extends_joined}
 
 -- a cell that was shown is the id of its name
 pub record ShownId (s : Seen) (kind : Kind) (name value : List ℕ) : Type 0 where
@@ -30,7 +30,7 @@ has_shown s kind name id is n known = record {
   is_id = is;
   is_name = n;
   known = known;
-  stands = λ later ext h l f. let st = shown_id s h kind name (id_bytes id) l (ext.fits h f) n known in st.4 ∙ sym st.3 ∙ id_read_back id is.1;
+  stands = λ later ext h l f. let st = shown_id s h kind name (id_bytes id) l (ext.fits h f) n known in st.4 ∙ sym st.3 ∙ number-bytes id is.1;
 }
 
 pub shown_cell : (s : Seen) (kind : Kind) (name value : List ℕ) → IsPossible s → IsName name → KnowsCell s (name_row name) (kind_qual kind) value → ShownId s kind name value

@@ -1,6 +1,6 @@
-pub mod Answers
-pub mod Keys
-pub mod Kept
+pub mod IdAnswers
+pub mod KindNumbers
+pub mod Cache
 pub mod Shown
-pub mod Steps
-pub mod Suggesting
+pub mod IdSteps
+pub mod Suggest

@@ -5,7 +5,7 @@ use Rattle.tsd_base.specs.Alphabet.{IsName}
 use Rattle.row_key.specs.Key.{IsId}
 use Rattle.cell_model.specs.Machine.{kind_qual}
 use Rattle.cell_model.specs.History.{History}
-use Rattle.cell_model.specs.Ids.{name_row, id_row, id_bytes, id_of, name_of}
+use Rattle.cell_model.specs.IdRows.{name_row, id_row, id_bytes, id_of, name_of}
 use Rattle.cell_model.specs.Lawful.{claimed}
 use Rattle.cell_model.specs.Seen.{Seen, Saw, KnowsCell, InEach}
 use Rattle.cell_model.specs.Deeds.{Extends}

@@ -1,13 +1,13 @@
 //! Ids of names and names of ids, over any rows.
 #![tactic(auto)]
 
-pub mod answers;
-mod giving;
-mod kept;
-mod naming;
-mod reading;
-mod suggesting;
+mod assign;
+mod cache;
+pub mod id_answers;
+mod id_name;
+mod id_reads;
+mod suggest;
 pub mod uids;
 
-pub use answers::{AssignFault, Assigned, ResolveFault};
+pub use id_answers::{AssignFault, Assigned, ResolveFault};
 pub use uids::Uids;

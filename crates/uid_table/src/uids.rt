@@ -1,24 +1,25 @@
 //! Rows with the ids of names.
-ghost use Rattle.std.specs.Prelude.{◌≡◌, ◌≤◌, IfOk, IfErr, OnOk};
-ghost use Rattle.cell_model.specs.Seen.{IsPossible, RoseIfStopped};
-ghost use Rattle.uid_table.specs.Answers.{answered_id, ResolveRose, AssignRose};
+ghost use Rattle.std.specs.Prelude.{◌≡◌, ◌≤◌, IfOk, IfErr};
+ghost use Rattle.cell_model.specs.Stops.{CountsStops, is_stop};
+ghost use Rattle.cell_model.specs.Calls.{Leaves};
+ghost use Rattle.uid_table.specs.IdAnswers.{answered_id, is_resolve_stop, is_assign_stop};
 ghost use Rattle.uid_table.specs.Shown.{HasShown, KnowsName, HasShownName};
 ghost use Rattle.tsd_base.specs.Alphabet.{IsName};
-ghost use Rattle.uid_table.specs.Kept.{KeepsIds, KeepsNames};
-ghost use Rattle.uid_table.specs.Suggesting.{AllLooks, Suggests};
-ghost use Rattle.uid_table.specs.Steps.{MadeSo, ResolveMade, AssignMade, NameMade};
+ghost use Rattle.cell_model.specs.IdRows.{name_row};
+ghost use Rattle.uid_table.specs.Cache.{KeepsIds, KeepsNames};
+ghost use Rattle.uid_table.specs.Suggest.{AllLooks, Suggests};
+ghost use Rattle.uid_table.specs.IdSteps.{MadeSo, ResolveMade, AssignMade, NameMade};
 
-use crate::answers::{AssignFault, Assigned, ResolveFault};
-use crate::giving::look_or_give;
-use crate::kept::{
-    IdKey, Ids, NameKey, Names, keep_id, keep_name, kept_id, kept_name, key_of_row, name_key,
-    nothing_kept, row_of_key,
+use crate::assign::look_or_give;
+use crate::cache::{
+    IdKey, Ids, NameKey, Names, keep_id, keep_name, kept_id, kept_name, name_key, nothing_kept,
 };
-use crate::naming::name_in;
-use crate::reading::look;
-use crate::suggesting::suggest_in;
+use crate::id_answers::{AssignFault, Assigned, ResolveFault};
+use crate::id_name::name_in;
+use crate::id_reads::look;
+use crate::suggest::suggest_in;
 use cell_model::answers::{Bumped, Claimed, RowsFault, Stopped};
-use cell_model::cells::{Cells, Drops, Found, Row};
+use cell_model::row::{Cells, Drops, Found, Row};
 use cell_model::rows::Rows;
 use qual_codec::Bytes;
 use row_key::Table;
@@ -44,7 +45,7 @@ pub struct Uids<R: Rows + Drop> {
 }
 
 impl<R: Rows + Drop> Model for Uids<R> {
-    ghost use Rattle.uid_table.specs.Kept.{KeepsIds, KeepsNames};
+    ghost use Rattle.uid_table.specs.Cache.{KeepsIds, KeepsNames};
 
     ghost Value = { R };
 
@@ -96,9 +97,7 @@ impl<R: Rows + Drop> Uids<R> {
     pub fn resolve(&mut self, alloc: Global, kind: Kind, name: &Name) -> Result<u32, ResolveFault>
         ensures made { MadeSo (R.seen self.old) (ResolveMade kind name.now result) (R.seen self.new) }
         ensures id { IfOk result (HasShown (R.seen self.new) kind name.now) }
-        ensures possible { OnOk result (IsPossible (R.seen self.new)) }
-        ensures grows { R.stops self.old ≤ R.stops self.new }
-        ensures stopped { IfErr result (ResolveRose (R.stops self.old) (R.stops self.new)) }
+        ensures leaves { Leaves is_resolve_stop result (R.seen self.new) (R.stops self.old) (R.stops self.new) }
     {
         let Ok(key) = name_key(alloc, kind, name) else {
             return Err(ResolveFault::OutOfMemory);
@@ -120,9 +119,7 @@ impl<R: Rows + Drop> Uids<R> {
     ) -> Result<Assigned, AssignFault>
         ensures made { MadeSo (R.seen self.old) (AssignMade kind name.now result) (R.seen self.new) }
         ensures id { IfOk result (λ a. HasShown (R.seen self.new) kind name.now (answered_id a)) }
-        ensures possible { OnOk result (IsPossible (R.seen self.new)) }
-        ensures grows { R.stops self.old ≤ R.stops self.new }
-        ensures stopped { IfErr result (AssignRose (R.stops self.old) (R.stops self.new)) }
+        ensures leaves { Leaves is_assign_stop result (R.seen self.new) (R.stops self.old) (R.stops self.new) }
     {
         let Ok(key) = name_key(alloc, kind, name) else {
             return Err(AssignFault::OutOfMemory);
@@ -137,9 +134,7 @@ impl<R: Rows + Drop> Uids<R> {
         requires { KnowsName (R.seen self.old) kind id }
         ensures made { MadeSo (R.seen self.old) (NameMade kind id result) (R.seen self.new) }
         ensures name { IfOk result (HasShownName (R.seen self.new) kind id) }
-        ensures possible { OnOk result (IsPossible (R.seen self.new)) }
-        ensures grows { R.stops self.old ≤ R.stops self.new }
-        ensures stopped { IfErr result (RoseIfStopped (R.stops self.old) (R.stops self.new)) }
+        ensures leaves { Leaves is_stop result (R.seen self.new) (R.stops self.old) (R.stops self.new) }
     {
         name_of_in(&mut self.rows, &mut self.names, alloc, IdKey { kind, id })
     }
@@ -158,8 +153,7 @@ impl<R: Rows + Drop> Uids<R> {
         requires most { max ≤ 10000 }
         ensures names { IfOk result (λ names. Suggests (R.seen self.old) kind prefix.now max names.items (R.seen self.new)) }
         ensures made { MadeSo (R.seen self.old) AllLooks (R.seen self.new) }
-        ensures grows { R.stops self.old ≤ R.stops self.new }
-        ensures stopped { IfErr result (RoseIfStopped (R.stops self.old) (R.stops self.new)) }
+        ensures stops { CountsStops is_stop result (R.stops self.old) (R.stops self.new) }
     {
         suggest_in(&mut self.rows, alloc, kind, prefix, max)
     }
@@ -172,13 +166,12 @@ fn resolve_in<R: Rows>(
     alloc: Global,
     key: NameKey,
 ) -> Result<u32, ResolveFault>
-    requires named { IsName key.name }
+    requires row { key.row ≡ name_row key.row.bytes }
+    requires named { IsName key.row.bytes }
     requires kept { KeepsIds (R.seen rows.old) ids.old.entries }
-    ensures made { MadeSo (R.seen rows.old) (ResolveMade key.kind key.name result) (R.seen rows.new) }
-    ensures id { IfOk result (HasShown (R.seen rows.new) key.kind key.name) }
-    ensures possible { OnOk result (IsPossible (R.seen rows.new)) }
-    ensures grows { R.stops rows.old ≤ R.stops rows.new }
-    ensures stopped { IfErr result (ResolveRose (R.stops rows.old) (R.stops rows.new)) }
+    ensures made { MadeSo (R.seen rows.old) (ResolveMade key.kind key.row.bytes result) (R.seen rows.new) }
+    ensures id { IfOk result (HasShown (R.seen rows.new) key.kind key.row.bytes) }
+    ensures leaves { Leaves is_resolve_stop result (R.seen rows.new) (R.stops rows.old) (R.stops rows.new) }
     ensures kept { KeepsIds (R.seen rows.new) ids.new.entries }
 {
     match kept_id(ids, &key) {
@@ -194,20 +187,19 @@ fn resolve_anew<R: Rows>(
     alloc: Global,
     key: NameKey,
 ) -> Result<u32, ResolveFault>
-    requires named { IsName key.name }
+    requires row { key.row ≡ name_row key.row.bytes }
+    requires named { IsName key.row.bytes }
     requires kept { KeepsIds (R.seen rows.old) ids.old.entries }
-    ensures made { MadeSo (R.seen rows.old) (ResolveMade key.kind key.name result) (R.seen rows.new) }
-    ensures id { IfOk result (HasShown (R.seen rows.new) key.kind key.name) }
-    ensures possible { OnOk result (IsPossible (R.seen rows.new)) }
-    ensures grows { R.stops rows.old ≤ R.stops rows.new }
-    ensures stopped { IfErr result (ResolveRose (R.stops rows.old) (R.stops rows.new)) }
+    ensures made { MadeSo (R.seen rows.old) (ResolveMade key.kind key.row.bytes result) (R.seen rows.new) }
+    ensures id { IfOk result (HasShown (R.seen rows.new) key.kind key.row.bytes) }
+    ensures leaves { Leaves is_resolve_stop result (R.seen rows.new) (R.stops rows.old) (R.stops rows.new) }
     ensures kept { KeepsIds (R.seen rows.new) ids.new.entries }
 {
-    let (kind, row) = row_of_key(key);
-    let shown = look(rows, alloc, kind, &row)?;
+    let kind = key.kind;
+    let shown = look(rows, alloc, kind, &key.row)?;
     match shown {
         Some(id) => {
-            keep_id(ids, key_of_row(kind, row), id);
+            keep_id(ids, key, id);
             Ok(id)
         }
         None => Err(ResolveFault::Unknown { kind }),
@@ -221,13 +213,12 @@ fn assign_in<R: Rows>(
     alloc: Global,
     key: NameKey,
 ) -> Result<Assigned, AssignFault>
-    requires named { IsName key.name }
+    requires row { key.row ≡ name_row key.row.bytes }
+    requires named { IsName key.row.bytes }
     requires kept { KeepsIds (R.seen rows.old) ids.old.entries }
-    ensures made { MadeSo (R.seen rows.old) (AssignMade key.kind key.name result) (R.seen rows.new) }
-    ensures id { IfOk result (λ a. HasShown (R.seen rows.new) key.kind key.name (answered_id a)) }
-    ensures possible { OnOk result (IsPossible (R.seen rows.new)) }
-    ensures grows { R.stops rows.old ≤ R.stops rows.new }
-    ensures stopped { IfErr result (AssignRose (R.stops rows.old) (R.stops rows.new)) }
+    ensures made { MadeSo (R.seen rows.old) (AssignMade key.kind key.row.bytes result) (R.seen rows.new) }
+    ensures id { IfOk result (λ a. HasShown (R.seen rows.new) key.kind key.row.bytes (answered_id a)) }
+    ensures leaves { Leaves is_assign_stop result (R.seen rows.new) (R.stops rows.old) (R.stops rows.new) }
     ensures kept { KeepsIds (R.seen rows.new) ids.new.entries }
 {
     match kept_id(ids, &key) {
@@ -243,18 +234,16 @@ fn assign_anew<R: Rows>(
     alloc: Global,
     key: NameKey,
 ) -> Result<Assigned, AssignFault>
-    requires named { IsName key.name }
+    requires row { key.row ≡ name_row key.row.bytes }
+    requires named { IsName key.row.bytes }
     requires kept { KeepsIds (R.seen rows.old) ids.old.entries }
-    ensures made { MadeSo (R.seen rows.old) (AssignMade key.kind key.name result) (R.seen rows.new) }
-    ensures id { IfOk result (λ a. HasShown (R.seen rows.new) key.kind key.name (answered_id a)) }
-    ensures possible { OnOk result (IsPossible (R.seen rows.new)) }
-    ensures grows { R.stops rows.old ≤ R.stops rows.new }
-    ensures stopped { IfErr result (AssignRose (R.stops rows.old) (R.stops rows.new)) }
+    ensures made { MadeSo (R.seen rows.old) (AssignMade key.kind key.row.bytes result) (R.seen rows.new) }
+    ensures id { IfOk result (λ a. HasShown (R.seen rows.new) key.kind key.row.bytes (answered_id a)) }
+    ensures leaves { Leaves is_assign_stop result (R.seen rows.new) (R.stops rows.old) (R.stops rows.new) }
     ensures kept { KeepsIds (R.seen rows.new) ids.new.entries }
 {
-    let (kind, row) = row_of_key(key);
-    let assigned = look_or_give(rows, alloc, kind, &row)?;
-    keep_id(ids, key_of_row(kind, row), assigned.id());
+    let assigned = look_or_give(rows, alloc, key.kind, &key.row)?;
+    keep_id(ids, key, assigned.id());
     Ok(assigned)
 }
 
@@ -269,9 +258,7 @@ fn name_of_in<R: Rows>(
     requires kept { KeepsNames (R.seen rows.old) names.old.entries }
     ensures made { MadeSo (R.seen rows.old) (NameMade key.kind key.id result) (R.seen rows.new) }
     ensures name { IfOk result (HasShownName (R.seen rows.new) key.kind key.id) }
-    ensures possible { OnOk result (IsPossible (R.seen rows.new)) }
-    ensures grows { R.stops rows.old ≤ R.stops rows.new }
-    ensures stopped { IfErr result (RoseIfStopped (R.stops rows.old) (R.stops rows.new)) }
+    ensures leaves { Leaves is_stop result (R.seen rows.new) (R.stops rows.old) (R.stops rows.new) }
     ensures kept { KeepsNames (R.seen rows.new) names.new.entries }
 {
     match kept_name(names, alloc, key) {
@@ -292,9 +279,7 @@ fn name_anew<R: Rows>(
     requires kept { KeepsNames (R.seen rows.old) names.old.entries }
     ensures made { MadeSo (R.seen rows.old) (NameMade key.kind key.id result) (R.seen rows.new) }
     ensures name { IfOk result (HasShownName (R.seen rows.new) key.kind key.id) }
-    ensures possible { OnOk result (IsPossible (R.seen rows.new)) }
-    ensures grows { R.stops rows.old ≤ R.stops rows.new }
-    ensures stopped { IfErr result (RoseIfStopped (R.stops rows.old) (R.stops rows.new)) }
+    ensures leaves { Leaves is_stop result (R.seen rows.new) (R.stops rows.old) (R.stops rows.new) }
     ensures kept { KeepsNames (R.seen rows.new) names.new.entries }
 {
     let name = name_in(rows, alloc, key.kind, key.id)?;

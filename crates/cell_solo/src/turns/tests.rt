@@ -1,10 +1,10 @@
 use super::*;
-use crate::block::MOST_NAMES;
-use crate::places::size_of_place;
+use crate::turn_bytes::MOST_NAMES;
+use crate::turn_places::size_of_place;
 use qual_codec::pack_value;
 use std::mem::size_of;
 use std::test::Fail;
-use tsd_base::reading::read_point;
+use tsd_base::point_text::read_point;
 
 #[test]
 fn steps_are_counted_by_caller(rt: HostRuntime) -> Result<(), Fail> {

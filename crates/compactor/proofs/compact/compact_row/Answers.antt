@@ -1,9 +1,9 @@
 use Rattle.std.proofs.Common.{Ok, arith, subst, sym}
 use Rattle.std.proofs.lemmas.Result.{err_from_is_err_and}
-use Rattle.cell_model.specs.declared.cells.Row.{Row}
+use Rattle.cell_model.specs.declared.row.Row.{Row}
 use Rattle.cell_model.specs.Rising.{RiseByQual}
 use Rattle.cell_model.specs.Deeds.{MadeSo}
-use Rattle.compactor.specs.declared.answers.Compacted.TheVariants.{Nothing}
+use Rattle.compactor.specs.declared.compaction.Compacted.TheVariants.{Nothing}
 use Rattle.compactor.specs.Plans.{KnowsEach, WriteMade}
 use Rattle.compactor.proofs.Rows.{shown_known, shown_read, not_read, had_few, no_plan, wrote, few_entries}
 use Rattle.compactor.proofs.compact.compact_row.Goals as goal

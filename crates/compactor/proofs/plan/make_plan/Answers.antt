@@ -1,7 +1,7 @@
 use Rattle.std.proofs.Common.{List, subst, sym, ◌∙◌}
 use Rattle.std.specs.Prelude.{All}
 use Rattle.qual_codec.specs.declared.cells.Cell.{Cell}
-use Rattle.qual_codec.specs.Dots.{Reads}
+use Rattle.qual_codec.specs.CellDots.{Reads}
 use Rattle.compactor.proofs.plan.make_plan.Goals as goal
 
 pub merge_cells-requires-clause-read : goal.merge_cells-requires-clause-read

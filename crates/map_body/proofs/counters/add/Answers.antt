@@ -1,9 +1,9 @@
 use Rattle.std.proofs.Common.{List, [], ◌∷◌, ◌++◌, map, ap, ◌∙◌}
 use Rattle.map_body.proofs.counters.add.Goals as goal
-use Rattle.map_body.proofs.Lists.{line_at, same_lines}
+use Rattle.map_body.proofs.CellLines.{line_at, same_lines}
 use Rattle.map_body.proofs.Counted.{one_shown}
 use Rattle.map_body.specs.Counting.{shown}
-use Rattle.cell_model.specs.declared.cells.ListLine.{ListLine}
+use Rattle.cell_model.specs.declared.row.ListLine.{ListLine}
 use Rattle.row_key.specs.declared.tables.Table.TheVariants.{Ids}
 use Rattle.map_body.proofs.Rise.{shown_above}
 

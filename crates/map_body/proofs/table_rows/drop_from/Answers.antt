@@ -1,7 +1,7 @@
 use Rattle.std.proofs.Common.{◌≡◌, ℕ, List, ap, ◌∙◌, arith}
 use Rattle.std.specs.FinMap.{len}
 use Rattle.packed_cells.specs.Keyed.{without}
-use Rattle.map_body.specs.Rows.{left}
+use Rattle.map_body.specs.TableRows.{left}
 use Rattle.map_body.proofs.CellLemmas.{gone_and_left, drop_starts, drop_goes_on, drop_ends}
 use Rattle.map_body.proofs.table_rows.drop_from.Goals as goal
 

@@ -1,7 +1,7 @@
 use Rattle.std.proofs.Common.{sym, ap, subst, ◌∙◌, refl, arith}
 use Rattle.std.specs.FinMap.{empty}
 use Rattle.packed_cells.specs.Keyed.{CellMap}
-use Rattle.map_body.specs.Rows.{rows_of, row_in, ChangesRow, left, gone}
+use Rattle.map_body.specs.TableRows.{rows_of, row_in, ChangesRow, left, gone}
 use Rattle.map_body.proofs.Maps.{remove_tree, inserted, removed, none_empty_set, through, through_count, row_found, row_absent, unchanged_row, removed_count, changes_twice, none_empty_emptied, through_there, none_len}
 use Rattle.map_body.proofs.CellLemmas.{left_none, gone_none}
 use Rattle.map_body.proofs.table_rows.drop_in.Goals as goal

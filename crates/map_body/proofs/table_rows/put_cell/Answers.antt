@@ -1,7 +1,7 @@
 use Rattle.std.proofs.Common.{sym, ap, ◌∙◌, arith}
 use Rattle.std.specs.FinMap.{get, insert}
 use Rattle.packed_cells.specs.Keyed.{CellMap}
-use Rattle.map_body.specs.Rows.{rows_of}
+use Rattle.map_body.specs.TableRows.{rows_of}
 use Rattle.map_body.proofs.Maps.{get_tree, through, through_count, through_same, row_found, row_absent, on_err}
 use Rattle.map_body.proofs.table_rows.put_cell.Goals as goal
 

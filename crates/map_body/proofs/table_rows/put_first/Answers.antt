@@ -1,7 +1,7 @@
 use Rattle.std.proofs.Common.{ap, ◌∙◌}
 use Rattle.std.specs.FinMap.{get, insert}
 use Rattle.packed_cells.specs.Keyed.{CellMap}
-use Rattle.map_body.specs.Rows.{rows_of}
+use Rattle.map_body.specs.TableRows.{rows_of}
 use Rattle.map_body.proofs.Maps.{insert_tree, first_count}
 use Rattle.map_body.proofs.table_rows.put_first.Goals as goal
 

@@ -1,7 +1,7 @@
 use Rattle.std.proofs.Common.{◌≢◌, sym, ap, subst, ◌∙◌, arith}
 use Rattle.std.specs.FinMap.{empty, len}
 use Rattle.packed_cells.specs.Keyed.{CellMap, stamped}
-use Rattle.map_body.specs.Rows.{rows_of, row_in, ChangesRow}
+use Rattle.map_body.specs.TableRows.{rows_of, row_in, ChangesRow}
 use Rattle.map_body.proofs.Maps.{get_tree, inserted, none_empty_set, through, through_count, row_found, row_absent, unchanged_row}
 use Rattle.map_body.proofs.CellLemmas.{len_stamped, stamped_some, stamped_none}
 use Rattle.map_body.proofs.table_rows.stamp_in.Goals as goal

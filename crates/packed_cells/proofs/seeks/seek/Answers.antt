@@ -1,7 +1,8 @@
 use Rattle.std.proofs.Common.{arith, ◌≡◌, ◌<◌, ◌-◌, ◌∙◌, ℕ, length, ap, sym, subst, slice_index_or}
 use Rattle.std.specs.declared.cmp.Ordering.TheVariants.{Less, Greater}
 use Rattle.qual_codec.specs.declared.cells.Cell.{Cell}
-use Rattle.packed_cells.specs.Seeks.{bytes_cmp, AllBefore, AllBehind}
+use Rattle.list_lemmas.specs.BytesOrder.{bytes_cmp}
+use Rattle.packed_cells.specs.Seeks.{AllBefore, AllBehind}
 use Rattle.packed_cells.proofs.Halves.{up_to, from_on}
 use Rattle.packed_cells.proofs.seeks.seek.Goals as goal
 use Rattle.packed_cells.proofs.seeks.seek.Goals.{in-Less, in-Greater}

@@ -1,6 +1,6 @@
 use Rattle.std.proofs.Common.{List, subst, sym}
 use Rattle.qual_codec.specs.declared.cells.Dot.{Dot}
-use Rattle.qual_codec.specs.Dots.{IsDots}
+use Rattle.qual_codec.specs.CellDots.{IsDots}
 use Rattle.qual_codec.specs.MergeSteps.{AreOfCell}
 use Rattle.qual_codec.proofs.Merges.{kept_of_cell, kept_at_least}
 use Rattle.qual_codec.proofs.merge.merge_cells.Goals as goal

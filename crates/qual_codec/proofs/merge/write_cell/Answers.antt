@@ -1,7 +1,7 @@
 use Rattle.std.proofs.Common.{◌≡◌, List, length, ap, arith, sym, subst, ◌∙◌}
 use Rattle.std.specs.Prelude.{◌&&◌}
-use Rattle.qual_codec.specs.Dots.{IsDots, tail_for}
-use Rattle.qual_codec.specs.Steps.{bytes_in}
+use Rattle.qual_codec.specs.CellDots.{IsDots, tail_for}
+use Rattle.qual_codec.specs.CellSteps.{bytes_in}
 use Rattle.qual_codec.proofs.Written.{write_next, item_is, written, and_then, and_else}
 use Rattle.qual_codec.proofs.merge.write_cell.Goals as goal
 use Rattle.qual_codec.proofs.merge.write_cell.Goals.{then-fine, else-fine}

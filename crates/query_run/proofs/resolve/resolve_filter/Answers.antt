@@ -1,7 +1,7 @@
 use Rattle.query_run.specs.declared.id_filter.IdFilter.{IdFilter}
 use Rattle.query_run.specs.IdFilters.{IsIdFilter}
-use Rattle.query_run.specs.Queries.{filter_names}
-use Rattle.query_run.specs.Resolving.{Resolves}
+use Rattle.query_run.specs.AskedQueries.{filter_names}
+use Rattle.query_run.specs.ResolvedIds.{Resolves}
 use Rattle.query_run.proofs.NameReads.{passed_on}
 use Rattle.query_run.proofs.NameIds.{key_unresolved, test_unresolved, filter_resolved}
 use Rattle.query_run.proofs.resolve.resolve_filter.Goals as goal

@@ -3,8 +3,8 @@ use Rattle.std.specs.List.{flat_map}
 use Rattle.query_run.specs.declared.fault.AskFault.TheVariants.{OutOfMemory}
 use Rattle.query_run.specs.declared.id_filter.IdFilter.{IdFilter}
 use Rattle.query_run.specs.IdFilters.{AreIdFilters, IsIdFilter}
-use Rattle.query_run.specs.Queries.{filter_names}
-use Rattle.query_run.specs.Resolving.{Resolves}
+use Rattle.query_run.specs.AskedQueries.{filter_names}
+use Rattle.query_run.specs.ResolvedIds.{Resolves}
 use Rattle.query_run.proofs.NameReads.{passed_on}
 use Rattle.query_run.proofs.NameIds.{by_filter_later, far_none, far_more, far_fails, far_lost, far_all}
 use Rattle.query_run.proofs.resolve.resolve_filters.Goals as goal
@@ -26,8 +26,8 @@ pub loop-filter-preserved : goal.loop-filter-preserved
 loop-filter-preserved g c = record {
   far = far_more filter_names IsIdFilter by_filter_later _ _ _ c.args.filters.now c.loop-filter.filter-index c.filter-item.result c.loop-filter.list.items c.loop-filter-test.true c.filter-item.is c.loop-filter.invariant.far c.in_ok-resolve_filter.field-0 c.push.new.self.items c.in_ok-resolve_filter.ensures.says.0
       c.in_ok-resolve_filter.ensures.says.1 c.in_ok-push.ensures.items;
-  possible = c.in_ok-resolve_filter.ensures.possible;
-  grows = let a = c.loop-filter.invariant.grows in let b = c.in_ok-resolve_filter.ensures.grows in omega (arith, a, b);
+  possible = c.in_ok-resolve_filter.ensures.leaves.possible;
+  grows = let a = c.loop-filter.invariant.grows in let b = c.in_ok-resolve_filter.ensures.leaves.grows in omega (arith, a, b);
 }
 
 pub returns-clause-says : goal.returns-clause-says

@@ -1,7 +1,7 @@
 use Rattle.std.proofs.Common.{◌≤◌, take}
 use Rattle.cell_model.specs.Seen.{IsPossible}
 use Rattle.query_run.specs.IdFilters.{IsIdFilter}
-use Rattle.query_run.specs.Queries.{filter_names}
+use Rattle.query_run.specs.AskedQueries.{filter_names}
 use Rattle.query_run.proofs.NameIds.{SoFar, by_filter_later}
 use Rattle.query_run.proofs.resolve.resolve_filters.Given as goal
 

@@ -1,6 +1,6 @@
 use Rattle.std.proofs.Common.{List, [], ◌∷◌, ℕ, sym, subst}
 use Rattle.query_run.specs.declared.fault.AskFault.TheVariants.{Unknown}
-use Rattle.query_run.specs.Resolving.{IsUnresolved}
+use Rattle.query_run.specs.ResolvedIds.{IsUnresolved}
 use Rattle.query_run.proofs.NameIds.{name_unknown}
 use Rattle.query_run.proofs.resolve.resolve_name.Goals as goal
 

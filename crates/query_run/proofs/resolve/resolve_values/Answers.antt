@@ -3,7 +3,7 @@ use Rattle.tsd_base.specs.declared.kinds.Kind.TheVariants.{TagValue}
 use Rattle.query_run.specs.declared.fault.AskFault.TheVariants.{OutOfMemory}
 use Rattle.query_run.specs.IdFilters.{AreIds}
 use Rattle.query_run.specs.Parts.{NameOf}
-use Rattle.query_run.specs.Resolving.{AreResolved, IsUnresolved, Resolves}
+use Rattle.query_run.specs.ResolvedIds.{AreResolved, IsUnresolved, Resolves}
 use Rattle.query_run.proofs.NameReads.{passed_on}
 use Rattle.query_run.proofs.NameIds.{IsValue, value_name, value_names, value_later, far_none, far_more, far_fails, far_lost, far_all}
 use Rattle.query_run.proofs.resolve.resolve_values.Goals as goal
@@ -31,8 +31,8 @@ pub loop-value-preserved : goal.loop-value-preserved
 loop-value-preserved g c = record {
   far = far_more value_name IsValue value_later _ _ _ c.args.values.now c.loop-value.value-index c.value-item.result c.loop-value.ids.items c.loop-value-test.true c.value-item.is c.loop-value.invariant.far c.in_ok-resolve_name.field-0 c.push.new.self.items c.in_ok-resolve_name.ensures.says.0
       c.in_ok-resolve_name.ensures.says.1 c.in_ok-push.ensures.items;
-  possible = c.in_ok-resolve_name.ensures.possible;
-  grows = let a = c.loop-value.invariant.grows in let b = c.in_ok-resolve_name.ensures.grows in omega (arith, a, b);
+  possible = c.in_ok-resolve_name.ensures.leaves.possible;
+  grows = let a = c.loop-value.invariant.grows in let b = c.in_ok-resolve_name.ensures.leaves.grows in omega (arith, a, b);
 }
 
 pub returns-clause-says : goal.returns-clause-says

@@ -1,6 +1,7 @@
 use Rattle.std.proofs.Common.{length}
 use Rattle.std.proofs.lemmas.Result.{err_from_is_err_and}
-use Rattle.query_text.proofs.FilterParts.{apart, alike, is_other, is_brace, first_read, first_bad, second_ends, second_goes_on, second_fails}
+use Rattle.query_text.proofs.FilterParts.{apart, is_other, is_brace, first_read, first_bad, second_ends, second_goes_on, second_fails}
+use Rattle.list_lemmas.proofs.BoolTests.{nat_eq-same}
 use Rattle.query_text.proofs.filters.read_filters.Goals as goal
 
 pub returns-then-text-second-ne123 : goal.returns-then-text-second-ne123
@@ -22,7 +23,7 @@ returns-then-end-text c =
     let first = first_read c.args.text.now c.in-Some.first c.new-filters.result.items c.read_part.new.filters.items c.in_ok-second.second c.in-Some.ensures.place c.new-filters.ensures.items (c.in_ok-second.ensures {u = tt}).part in
     let more = apart c.in_ok-second.second (length c.args.text.now) c.if-second-text.false in
     let brace = is_brace c.args.text.now c.in_ok-second.second (c.in_ok-second.ensures {u = tt}).within c.if-second-text.false c.if-text-second-ne123.false in
-    second_ends c.args.text.now c.in-Some.first c.read_part.new.filters.items c.in_ok-second.second first more brace c.in_ok-end.end c.read_part-2.new.filters.items (c.in_ok-end.ensures {u = tt}).part (alike c.in_ok-end.end (length c.args.text.now) c.if-end-text.true)
+    second_ends c.args.text.now c.in-Some.first c.read_part.new.filters.items c.in_ok-second.second first more brace c.in_ok-end.end c.read_part-2.new.filters.items (c.in_ok-end.ensures {u = tt}).part (nat_eq-same c.in_ok-end.end (length c.args.text.now) c.if-end-text.true)
 
 pub returns-else-end-text : goal.returns-else-end-text
 returns-else-end-text c =

@@ -2,7 +2,7 @@ use Rattle.std.proofs.Common.{List, sym, subst}
 use Rattle.std.specs.Prelude.{All}
 use Rattle.std.proofs.lemmas.List.Elements.{All-push}
 use Rattle.qual_codec.specs.declared.cells.Cell.{Cell}
-use Rattle.qual_codec.specs.Dots.{Reads}
+use Rattle.qual_codec.specs.CellDots.{Reads}
 use Rattle.row_scan.proofs.tests.add.Goals as goal
 
 pub returns : goal.returns

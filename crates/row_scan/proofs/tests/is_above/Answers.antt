@@ -6,7 +6,7 @@ use Rattle.std.specs.Ordering.{is_lt}
 use Rattle.std.proofs.lemmas.List.{take_more}
 use Rattle.std.proofs.ByRecursion.{All-append}
 use Rattle.qual_codec.specs.declared.cells.Cell.{Cell}
-use Rattle.cell_model.specs.Order.{bytes_cmp}
+use Rattle.list_lemmas.specs.BytesOrder.{bytes_cmp}
 use Rattle.row_scan.proofs.tests.is_above.Goals as goal
 
 is_less : (o : Ordering) → true ≡ is_lt o → o ≡ Less

@@ -1,5 +1,5 @@
 use Rattle.std.proofs.Common.{ℕ, ◌<◌, slice_index_or}
-use Rattle.cell_model.specs.declared.cells.ListLine.{ListLine}
+use Rattle.cell_model.specs.declared.row.ListLine.{ListLine}
 use Rattle.scripted_rows.specs.Bases.{IsSoundLine}
 use Rattle.scripted_rows.proofs.base.is_base.Given as goal
 

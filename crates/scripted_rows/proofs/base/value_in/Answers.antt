@@ -1,4 +1,4 @@
-use Rattle.cell_model.specs.declared.cells.Row.{Row}
+use Rattle.cell_model.specs.declared.row.Row.{Row}
 use Rattle.scripted_rows.proofs.Lines.{found_at, value_looked}
 use Rattle.scripted_rows.proofs.base.value_in.Goals as goal
 

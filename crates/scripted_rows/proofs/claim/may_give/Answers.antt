@@ -1,5 +1,5 @@
 use Rattle.std.proofs.Common.{ℕ, List, subst}
-use Rattle.cell_model.specs.Ids.{reverse_row}
+use Rattle.cell_model.specs.IdRows.{reverse_row}
 use Rattle.cell_model.specs.Lawful.{claimed}
 use Rattle.cell_model.specs.Seen.{Saw}
 use Rattle.scripted_rows.proofs.claim.may_give.Goals as goal

@@ -1,5 +1,5 @@
 use Rattle.std.proofs.Common.{sym, subst}
-use Rattle.cell_model.specs.declared.cells.Row.{Row}
+use Rattle.cell_model.specs.declared.row.Row.{Row}
 use Rattle.cell_model.specs.Lawful.{DropBasis}
 use Rattle.cell_model.specs.Seen.{KnowsCell}
 use Rattle.cell_solo.specs.Turns.{sight}

@@ -1,7 +1,8 @@
 use Rattle.std.proofs.Common.{sym, ap, ◌∙◌}
 use Rattle.std.specs.Ordering.{is_ne, nat_cmp}
 use Rattle.short_bytes.proofs.Filled.{short_order}
-use Rattle.short_bytes.proofs.Words.{bytes_cmp, decided, tied}
+use Rattle.list_lemmas.specs.BytesOrder.{bytes_cmp}
+use Rattle.short_bytes.proofs.Words.{decided, tied}
 use Rattle.short_bytes.proofs.blocks.order_filled.Goals as goal
 
 pub returns-then-is_ne : goal.returns-then-is_ne

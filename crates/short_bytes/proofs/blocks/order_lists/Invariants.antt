@@ -1,5 +1,5 @@
 use Rattle.std.proofs.Common.{◌≡◌, ◌*◌, drop}
-use Rattle.short_bytes.proofs.Words.{bytes_cmp}
+use Rattle.list_lemmas.specs.BytesOrder.{bytes_cmp}
 use Rattle.short_bytes.proofs.blocks.order_lists.Given as goal
 
 abbrev pub invariant-loop-i : goal.invariant-loop-i

@@ -1,5 +1,5 @@
 use Rattle.std.proofs.Common.{◌++◌, ◌-◌, ap, arith, drop, length, ◌∙◌}
-use Rattle.line_stream.specs.Lines.{LONGEST_LINE}
+use Rattle.line_stream.specs.declared.line.TheConstants.{LONGEST_LINE}
 use Rattle.telnet_put.specs.Requests.{requests_of}
 use Rattle.telnet_put.proofs.RequestLemmas.{requests_shortened}
 use Rattle.telnet_put.proofs.telnet_lines.shorten.Goals as goal

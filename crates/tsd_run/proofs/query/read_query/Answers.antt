@@ -1,4 +1,4 @@
-use Rattle.tsd_run.specs.Batches.{plain_batch}
+use Rattle.command_words.specs.PlainAsked.{plain_batch}
 use Rattle.tsd_run.proofs.QueryLemmas.{can_ask, is_query_of, told_fault}
 use Rattle.tsd_run.proofs.query.read_query.Goals as goal
 

@@ -1,34 +1,15 @@
-use Rattle.std.proofs.Common.{List, ℕ, map, subst, sym, take, drop}
+use Rattle.std.proofs.Common.{map, sym, subst}
 use Rattle.std.specs.Prelude.{string_bytes}
-use Rattle.std.specs.Io.KnownBytes.{Appends}
-use Rattle.std.proofs.lemmas.List.{take-append-drop}
-use Rattle.tsd_run.specs.Commands.{command_of}
-use Rattle.tsd_run.proofs.RunLemmas.{IsPrinted, printed_status, runs_front, runs_printed}
+use Rattle.command_words.specs.CommandWords.{asked_of}
+use Rattle.tsd_run.specs.declared.status.Status.{Status}
+use Rattle.tsd_run.specs.Runs.{Runs}
+use Rattle.tsd_run.proofs.StdioLemmas.{runs_unread}
 use Rattle.tsd_run.proofs.run.run.Goals as goal
 
-pub returns-in-Ok-give_all-clause-runs : goal.returns-in-Ok-give_all-clause-runs
-returns-in-Ok-give_all-clause-runs g c =
+pub returns-in-Err-clause-runs : goal.returns-in-Err-clause-runs
+returns-in-Err-clause-runs g c =
     let s = g.S.Source in
     let k = g.K.Sink in
-    let gave = subst (λ (xs : List ℕ). Appends (k.held c.args.output.now) (k.held c.give_all.new.sink) xs) c.deref.ensures.value c.in-Ok-give_all.ensures.ok in
-    runs_printed (command_of (map string_bytes c.args.words.now)) (s.taken c.args.input.now) (s.taken c.decide.new.input) (s.left c.args.input.now) (s.left c.decide.new.input) (k.held c.args.output.now) (k.held c.give_all.new.sink) c.in-Ok.printed c.in-Ok.ensures.works gave
-
-pub returns-in-Ok-give_all-clause-read_fault : goal.returns-in-Ok-give_all-clause-read_fault
-returns-in-Ok-give_all-clause-read_fault g c = λ is.
-    let s = g.S.Source in
-    let k = g.K.Sink in
-    absurd (subst IsPrinted is (printed_status (command_of (map string_bytes c.args.words.now)) (s.taken c.args.input.now) (s.taken c.decide.new.input) (s.left c.args.input.now) (s.left c.decide.new.input) (k.held c.args.output.now) (k.held c.args.output.now) c.in-Ok.printed c.in-Ok.ensures.works))
-
-pub returns-in-Ok-give_all-clause-write_fault : goal.returns-in-Ok-give_all-clause-write_fault
-returns-in-Ok-give_all-clause-write_fault g c = λ is.
-    let s = g.S.Source in
-    let k = g.K.Sink in
-    absurd (subst IsPrinted is (printed_status (command_of (map string_bytes c.args.words.now)) (s.taken c.args.input.now) (s.taken c.decide.new.input) (s.left c.args.input.now) (s.left c.decide.new.input) (k.held c.args.output.now) (k.held c.args.output.now) c.in-Ok.printed c.in-Ok.ensures.works))
-
-pub returns-in-Ok-clause-runs : goal.returns-in-Ok-clause-runs
-returns-in-Ok-clause-runs g c =
-    let s = g.S.Source in
-    let k = g.K.Sink in
-    let gave = subst (λ (xs : List ℕ). Appends (k.held c.args.output.now) (k.held c.give_all.new.sink) (take c.in-Err.ensures.err.0 xs)) c.deref.ensures.value c.in-Err.ensures.err.2 in
-    runs_front (command_of (map string_bytes c.args.words.now)) (s.taken c.args.input.now) (s.taken c.decide.new.input) (s.left c.args.input.now) (s.left c.decide.new.input) (k.held c.args.output.now) (k.held c.give_all.new.sink) c.in-Ok.printed (take c.in-Err.ensures.err.0 c.in-Ok.printed.text.items) (drop c.in-Err.ensures.err.0 c.in-Ok.printed.text.items)
-    c.in-Ok.ensures.works (sym (take-append-drop c.in-Err.ensures.err.0 c.in-Ok.printed.text.items)) gave
+    let asked = asked_of (map string_bytes c.args.words.now) in
+    subst (λ (status : Status). Runs asked (s.taken c.args.input.now) (s.taken c.args.input.now) (s.left c.args.input.now) (s.left c.args.input.now) (k.held c.args.output.now) (k.held c.args.output.now) status) (sym c.no_memory.ensures.status)
+    (runs_unread (s.taken c.args.input.now) (s.left c.args.input.now) (k.held c.args.output.now) asked)

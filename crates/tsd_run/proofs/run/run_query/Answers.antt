@@ -1,36 +1,31 @@
-use Rattle.std.proofs.Common.{subst}
-use Rattle.std.specs.Prelude.{Ok, Some}
-use Rattle.std.proofs.lemmas.Result.{err_from_is_err_and}
-use Rattle.tsd_run.specs.Inputs.{ReadsInputTo}
-use Rattle.tsd_run.proofs.RunLemmas.{no_memory, not_read, not_told, line_refused, query_answered}
+use Rattle.std.proofs.Common.{◌≡◌, sym, ap, subst, arith}
+use Rattle.std.specs.Prelude.{IfErr, Some}
+use Rattle.tsd_run.specs.RunFaults.{RunCause}
+use Rattle.batch_job.proofs.CallerLemmas.{naming_begins}
+use Rattle.tsd_run.proofs.RunLemmas.{halt_cause, no_memory}
 use Rattle.tsd_run.proofs.run.run_query.Goals as goal
 
-pub returns-in_err-gathered-clause-works : goal.returns-in_err-gathered-clause-works
-returns-in_err-gathered-clause-works g c = λ batch q.
-    let s = g.S.Source in
-    let p = err_from_is_err_and c.from_residual.result c.from_residual.ensures.1 in
-    rw (p.1, p.2) (no_memory (s.taken c.args.input.now) (s.left c.args.input.now) (Some batch))
+pub over_store-printed-requires-clause-naming : goal.over_store-printed-requires-clause-naming
+over_store-printed-requires-clause-naming g c = naming_begins _ c.in-Ok.ensures.fresh
 
-pub returns-in_ok-bad_line-in-Some-clause-works : goal.returns-in_ok-bad_line-in-Some-clause-works
-returns-in_ok-bad_line-in-Some-clause-works g c = λ batch q.
-    let s = g.S.Source in
-    let reads = subst (λ bad. ReadsInputTo (s.taken c.args.input.now) (s.taken c.read_points.new.source) (s.left c.args.input.now) (s.left c.read_points.new.source) c.read_points.new.gathered (Ok bad)) c.in-Some.is c.in_ok-bad.ensures.reads in
-    line_refused c.args.query.now batch q (s.taken c.args.input.now) (s.taken c.read_points.new.source) (s.left c.args.input.now) (s.left c.read_points.new.source) c.read_points.new.gathered c.in-Some.bad c.in_ok-bad_line-in-Some.field-0 reads c.in_ok-bad_line-in-Some.ensures
+pub returns-in-Ok-clause-grows : goal.returns-in-Ok-clause-grows
+returns-in-Ok-clause-grows g c =
+    let made = ap g.H.Halt.stops c.in-Ok.ensures.halt in
+    let left = ap g.H.Halt.stops c.halt_of-halt.ensures in
+    let grows = c.over_store-printed.ensures.grows in
+    omega (arith, made, left, grows)
 
-pub returns-in_err-bad-clause-works : goal.returns-in_err-bad-clause-works
-returns-in_err-bad-clause-works g c = λ batch q.
+pub returns-in-Ok-clause-cause : goal.returns-in-Ok-clause-cause
+returns-in-Ok-clause-cause g c =
     let s = g.S.Source in
-    let p = err_from_is_err_and c.from_residual-in_err-bad.result c.from_residual-in_err-bad.ensures.1 in
-    rw (p.1, p.2) (not_read c.args.query.now batch q (s.taken c.args.input.now) (s.taken c.read_points.new.source) (s.left c.args.input.now) (s.left c.read_points.new.source) c.read_points.new.gathered c.in_err-bad.field-0.0 c.in_err-bad.ensures.reads)
+    let h = g.H.Halt in
+    let f = s.faults c.args.input.now in
+    let e = s.faults c.over_store-printed.new.input in
+    subst (λ x. IfErr c.over_store-printed.result (RunCause f e (h.stops x) (h.stops c.halt_of-halt.result))) c.in-Ok.ensures.halt
+    (subst (λ x. IfErr c.over_store-printed.result (RunCause f e (h.stops c.in-Ok.store.halt) (h.stops x))) (sym c.halt_of-halt.ensures)
+    (halt_cause f e (h.stops c.in-Ok.store.halt) (h.stops c.over_store-printed.new.store.halt) c.over_store-printed.result c.over_store-printed.ensures.cause))
 
-pub returns-in_err-bad_line-in-Some-clause-works : goal.returns-in_err-bad_line-in-Some-clause-works
-returns-in_err-bad_line-in-Some-clause-works g c = λ batch q.
+pub returns-in-Err-clause-works : goal.returns-in-Err-clause-works
+returns-in-Err-clause-works g c = λ batch q.
     let s = g.S.Source in
-    let p = err_from_is_err_and c.from_residual-in_err-bad_line-in-Some.result c.from_residual-in_err-bad_line-in-Some.ensures.1 in
-    rw (p.1, p.2) (not_told c.args.query.now batch q (s.taken c.args.input.now) (s.taken c.read_points.new.source) (s.left c.args.input.now) (s.left c.read_points.new.source) c.read_points.new.gathered _ c.in_ok-bad.ensures.reads)
-
-pub returns-in_ok-answer-in-None-clause-works : goal.returns-in_ok-answer-in-None-clause-works
-returns-in_ok-answer-in-None-clause-works g c = λ batch q.
-    let s = g.S.Source in
-    let reads = subst (λ bad. ReadsInputTo (s.taken c.args.input.now) (s.taken c.read_points.new.source) (s.left c.args.input.now) (s.left c.read_points.new.source) c.read_points.new.gathered (Ok bad)) c.in-None.is c.in_ok-bad.ensures.reads in
-    query_answered c.args.query.now batch q (s.taken c.args.input.now) (s.taken c.read_points.new.source) (s.left c.args.input.now) (s.left c.read_points.new.source) c.read_points.new.gathered c.in_ok-answer-in-None.field-0 reads c.in_ok-answer-in-None.ensures
+    no_memory (s.taken c.args.input.now) (s.left c.args.input.now) (Some batch)

@@ -1,6 +1,6 @@
 use Rattle.std.proofs.Common.{◌∙◌, refl, ap, ℕ, List, [], ◌∷◌, ◌++◌}
 use Rattle.cell_model.specs.declared.events.Step.TheVariants.{PutMerged}
-use Rattle.cell_solo.specs.Packed.{TurnList}
+use Rattle.cell_solo.specs.PackedTurns.{TurnList}
 use Rattle.cell_solo.specs.declared.turns.Head.TheVariants as head
 use Rattle.cell_solo.proofs.Packing.{pushed_alone, same, cell_length, cell_back, cell_bytes}
 use Rattle.cell_solo.proofs.turns.Turns.add_merged.Goals as goal

@@ -1,6 +1,6 @@
 use Rattle.std.proofs.Common.{◌∙◌, refl, ap, [], ◌∷◌, ◌++◌, length}
 use Rattle.cell_model.specs.declared.events.Step.TheVariants.{NextRow}
-use Rattle.cell_solo.specs.Packed.{TurnList}
+use Rattle.cell_solo.specs.PackedTurns.{TurnList}
 use Rattle.cell_solo.specs.declared.turns.Head.TheVariants as head
 use Rattle.cell_solo.proofs.Packing.{pushed_alone, same, range_length, range_back}
 use Rattle.cell_solo.proofs.Placing.{written_twice}

@@ -1,6 +1,6 @@
 use Rattle.std.proofs.Common.{◌∙◌, refl, ap, [], ◌∷◌, ◌++◌}
 use Rattle.cell_model.specs.declared.events.Step.TheVariants.{Open}
-use Rattle.cell_solo.specs.Packed.{TurnList}
+use Rattle.cell_solo.specs.PackedTurns.{TurnList}
 use Rattle.cell_solo.specs.declared.turns.Head.TheVariants as head
 use Rattle.cell_solo.proofs.Packing.{pushed_alone, same}
 use Rattle.cell_solo.proofs.turns.Turns.add_open.Goals as goal

@@ -1,6 +1,6 @@
 use Rattle.std.proofs.Common.{◌∙◌, ap, [], ◌∷◌, ◌++◌}
 use Rattle.tsd_base.specs.Points.{data_point}
-use Rattle.cell_solo.specs.Packed.{TurnList}
+use Rattle.cell_solo.specs.PackedTurns.{TurnList}
 use Rattle.cell_solo.proofs.Packing.{put_pushed, point_step}
 use Rattle.cell_solo.proofs.turns.Turns.add_point.Goals as goal
 

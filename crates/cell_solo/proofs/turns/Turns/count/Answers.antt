@@ -2,7 +2,7 @@ use Rattle.std.proofs.Common.{◌∙◌, sym, ap, List}
 use Rattle.std.specs.Prelude.{count_by, nat_eq}
 use Rattle.cell_solo.specs.declared.turns.Head.{Head}
 use Rattle.cell_solo.specs.Turns.{Turn}
-use Rattle.cell_solo.specs.Packed.{TurnList, caller_of}
+use Rattle.cell_solo.specs.PackedTurns.{TurnList, caller_of}
 use Rattle.cell_solo.proofs.Packing.{count-unpacked}
 use Rattle.cell_solo.proofs.turns.Turns.count.Goals as goal
 

@@ -1,5 +1,5 @@
 use Rattle.std.proofs.Common.{◌∙◌, sym, ap, length}
-use Rattle.cell_solo.specs.Packed.{TurnList}
+use Rattle.cell_solo.specs.PackedTurns.{TurnList}
 use Rattle.cell_solo.proofs.Packing.{length-unpacked}
 use Rattle.cell_solo.proofs.turns.Turns.len.Goals as goal
 

@@ -1,6 +1,6 @@
 use Rattle.std.proofs.Common.{List, ℕ, ap, subst, sym, ◌∙◌}
 use Rattle.std.specs.Prelude.{Some}
-use Rattle.line_stream.specs.Readings.{Reading}
+use Rattle.line_stream.specs.LineReadings.{Reading}
 use Rattle.line_stream.specs.Reads.{FirstLine, front}
 use Rattle.line_stream.proofs.ReaderLemmas.{first_front, first_whole}
 use Rattle.line_stream.proofs.reader.LineReader.first_line.Goals.{in-Some, in-None}

@@ -1,7 +1,7 @@
 use Rattle.std.proofs.Common.{ℕ, ◌∙◌, ap, arith, subst, sym}
 use Rattle.std.specs.Prelude.{Ok, Some}
 use Rattle.std.proofs.lemmas.Result.{err_from_is_err_and}
-use Rattle.line_stream.specs.Readings.{Reading}
+use Rattle.line_stream.specs.LineReadings.{Reading}
 use Rattle.line_stream.specs.Reads.{FirstLine, IsFront, TakesPiece}
 use Rattle.line_stream.proofs.ReaderLemmas.{HasTaken, at_end, full, line_next, nothing_taken, not_taken, taken_on}
 use Rattle.line_stream.proofs.reader.LineReader.next_line.Goals as goal

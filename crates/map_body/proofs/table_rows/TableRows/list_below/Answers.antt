@@ -2,7 +2,7 @@ use Rattle.std.proofs.Common.{ℕ, List, ◌++◌, sym, ap, subst, ◌∙◌}
 use Rattle.map_body.proofs.table_rows.TableRows.list_below.Goals as goal
 use Rattle.std.specs.FinMap.{entries}
 use Rattle.packed_cells.specs.Keyed.{CellMap}
-use Rattle.map_body.specs.Rows.{Rows, rows_below}
+use Rattle.map_body.specs.TableRows.{Rows, rows_below}
 use Rattle.map_body.specs.Whole.{lines_in}
 use Rattle.map_body.proofs.Ranges.{below_part}
 use Rattle.cell_model.specs.Rising.{LinesRise}

@@ -1,6 +1,6 @@
 use Rattle.std.proofs.Common.{◌≡◌, ℕ, ap, arith, cond}
 use Rattle.std.specs.FinMap.{insert}
-use Rattle.map_body.specs.Rows.{rows_of, row_in}
+use Rattle.map_body.specs.TableRows.{rows_of, row_in}
 use Rattle.map_body.proofs.Maps.{inserted, none_empty_set, written_some}
 use Rattle.map_body.proofs.table_rows.TableRows.put.Goals as goal
 

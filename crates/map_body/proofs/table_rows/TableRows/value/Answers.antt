@@ -1,11 +1,10 @@
 use Rattle.std.proofs.Common.{ℕ, List, sym, ap, ◌∙◌}
 use Rattle.std.specs.Prelude.{option_map}
 use Rattle.map_body.proofs.table_rows.TableRows.value.Goals as goal
-use Rattle.std.specs.FinMap.{get}
+use Rattle.std.specs.FinMap.{get, get-empty}
 use Rattle.packed_cells.specs.Keyed.{CellMap}
 use Rattle.map_body.proofs.Maps.{row_found, row_absent}
-use Rattle.std.specs.FinMap.{get-empty}
-use Rattle.packed_cells.specs.Seeks.{bytes_cmp}
+use Rattle.list_lemmas.specs.BytesOrder.{bytes_cmp}
 
 pub returns-in-Some : goal.returns-in-Some
 returns-in-Some c =

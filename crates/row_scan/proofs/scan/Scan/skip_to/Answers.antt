@@ -2,7 +2,7 @@ use Rattle.std.proofs.Common.{length, ap, subst, ◌∙◌, arith}
 use Rattle.row_key.specs.Key.{key_bytes}
 use Rattle.cell_model.specs.Ranges.{SameMetric}
 use Rattle.row_scan.specs.Scans.{Left}
-use Rattle.row_scan.proofs.Bytes.{key_length}
+use Rattle.row_key.proofs.CallerLemmas.{key_length}
 use Rattle.row_scan.proofs.Turning.{metric_passed_on}
 use Rattle.row_scan.proofs.scan.Scan.skip_to.Goals as goal
 

@@ -1,0 +1,186 @@
+-- What one more entry makes of a store, and of the points that were put.
+use Rattle.std.proofs.Common.{◌≡◌, ◌≢◌, ◌⊎◌, inl, inr, ℕ, ◌+◌, ◌%◌, ◌^◌, Bool, true, false, List, [], ◌∷◌, refl, sym, ap, subst, ◌∙◌}
+use Rattle.std.specs.Prelude.{Option, None, Some, option_map, nat_lt, nat_eq, if◌then◌else◌, Contains}
+use Rattle.std.specs.FinMap.{get}
+use Rattle.std.specs.Int.{w64, to_be_bytes}
+use Rattle.qual_codec.specs.declared.cells.Cell.{Cell}
+use Rattle.row_key.specs.declared.tables.Table.TheVariants.{Ids, Points}
+use Rattle.tsd_base.specs.Alphabet.{IsName}
+use Rattle.tsd_base.specs.Points.{DataPoint}
+use Rattle.tsd_base.specs.declared.kinds.Kind.{Kind}
+use Rattle.cell_model.specs.declared.row.Row.{Row}
+use Rattle.cell_model.specs.declared.events.Content.{Content}
+use Rattle.cell_model.specs.declared.events.Entry.{Entry}
+use Rattle.cell_model.specs.declared.events.Place.{Place}
+use Rattle.cell_model.specs.declared.events.Placed.{Placed}
+use Rattle.cell_model.specs.declared.events.Reply.TheVariants.{Shown}
+use Rattle.cell_model.specs.declared.events.Step.{Step}
+use Rattle.cell_model.specs.declared.events.Step.TheVariants.{Open, Read, NextRow, Bump, Claim, PutPoint, PutMerged, DropCells}
+use Rattle.cell_model.specs.History.{History, Had, len, entry_at, store_after}
+use Rattle.cell_laws.specs.Laws.{IsCompaction}
+use Rattle.cell_model.specs.History.History.{Then}
+use Rattle.cell_model.specs.IdRows.{name_row}
+use Rattle.cell_model.specs.Machine.{after, counter_of, counter_row, kind_qual, or_written, reply_of, MOST_IDS}
+use Rattle.cell_model.specs.Store.{Store, cells_of, place_of, value_at, value_among, written}
+use Rattle.uid_table.specs.IdSteps.{DidLook}
+use Rattle.batch_job.specs.Storing.{IsUnmerged, Puts, WasPut}
+use Rattle.batch_job.proofs.Follows.{follow}
+use Rattle.batch_job.proofs.Lower.{cells_have, content-written_other, entry_at-last, entry_at-more, here, there, not_in, not_zero, split}
+
+-- ---- places that a step doesn't write
+bump_other : (s : Store) (place : ℕ) (kind : Kind) (p : Place) → p ≢ place_of counter_row (kind_qual kind) → get (after s place (Bump kind)) p ≡ get s p
+bump_other s place kind p other = at (nat_lt (counter_of s kind) MOST_IDS)
+  where
+    at : (b : Bool) → get (if b then written s counter_row (kind_qual kind) (to_be_bytes w64 (counter_of s kind + 1)) (place % 2 ^ 64) else s) p ≡ get s p
+    at true = content-written_other s counter_row (kind_qual kind) _ _ p other
+    at false = refl
+
+claim_other : (s : Store) (place : ℕ) (row : Row) (qual value : List ℕ) (p : Place) → p ≢ place_of row qual → get (after s place (Claim row qual value)) p ≡ get s p
+claim_other s place row qual value p other = at (value_at s row qual)
+  where
+    at : (o : Option (List ℕ)) → get (or_written o (written s row qual value (place % 2 ^ 64)) s) p ≡ get s p
+    at None = content-written_other s row qual value _ p other
+    at (Some v) = refl
+
+put_other : (s : Store) (place : ℕ) (point : DataPoint) (row : Row) (qual value : List ℕ) (p : Place) → p ≢ place_of row qual → get (after s place (PutPoint point row qual value)) p ≡ get s p
+put_other s place point row qual value p other = content-written_other s row qual value _ p other
+
+value_same : (s t : Store) (row : Row) (qual : List ℕ) → get t (place_of row qual) ≡ get s (place_of row qual) → value_at t row qual ≡ value_at s row qual
+value_same s t row qual e = ap (option_map (λ (c : Content). c.value)) e
+
+module _ (h : History) (e : Entry) where
+  pub read_keeps : (row : Row) → e.step ≡ Read row → store_after (Then h e) ≡ store_after h
+  read_keeps row is = ap (after (store_after h) (len h + 1)) is
+
+  pub bump_keeps : (kind : Kind) (row : Row) (qual : List ℕ) → e.step ≡ Bump kind → place_of row qual ≢ place_of counter_row (kind_qual kind) → value_at (store_after (Then h e)) row qual ≡ value_at (store_after h) row qual
+  bump_keeps kind row qual is other =
+      ap (λ s. value_at (after (store_after h) (len h + 1) s) row qual) is ∙ value_same (store_after h) (after (store_after h) (len h + 1) (Bump kind)) row qual (bump_other (store_after h) (len h + 1) kind (place_of row qual) other)
+
+  pub claim_keeps : (at : Row) (q v : List ℕ) (row : Row) (qual : List ℕ) → e.step ≡ Claim at q v → place_of row qual ≢ place_of at q → value_at (store_after (Then h e)) row qual ≡ value_at (store_after h) row qual
+  claim_keeps at q v row qual is other =
+      ap (λ s. value_at (after (store_after h) (len h + 1) s) row qual) is ∙ value_same (store_after h) (after (store_after h) (len h + 1) (Claim at q v)) row qual (claim_other (store_after h) (len h + 1) at q v (place_of row qual) other)
+
+  pub put_keeps : (point : DataPoint) (at : Row) (q v : List ℕ) (row : Row) (qual : List ℕ) → e.step ≡ PutPoint point at q v → place_of row qual ≢ place_of at q → value_at (store_after (Then h e)) row qual ≡ value_at (store_after h) row qual
+  put_keeps point at q v row qual is other =
+      ap (λ s. value_at (after (store_after h) (len h + 1) s) row qual) is ∙ value_same (store_after h) (after (store_after h) (len h + 1) (PutPoint point at q v)) row qual (put_other (store_after h) (len h + 1) point at q v (place_of row qual) other)
+
+-- ---- places that differ
+pub rows_differ : (a b : Row) (q r : List ℕ) → a ≢ b → place_of a q ≢ place_of b r
+rows_differ a b q r other e = other (ap (λ (p : Place). p.row) e)
+
+pub quals_differ : (a b : Row) (q r : List ℕ) → q ≢ r → place_of a q ≢ place_of b r
+quals_differ a b q r other e = other (ap (λ (p : Place). p.qual) e)
+
+pub tables_differ : (a b : Row) → a.table ≢ b.table → a ≢ b
+tables_differ a b other e = other (ap (λ (r : Row). r.table) e)
+
+pub no_counter_row : (name : List ℕ) → IsName name → name_row name ≢ counter_row
+no_counter_row name n e = not_zero name n (ap (λ (r : Row). r.bytes) e)
+
+pub Ids_Points : Ids ≢ Points
+Ids_Points e = cc
+
+-- ---- what a look at a name shows
+cells_are : (a b : List Cell) → Shown a ≡ Shown b → a ≡ b
+cells_are a b e = cc
+
+pub looked_at : (s : Store) (place : ℕ) (d : Placed) (kind : Kind) (name : List ℕ) (shown : Option (List ℕ)) → d.entry.reply ≡ reply_of s place d.entry.step → DidLook d kind name shown → value_at s (name_row name) (kind_qual kind) ≡ shown
+looked_at s place d kind name shown legal look =
+    let same : look.cells ≡ cells_of s (name_row name) = cells_are _ _ (sym look.did.1 ∙ legal ∙ ap (reply_of s place) look.did.0) in
+    cells_have s (name_row name) (kind_qual kind) ∙ ap (λ cells. value_among cells (kind_qual kind)) (sym same) ∙ look.shows
+
+pub looked : (h : History) (d : Placed) (kind : Kind) (name : List ℕ) (shown : Option (List ℕ)) → d.entry.reply ≡ reply_of (store_after h) (len h + 1) d.entry.step → DidLook d kind name shown
+    → value_at (store_after h) (name_row name) (kind_qual kind) ≡ shown
+looked h d kind name shown legal look = looked_at (store_after h) (len h + 1) d kind name shown legal look
+
+-- ---- points that were put
+pub put_stays : (h : History) (e : Entry) (r : DataPoint) → WasPut h r → WasPut (Then h e) r
+put_stays h e r p = (p.0, (p.1.0, entry_at-more h e p.0 p.1.0 p.1.1), p.2)
+
+pub put_last : (h : History) (e : Entry) (r : DataPoint) → Puts e.step r → WasPut (Then h e) r
+put_last h e r p = (e, (len h + 1, entry_at-last h e), p)
+
+entry_is : (a b : Entry) → Some a ≡ Some b → a ≡ b
+entry_is a b e = cc
+
+pub put_before : (h : History) (e : Entry) (r : DataPoint) → WasPut (Then h e) r → WasPut h r ⊎ Puts e.step r
+put_before h e r p = at (nat_eq p.1.0 (len h + 1)) p.1.1
+  where
+    at : (b : Bool) → (if b then Some e else entry_at h p.1.0) ≡ Some p.0 → WasPut h r ⊎ Puts e.step r
+    at true is = inr (subst (λ (x : Entry). Puts x.step r) (sym (entry_is e p.0 is)) p.2)
+    at false is = inl (p.0, (p.1.0, is), p.2)
+
+-- the step neither puts a point nor merges or drops cells
+abbrev pub IsQuiet : Step → Type 0
+IsQuiet (PutPoint point row qual value) = ⊥
+IsQuiet (PutMerged row qual value) = ⊥
+IsQuiet (DropCells row which) = ⊥
+IsQuiet _ = Unit {0}
+
+quiet_puts : (step : Step) → IsQuiet step → (p : DataPoint) → Puts step p → ⊥
+quiet_puts Open q p put = put
+quiet_puts (Read row) q p put = put
+quiet_puts (NextRow table from to) q p put = put
+quiet_puts (Bump kind) q p put = put
+quiet_puts (Claim row qual value) q p put = put
+quiet_puts (PutPoint point row qual value) q p put = q
+quiet_puts (PutMerged row qual value) q p put = q
+quiet_puts (DropCells row which) q p put = q
+
+quiet_merges : (step : Step) → IsQuiet step → IsCompaction step → ⊥
+quiet_merges Open q c = c
+quiet_merges (Read row) q c = c
+quiet_merges (NextRow table from to) q c = c
+quiet_merges (Bump kind) q c = c
+quiet_merges (Claim row qual value) q c = c
+quiet_merges (PutPoint point row qual value) q c = q
+quiet_merges (PutMerged row qual value) q c = q
+quiet_merges (DropCells row which) q c = q
+
+-- all entries are so
+abbrev pub PutNothing : List Placed → Type 0
+PutNothing list = (d : Placed) → Contains list d → IsQuiet d.entry.step
+
+pub nothing_by : (d : Placed) (step : Step) → d.entry.step ≡ step → IsQuiet step → IsQuiet d.entry.step
+nothing_by d step is quiet = subst IsQuiet (sym is) quiet
+
+pub puts_stay : (h : History) (list : List Placed) (r : DataPoint) → WasPut h r → WasPut (follow h list) r
+puts_stay h [] r p = p
+puts_stay h (d ∷ list) r p = puts_stay (Then h d.entry) list r (put_stays h d.entry r p)
+
+pub put_nothing : (h : History) (list : List Placed) → PutNothing list → (r : DataPoint) → WasPut (follow h list) r → WasPut h r
+put_nothing h [] never r p = p
+put_nothing h (d ∷ list) never r p = at (put_before h d.entry r (put_nothing (Then h d.entry) list (λ x c. never x (there d x list c)) r p))
+  where
+    at : WasPut h r ⊎ Puts d.entry.step r → WasPut h r
+    at (inl before) = before
+    at (inr put) = absurd (quiet_puts d.entry.step (never d (here d list)) r put)
+
+pub nothing_nil : PutNothing []
+nothing_nil d c = absurd (not_in d c)
+
+pub nothing_more : (d : Placed) (list : List Placed) → IsQuiet d.entry.step → PutNothing list → PutNothing (d ∷ list)
+nothing_more d list never rest x c = at (split d x list c)
+  where
+    at : (d ≡ x) ⊎ Contains list x → IsQuiet x.entry.step
+    at (inl same) = subst (λ (y : Placed). IsQuiet y.entry.step) same never
+    at (inr later) = rest x later
+
+-- ---- histories without merges and drops
+pub had_before : (h : History) (last e : Entry) → Had (Then h last) e → (last ≡ e) ⊎ Had h e
+had_before h last e had = at (nat_eq had.0 (len h + 1)) had.1
+  where
+    at : (b : Bool) → (if b then Some last else entry_at h had.0) ≡ Some e → (last ≡ e) ⊎ Had h e
+    at true is = inl (entry_is last e is)
+    at false is = inr (had.0, is)
+
+pub unmerged_then : (h : History) (e : Entry) → (IsCompaction e.step → ⊥) → IsUnmerged h → IsUnmerged (Then h e)
+unmerged_then h e never before x had = at (had_before h e x had)
+  where
+    at : (e ≡ x) ⊎ Had h x → IsCompaction x.step → ⊥
+    at (inl same) = subst (λ (y : Entry). IsCompaction y.step → ⊥) same never
+    at (inr earlier) = before x earlier
+
+pub unmerged_follow : (h : History) (list : List Placed) → PutNothing list → IsUnmerged h → IsUnmerged (follow h list)
+unmerged_follow h [] quiet before = before
+unmerged_follow h (d ∷ list) quiet before = unmerged_follow (Then h d.entry) list (λ x c. quiet x (there d x list c)) (unmerged_then h d.entry (quiet_merges d.entry.step (quiet d (here d list))) before)

@@ -1,0 +1,222 @@
+-- Putting points whose names have ids.
+use Rattle.std.proofs.Common.{◌≡◌, ◌⊎◌, inl, inr, ⊎_elim, ℕ, ℤ, Bool, List, [], ◌∷◌, ◌++◌, refl, sym, ap, subst, ◌∙◌}
+use Rattle.std.specs.Prelude.{◌↔◌, None, Some, Ok, Err, Contains, option_and_then}
+use Rattle.std.proofs.lemmas.List.Elements.{Contains-append_cases, Contains-append_left, Contains-append_right}
+use Rattle.tsd_base.specs.declared.kinds.Kind.{Kind}
+use Rattle.tsd_base.specs.Points.{DataPoint}
+use Rattle.tsd_base.specs.TagList.{Pair}
+use Rattle.cell_model.specs.declared.answers.Stored.{Stored}
+use Rattle.cell_model.specs.declared.row.Row.{Row}
+use Rattle.cell_model.specs.declared.events.Placed.{Placed}
+use Rattle.cell_model.specs.declared.events.Step.TheVariants.{Read, Bump}
+use Rattle.cell_model.specs.Deeds.{Made}
+use Rattle.cell_model.specs.History.{History, first, store_after}
+use Rattle.cell_model.specs.History.History.{Then}
+use Rattle.cell_model.specs.IdRows.{id_number, id_of, name_row, AllResolved}
+use Rattle.cell_laws.specs.Laws.{IsCompaction}
+use Rattle.cell_model.specs.Layout.{names_of}
+use Rattle.cell_model.specs.Lawful.{IsLawful}
+use Rattle.cell_model.specs.Machine.{kind_qual}
+use Rattle.cell_model.specs.Seen.{Seen, Fits}
+use Rattle.cell_model.specs.Store.{Store, value_at}
+use Rattle.point_put.specs.declared.config.Config.{Config}
+use Rattle.point_put.specs.declared.fault.PutFault.TheVariants.{Exhausted}
+use Rattle.point_put.specs.Entries.{ForName, ForNames}
+use Rattle.point_put.specs.Entries.ForName.{none, look, full, bump, reverse, forward}
+use Rattle.point_put.specs.Entries.ForNames.{nil, more}
+use Rattle.point_put.specs.PutPoint.{DidPut, PutSays, WasStored as PutSo}
+use Rattle.uid_table.specs.IdSteps.{DidLook}
+use Rattle.batch_job.specs.PendingPuts.{Adds, AddsSome, AreResolved, points_in}
+use Rattle.batch_job.specs.Storing.{IsAlone, IsUnmerged, Puts, WasPut}
+use Rattle.batch_job.proofs.Entering.{Ids_Points, PutNothing, looked, nothing_by, put_before, put_keeps, put_last, put_nothing, puts_stay, read_keeps, rows_differ, tables_differ, unmerged_follow, unmerged_then}
+use Rattle.batch_job.proofs.Follows.{Went, follow, follow-append, went, alone_still}
+use Rattle.batch_job.proofs.Lower.{here, not_in, not_Some, split}
+
+-- ---- entries that are reads
+abbrev AreReads : List Placed → Type 0
+AreReads list = (d : Placed) → Contains list d → (row : Row) × (d.entry.step ≡ Read row)
+
+reads_nil : AreReads []
+reads_nil d c = absurd (not_in d c)
+
+reads_one : (d : Placed) (row : Row) → d.entry.step ≡ Read row → AreReads (d ∷ [])
+reads_one d row is x c = ⊎_elim
+    (λ (same : d ≡ x). (row, ap (λ (y : Placed). y.entry.step) (sym same) ∙ is))
+    (λ (later : Contains [] x). absurd (not_in x later))
+    (split d x [] c)
+
+reads_append : (xs ys : List Placed) → AreReads xs → AreReads ys → AreReads (xs ++ ys)
+reads_append xs ys a b d c = ⊎_elim (a d) (b d) (Contains-append_cases xs ys d c)
+
+reads_keep : (h : History) (list : List Placed) → AreReads list → store_after (follow h list) ≡ store_after h
+reads_keep h [] reads = refl
+reads_keep h (d ∷ list) reads =
+    let one = reads d (here d list) in
+    reads_keep (Then h d.entry) list (λ x c. reads x (Contains-append_right (d ∷ []) list x c)) ∙ read_keeps h d.entry one.0 one.1
+
+reads_put_nothing : (list : List Placed) → AreReads list → PutNothing list
+reads_put_nothing list reads d c = let one = reads d c in nothing_by d (Read one.0) one.1 tt
+
+lawful_front : (h : History) (list : List Placed) → IsLawful (follow h list) → IsLawful h
+lawful_front h [] l = l
+lawful_front h (d ∷ list) l = (lawful_front (Then h d.entry) list l).0
+
+-- ---- the entries for names that have ids
+module _ (c : Config) where
+  abbrev HasId : History → Kind → List ℕ → Type 0
+  HasId h kind name = (id : ℕ) × (id_of h kind name ≡ Some id)
+
+  no_id : (h : History) (r : Placed) (kind : Kind) (name : List ℕ) → IsLawful (Then h r.entry) → HasId h kind name → DidLook r kind name None → ⊥
+  no_id h r kind name l has d = not_Some has.0 (sym has.1 ∙ ap (option_and_then id_number) (looked h r kind name None l.2 d))
+
+  part_reads : (h : History) (kind : Kind) (name : List ℕ) {part : List Placed} → ForName c kind name part → HasId h kind name → IsLawful (follow h part) → AreReads part
+  part_reads h kind name none has l = reads_nil
+  part_reads h kind name (look {r} shown d) has l = reads_one r (name_row name) d.did.0
+  part_reads h kind name (full {r} {b} m d x) has l = absurd (no_id h r kind name (lawful_front (Then h r.entry) (b ∷ []) l) has d)
+  part_reads h kind name (bump {r} {b} id m d x) has l = absurd (no_id h r kind name (lawful_front (Then h r.entry) (b ∷ []) l) has d)
+  part_reads h kind name (reverse {r} {b} {n} id m d x y) has l = absurd (no_id h r kind name (lawful_front (Then h r.entry) (b ∷ n ∷ []) l) has d)
+  part_reads h kind name (forward {r} {b} {n} {f} id reply m d x y z) has l = absurd (no_id h r kind name (lawful_front (Then h r.entry) (b ∷ n ∷ f ∷ []) l) has d)
+
+  names_read : (h : History) {ns : List (Kind × List ℕ)} {list : List Placed} → ForNames c ns list → AllResolved h ns → IsLawful (follow h list) → AreReads list
+  names_read h nil res l = reads_nil
+  names_read h (more {kind} {name} {names} {part} {list} one rest) res l =
+      let lawful : IsLawful (follow (follow h part) list) = subst IsLawful (follow-append h part list) l in
+      let first = part_reads h kind name one (res (kind, name) (here (kind, name) names)) (lawful_front (follow h part) list lawful) in
+      let same = reads_keep h part first in
+      reads_append part list first
+      (names_read (follow h part) rest (λ n has. let found = res n (Contains-append_right ((kind, name) ∷ []) names n has) in (found.0, ap (λ (s : Store). option_and_then id_number (value_at s (name_row n.1) (kind_qual n.0))) same ∙ found.1)) lawful)
+
+-- ---- one point
+module _ (old new : Seen) (c : Config) (point : DataPoint) (resolved : AreResolved old (names_of point)) where
+  module _ (list : List Placed) (made : Made old list new) (h : History) (lawful : IsLawful h) (fits : Fits new h) where
+    w : Went old list new h
+    w = went old new list h made resolved.by lawful fits
+
+    have : AllResolved (first old.length h) (names_of point)
+    have = resolved.resolved h lawful w.fitted
+
+    refused : (ForNames c (names_of point) list) → AreReads list
+    refused entries = names_read c (first old.length h) entries have w.lawful
+
+    module _ (stored : Stored) (so : PutSo c point (first new.length h) list stored) where
+      cut : follow (first old.length h) list ≡ Then (follow (first old.length h) so.names) so.put.entry
+      cut = ap (follow (first old.length h)) so.list_is ∙ follow-append (first old.length h) so.names (so.put ∷ [])
+
+      after : first new.length h ≡ Then (follow (first old.length h) so.names) so.put.entry
+      after = w.after_is ∙ cut
+
+      are_reads : AreReads so.names
+      are_reads = names_read c (first old.length h) so.entries have (subst IsLawful cut w.lawful).0
+
+      did : DidPut (first new.length h) point stored.row so.put
+      did = so.did
+
+      ids_stay : (kind : Kind) (name : List ℕ) → id_of (first new.length h) kind name ≡ id_of (first old.length h) kind name
+      ids_stay kind name =
+          ap (λ x. id_of x kind name) after
+          ∙ ap (option_and_then id_number)
+          (put_keeps (follow (first old.length h) so.names) so.put.entry point stored.row did.qual did.value (name_row name) (kind_qual kind) did.did.0
+          (rows_differ (name_row name) stored.row _ _ (tables_differ (name_row name) stored.row (λ e. Ids_Points (e ∙ did.layout.in_points))))
+          ∙ ap (λ s. value_at s (name_row name) (kind_qual kind)) (reads_keep (first old.length h) so.names are_reads))
+
+      puts_one : (r : DataPoint) → WasPut (first new.length h) r ↔ (WasPut (first old.length h) r ⊎ Contains (point ∷ []) r)
+      puts_one r = (
+        λ put. ⊎_elim
+            (λ (before : WasPut (follow (first old.length h) so.names) r). inl (put_nothing (first old.length h) so.names (reads_put_nothing so.names are_reads) r before))
+            (λ (now : Puts so.put.entry.step r).
+            let same : point ≡ r = subst (λ s. Puts s r) did.did.0 now in
+            inr (subst (Contains (point ∷ [])) same (here point [])))
+            (put_before (follow (first old.length h) so.names) so.put.entry r (subst (λ x. WasPut x r) after put)),
+        λ either. subst (λ x. WasPut x r) (sym after) (⊎_elim
+            (λ (before : WasPut (first old.length h) r). subst (λ x. WasPut x r) cut (puts_stay (first old.length h) list r before))
+            (λ (now : Contains (point ∷ []) r). put_last (follow (first old.length h) so.names) so.put.entry r
+            (subst (λ s. Puts s r) (sym did.did.0) (⊎_elim (λ (same : point ≡ r). same) (λ (no : Contains [] r). absurd (not_in r no)) (split point r [] now))))
+            either),
+      )
+
+      unmerged_one : IsUnmerged (first old.length h) → IsUnmerged (first new.length h)
+      unmerged_one before =
+          subst IsUnmerged (sym after)
+          (unmerged_then (follow (first old.length h) so.names) so.put.entry (λ c. subst IsCompaction did.did.0 c) (unmerged_follow (first old.length h) so.names (reads_put_nothing so.names are_reads) before))
+
+  pub put_adds : (stored : Stored) → PutSays c point old (Ok stored) new → Adds old (point ∷ []) new
+  put_adds stored (list, made, asked) = record {
+    by = alone_still old new list made resolved.by;
+    fits = made.since.extends.fits;
+    ids = λ h lawful fits. ids_stay list made h lawful fits stored (asked h lawful fits);
+    puts = λ h lawful fits. puts_one list made h lawful fits stored (asked h lawful fits);
+    unmerged = λ h lawful fits. unmerged_one list made h lawful fits stored (asked h lawful fits);
+  }
+
+  -- all names have ids, so no counter is asked
+  pub never_exhausted : (kind : Kind) → PutSays c point old (Err (Exhausted kind)) new → ⊥
+  never_exhausted kind (list, made, asked) =
+      let p = made.since.lives resolved.by.possible in
+      let x = asked p.history p.lawful p.fits in
+      let reads = refused list made p.history p.lawful p.fits x.0 in
+      let bumped = x.1.1 in
+      let read = reads bumped.0 bumped.1 in
+      not_a_bump read.0 kind (sym read.1 ∙ bumped.2.0)
+    where
+      not_a_bump : (row : Row) (kind : Kind) → Read row ≡ Bump kind → ⊥
+      not_a_bump row kind e = cc
+
+-- ---- point after point
+pub adds_none : (s : Seen) → IsAlone s → AddsSome s (Contains []) s
+adds_none s by = record {
+  by = by;
+  fits = λ h f. f;
+  ids = λ h lawful fits kind name. refl;
+  puts = λ h lawful fits r. (λ put. inl put, λ either. ⊎_elim (λ (put : WasPut (first s.length h) r). put) (λ (no : Contains [] r). absurd (not_in r no)) either);
+  unmerged = λ h lawful fits before. before;
+}
+
+pub adds_then : (P Q R : DataPoint → Type 0) (a b c : Seen) → AddsSome a P b → AddsSome b Q c → ((r : DataPoint) → R r ↔ (P r ⊎ Q r)) → AddsSome a R c
+adds_then P Q R a b c x y both = record {
+  by = y.by;
+  fits = λ h f. x.fits h (y.fits h f);
+  ids = λ h lawful fits kind name. y.ids h lawful fits kind name ∙ x.ids h lawful (y.fits h fits) kind name;
+  unmerged = λ h lawful fits before. y.unmerged h lawful fits (x.unmerged h lawful (y.fits h fits) before);
+  puts = λ h lawful fits r. (
+    λ put. ⊎_elim
+        (λ (before : WasPut (first b.length h) r). ⊎_elim (λ (first_ : WasPut (first a.length h) r). inl first_) (λ (p : P r). inr ((both r).1 (inl p))) ((x.puts h lawful (y.fits h fits) r).0 before))
+        (λ (q : Q r). inr ((both r).1 (inr q)))
+        ((y.puts h lawful fits r).0 put),
+    λ either. (y.puts h lawful fits r).1 (⊎_elim
+        (λ (put : WasPut (first a.length h) r). inl ((x.puts h lawful (y.fits h fits) r).1 (inl put)))
+        (λ (here_ : R r). ⊎_elim (λ (p : P r). inl ((x.puts h lawful (y.fits h fits) r).1 (inr p))) (λ (q : Q r). inr q) ((both r).0 here_))
+        either),
+  );
+}
+
+pub adds_alike : (P Q : DataPoint → Type 0) (a b : Seen) → AddsSome a P b → ((r : DataPoint) → P r ↔ Q r) → AddsSome a Q b
+adds_alike P Q a b x same = record {
+  by = x.by;
+  fits = x.fits;
+  ids = x.ids;
+  unmerged = x.unmerged;
+  puts = λ h lawful fits r. (
+    λ put. ⊎_elim (λ (before : WasPut (first a.length h) r). inl before) (λ (p : P r). inr ((same r).0 p)) ((x.puts h lawful fits r).0 put),
+    λ either. (x.puts h lawful fits r).1 (⊎_elim (λ (put : WasPut (first a.length h) r). inl put) (λ (q : Q r). inr ((same r).1 q)) either),
+  );
+}
+
+-- what has ids keeps them
+pub still_resolved : (P : DataPoint → Type 0) (a b : Seen) (names : List (Kind × List ℕ)) → AddsSome a P b → AreResolved a names → AreResolved b names
+still_resolved P a b names x r = record {
+  by = x.by;
+  resolved = λ h lawful fits n has. let found = r.resolved h lawful (x.fits h fits) n has in (found.0, x.ids h lawful fits n.0 n.1 ∙ found.1);
+}
+
+-- ---- the points of a series
+pub one_more : (metric : List ℕ) (tags : List Pair) (fine : Bool) (a b c : Seen) (done : List (ℕ × ℤ)) (d : ℕ × ℤ) → Adds a (points_in metric tags fine done) b → Adds b (points_in metric tags fine (d ∷ [])) c → Adds a (points_in metric tags fine (done ++ d ∷ [])) c
+one_more metric tags fine a b c done d x y =
+    adds_then (Contains (points_in metric tags fine done)) (Contains (points_in metric tags fine (d ∷ []))) (Contains (points_in metric tags fine (done ++ d ∷ []))) a b c x y
+    (λ r. subst (λ (rs : List DataPoint). Contains rs r ↔ (Contains (points_in metric tags fine done) r ⊎ Contains (points_in metric tags fine (d ∷ [])) r)) (sym (map_append done)) (
+      λ has. Contains-append_cases (points_in metric tags fine done) (points_in metric tags fine (d ∷ [])) r has,
+      λ either. ⊎_elim (λ (e : Contains (points_in metric tags fine done) r). Contains-append_left (points_in metric tags fine done) (points_in metric tags fine (d ∷ [])) r e) (λ (e : Contains (points_in metric tags fine (d ∷ [])) r). Contains-append_right (points_in metric tags fine done) (points_in metric tags fine (d ∷ [])) r e) either,
+    ))
+  where
+    map_append : (xs : List (ℕ × ℤ)) → points_in metric tags fine (xs ++ d ∷ []) ≡ points_in metric tags fine xs ++ points_in metric tags fine (d ∷ [])
+    map_append [] = refl
+    map_append (e ∷ xs) = ap (λ rs. (record { metric = metric; tags = tags; time = e.0; fine = fine; value = e.1 }) ∷ rs) (map_append xs)

@@ -1,0 +1,143 @@
+-- In a history without merges and drops the cell of each place that a put wrote stands, with the value of the last put there.
+use Rattle.std.proofs.Common.{◌≡◌, ◌≢◌, ◌⊎◌, inl, inr, ℕ, ◌+◌, List, [], ◌∷◌, Some, refl, sym, ap, subst, ◌∙◌, arith}
+use Rattle.std.specs.Prelude.{◌%◌, Contains}
+use Rattle.tsd_base.specs.Alphabet.{IsName}
+use Rattle.tsd_base.specs.Points.{DataPoint}
+use Rattle.tsd_base.specs.TagList.{Pair}
+use Rattle.tsd_base.specs.declared.kinds.Kind.{Kind}
+use Rattle.tsd_base.specs.declared.kinds.Kind.TheVariants.{Metric, TagKey, TagValue}
+use Rattle.row_key.specs.declared.tables.Table.{Table}
+use Rattle.row_key.specs.declared.tables.Table.TheVariants.{Ids, Names, Points}
+use Rattle.qual_codec.specs.CellDots.{IsDots}
+use Rattle.qual_codec.specs.Spelling.{dot_of}
+use Rattle.cell_model.specs.declared.row.Row.{Row}
+use Rattle.cell_model.specs.declared.events.Entry.{Entry}
+use Rattle.cell_model.specs.declared.events.Step.{Step}
+use Rattle.cell_model.specs.declared.events.Step.TheVariants.{Open, Read, NextRow, Bump, Claim, PutPoint, PutMerged, DropCells}
+use Rattle.cell_model.specs.History.{History, Had, len, store_after}
+use Rattle.cell_model.specs.History.History.{Base, Then}
+use Rattle.cell_model.specs.IdRows.{id_of, name_of}
+use Rattle.cell_model.specs.Lawful.{ClaimBasis, IsLawful, MayStep, PointBasis}
+use Rattle.cell_laws.specs.Laws.{IsCompaction}
+use Rattle.cell_model.specs.Machine.{after, counter_row, kind_qual}
+use Rattle.cell_model.specs.Readings.{DotReads, IsNamed, reading_of}
+use Rattle.cell_model.specs.Store.{place_of, value_at}
+use Rattle.batch_job.specs.Storing.{IsUnmerged}
+use Rattle.batch_job.proofs.Entering.{bump_keeps, claim_keeps, had_before, put_keeps, rows_differ, tables_differ}
+use Rattle.batch_job.proofs.Lower.{Begins, entry_at-last, entry_at-more, key_resolves, lawful_begins, longer, metric_resolves, name_keeps, names_back, not_Some, same_or_not, stood, trans_begins, value-written, value_resolves, whole}
+
+-- ---- what a put says
+-- the cell is one data point, which reads as the point, with the names that ids have after the history
+pub record PutReads (h : History) (point : DataPoint) (row : Row) (qual value : List ℕ) : Type 0 where
+  pub len : ℕ
+  pub in_points : row.table ≡ Points
+  pub reads : IsDots qual value (dot_of (point.time % 3600000) point.fine point.value len ∷ [])
+  pub dot_reads : DotReads (name_of h) row.bytes (dot_of (point.time % 3600000) point.fine point.value len) (reading_of point)
+
+put_reads : (before h : History) (point : DataPoint) (row : Row) (qual value : List ℕ) → Begins before h → IsLawful h → PointBasis (λ kind name id. id_of before kind name ≡ Some id) point row qual value → PutReads h point row qual value
+put_reads before h point row qual value b l k =
+    let lay = k.layout in
+    let has = lay.has in
+    let l0 = lawful_begins b l in
+    let m = metric_resolves before point row qual value k in
+    let back : (kind : Kind) (name : List ℕ) (id n : ℕ) → IsName name → id_of before kind name ≡ Some id → id ≡ n → name_of h kind n ≡ Some name =
+    λ kind name id n ok is same. name_keeps kind n name b l (ap (name_of before kind) (sym same) ∙ names_back before kind name id l0 ok is) in
+    let named : (p : ℕ × ℕ) (t : Pair) → Contains point.tags t → k.ids TagKey t.0 ≡ p.0 → k.ids TagValue t.1 ≡ p.1 → IsNamed (name_of h) p t =
+    λ p t c x y.
+    let w = key_resolves before point row qual value k t c in
+    let v = value_resolves before point row qual value k t c in
+    (back TagKey t.0 _ p.0 w.is_name w.id_is x, back TagValue t.1 _ p.1 v.is_name v.id_is y) in
+    let base = has.base in
+    record {
+      len = _;
+      in_points = k.in_points;
+      reads = lay.dot;
+      dot_reads = record {
+        key = lay.key;
+        is_key = has.is_key;
+        row_is = lay.row_is;
+        metric_is = back Metric point.metric _ _ m.is_name m.id_is (sym has.metric);
+        tags_are = record {
+          rising = k.is_point.tags.rising;
+          each = λ p c. let w = has.each_pair p c in (w.0, w.1, named p w.0 w.1 (ap (λ (x : ℕ × ℕ). x.0) w.2) (ap (λ (x : ℕ × ℕ). x.1) w.2));
+          back = λ t c. ((k.ids TagKey t.0, k.ids TagValue t.1), has.each_tag t c, named (k.ids TagKey t.0, k.ids TagValue t.1) t c refl refl);
+        };
+        time_is = omega (arith, base);
+        value_is = refl;
+      };
+    }
+
+-- so it is of each put of a lawful history
+pub had_reads : (h : History) (e : Entry) (point : DataPoint) (row : Row) (qual value : List ℕ) → IsLawful h → Had h e → e.step ≡ PutPoint point row qual value → PutReads h point row qual value
+had_reads h e point row qual value l had is =
+    let st = stood h had.0 e had.1 in
+    let may = (lawful_begins st.begins l).1.may in
+    put_reads st.before h point row qual value (trans_begins (longer whole) st.begins) l (subst (MayStep st.before e.caller) is may)
+
+-- ---- what stands
+pub record Stays (h : History) (row : Row) (qual : List ℕ) : Type 0 where
+  pub point : DataPoint
+  pub value : List ℕ
+  pub entry : Entry
+  pub had : Had h entry
+  pub step_is : entry.step ≡ PutPoint point row qual value
+  pub there : value_at (store_after h) row qual ≡ Some value
+
+had_more : (h : History) (x e : Entry) → Had h e → Had (Then h x) e
+had_more h x e had = (had.0, entry_at-more h x e had.0 had.1)
+
+module _ (h : History) (x : Entry) (row : Row) (qual : List ℕ) where
+  -- the last entry put the cell
+  put_now : (point : DataPoint) (value : List ℕ) → x.step ≡ PutPoint point row qual value → Stays (Then h x) row qual
+  put_now point value is = record {
+    point = point;
+    value = value;
+    entry = x;
+    had = (len h + 1, entry_at-last h x);
+    step_is = is;
+    there = ap (λ (s : Step). value_at (after (store_after h) (len h + 1) s) row qual) is ∙ value-written (store_after h) row qual value _;
+  }
+
+  -- or left it as it was
+  left : Stays h row qual → value_at (store_after (Then h x)) row qual ≡ value_at (store_after h) row qual → Stays (Then h x) row qual
+  left s same = record { point = s.point; value = s.value; entry = s.entry; had = had_more h x s.entry s.had; step_is = s.step_is; there = same ∙ s.there }
+
+  module _ (in_points : row.table ≡ Points) (lawful : IsLawful (Then h x)) (unmerged : IsUnmerged (Then h x)) (s : Stays h row qual) where
+    not_in_points : (other : Row) → (other.table ≡ Points → ⊥) → row ≢ other
+    not_in_points other never = tables_differ row other (λ e. never (sym e ∙ in_points))
+
+    Ids_not : Ids ≡ Points → ⊥
+    Ids_not e = cc
+
+    claims : (t : Table) (bytes q v : List ℕ) → ClaimBasis (Had h) x.caller t bytes q v → t ≡ Points → ⊥
+    claims Points bytes q v b e = b
+    claims Ids bytes q v b e = Ids_not e
+    claims Names bytes q v b e = names_not e
+      where
+        names_not : Names ≡ Points → ⊥
+        names_not e = cc
+
+    pub still : (step : Step) → x.step ≡ step → Stays (Then h x) row qual
+    still Open is = left s (ap (λ (t : Step). value_at (after (store_after h) (len h + 1) t) row qual) is)
+    still (Read r) is = left s (ap (λ (t : Step). value_at (after (store_after h) (len h + 1) t) row qual) is)
+    still (NextRow table from to) is = left s (ap (λ (t : Step). value_at (after (store_after h) (len h + 1) t) row qual) is)
+    still (Bump kind) is = left s (bump_keeps h x kind row qual is (rows_differ row counter_row qual (kind_qual kind) (not_in_points counter_row Ids_not)))
+    still (Claim r q v) is =
+        left s (claim_keeps h x r q v row qual is (rows_differ row r qual q (not_in_points r (claims r.table r.bytes q v (subst (MayStep h x.caller) is lawful.1.may)))))
+    still (PutPoint point r q v) is = at (same_or_not (place_of row qual) (place_of r q))
+      where
+        at : (place_of row qual ≡ place_of r q) ⊎ (place_of row qual ≢ place_of r q) → Stays (Then h x) row qual
+        at (inl same) = put_now point v (is ∙ (λ i. PutPoint point ((sym same) i).row ((sym same) i).qual v))
+        at (inr other) = left s (put_keeps h x point r q v row qual is other)
+    still (PutMerged r q v) is = absurd (unmerged x (len h + 1, entry_at-last h x) (subst IsCompaction (sym is) tt))
+    still (DropCells r which) is = absurd (unmerged x (len h + 1, entry_at-last h x) (subst IsCompaction (sym is) tt))
+
+-- what was put stands
+pub put_stays_there : (h : History) (e : Entry) (point : DataPoint) (row : Row) (qual value : List ℕ) → IsLawful h → IsUnmerged h → row.table ≡ Points → Had h e → e.step ≡ PutPoint point row qual value → Stays h row qual
+put_stays_there (Base b) e point row qual value lawful unmerged table had is = absurd (not_Some e (sym had.1))
+put_stays_there (Then h x) e point row qual value lawful unmerged table had is =
+    at (λ before. put_stays_there h e point row qual value lawful.0 (λ y has. unmerged y (had_more h x y has)) table before is) (had_before h x e had)
+  where
+    at : (Had h e → Stays h row qual) → (x ≡ e) ⊎ Had h e → Stays (Then h x) row qual
+    at earlier (inl same) = put_now h x row qual point value (ap (λ (y : Entry). y.step) same ∙ is)
+    at earlier (inr before) = still h x row qual table lawful unmerged (earlier before) x.step refl

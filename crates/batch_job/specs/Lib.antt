@@ -1,0 +1,11 @@
+pub mod PendingIds
+pub mod NotedIds
+pub mod SeriesValues
+pub mod Pending
+pub mod LastValues
+pub mod Judgements
+pub mod PointLines
+pub mod Conflicts
+pub mod JobAnswers
+pub mod Storing
+pub mod PendingPuts

@@ -1,0 +1,72 @@
+-- What one caller that steps alone did in a store that began empty.
+use Rattle.std.specs.Prelude.{◌≡◌, ◌↔◌, ℕ, true, List, length, Contains, Option, None, Some, Ok, Err}
+use Rattle.std.specs.List.{AllByRecursion, flat_map}
+use Rattle.std.specs.FinMap.{empty}
+use Rattle.tsd_base.specs.Alphabet.{IsName}
+use Rattle.tsd_base.specs.declared.kinds.Kind.{Kind}
+use Rattle.tsd_base.specs.Points.{DataPoint}
+use Rattle.tsd_base.specs.LastPoints.{last_points}
+use Rattle.cell_model.specs.declared.events.Entry.{Entry}
+use Rattle.cell_model.specs.History.{History, Had, first, store_after}
+use Rattle.cell_model.specs.IdRows.{id_of}
+use Rattle.cell_laws.specs.Laws.{IsCompaction}
+use Rattle.cell_model.specs.Layout.{IsPoint, names_of}
+use Rattle.cell_model.specs.Machine.{counter_of}
+use Rattle.cell_model.specs.declared.events.Step.{Step}
+use Rattle.cell_model.specs.declared.events.Step.TheVariants.{PutPoint}
+use Rattle.cell_model.specs.Seen.{Seen, InEach, IsPossible}
+use Rattle.batch_job.specs.NotedIds.{Names, id_in, list_of, no_names, noted_all}
+
+-- so it is of each history that fits what was seen, as far as it was seen
+abbrev pub Holds : Seen → (History → Type 0) → Type 0
+Holds s P = InEach s (λ h. P (first s.length h))
+
+-- the store began empty, and nobody else steps
+pub record IsAlone (s : Seen) : Type 0 where
+  pub base : s.base ≡ empty
+  pub alone : s.alone ≡ true
+  pub possible : IsPossible s
+
+-- the ids are the places of these names
+abbrev pub HasIds : Names → History → Type 0
+HasIds names h = (kind : Kind) (name : List ℕ) → IsName name → id_of h kind name ≡ id_in (list_of names kind) name
+
+-- and each counter is the number of its kind's
+pub record IsNumbered (names : Names) (h : History) : Type 0 where
+  pub counts : (kind : Kind) → counter_of (store_after h) kind ≡ length (list_of names kind)
+  pub ids : HasIds names h
+
+-- the step puts this point
+abbrev pub Puts : Step → DataPoint → Type 0
+Puts (PutPoint point row qual value) p = point ≡ p
+Puts _ p = ⊥
+
+-- no entry of the history merges or drops cells
+abbrev pub IsUnmerged : History → Type 0
+IsUnmerged h = (e : Entry) → Had h e → IsCompaction e.step → ⊥
+
+-- an entry of the history puts this point
+abbrev pub WasPut : History → DataPoint → Type 0
+WasPut h p = (e : Entry) × Had h e × Puts e.step p
+
+-- these names have their ids, and no point was put, nor cells merged or dropped
+pub record IsNaming (names : Names) (s : Seen) : Type 0 where
+  pub by : IsAlone s
+  pub numbered : Holds s (IsNumbered names)
+  pub unput : Holds s (λ h. (p : DataPoint) → WasPut h p → ⊥)
+  pub unmerged : Holds s IsUnmerged
+
+-- names got their ids, from the left; or there is none left for the first one of this kind that had none
+abbrev pub Notes : Seen → List (Kind × List ℕ) → Option Kind → Seen → Type 0
+Notes old ns None new = (names : Names) → IsNaming names old → (more : Names) × (noted_all names ns ≡ Ok more) × IsNaming more new
+Notes old ns (Some kind) new = (names : Names) → IsNaming names old → noted_all names ns ≡ Err kind
+
+-- the names of the points have their ids, exactly the last points were put, and no cells were merged or dropped
+pub record IsStored (points : List DataPoint) (s : Seen) : Type 0 where
+  pub are_points : AllByRecursion IsPoint points
+  pub names : Names
+  pub noted : noted_all no_names (flat_map names_of points) ≡ Ok names
+  pub by : IsAlone s
+  pub ids : Holds s (HasIds names)
+  pub puts : Holds s (λ h. (p : DataPoint) → WasPut h p ↔ Contains (last_points points) p)
+  pub unmerged : Holds s IsUnmerged

@@ -1,0 +1,10 @@
+//! The job of `batch`: points that are pending, the ids of their names, and the answer of a query over them.
+#![tactic(auto)]
+
+pub mod answer;
+mod last_values;
+pub mod pending;
+mod pending_ids;
+mod pending_puts;
+pub mod point_line;
+mod series_values;

@@ -1,0 +1,275 @@
+-- What stands was accepted, and what was accepted stands.
+use Rattle.std.proofs.Common.{◌≡◌, ◌⊎◌, inl, inr, ℕ, ◌+◌, ◌*◌, List, [], ◌∷◌, refl, sym, ap, subst, ◌∙◌, arith}
+use Rattle.std.specs.Prelude.{Option, Some, Contains}
+use Rattle.std.specs.declared.cmp.Ordering.TheVariants.{Less, Greater}
+use Rattle.std.specs.Ordering.{ordering_reverse}
+use Rattle.std.specs.Cmp.Lexicographic.{nat_list_cmp_total}
+use Rattle.tsd_base.specs.declared.kinds.Kind.{Kind}
+use Rattle.tsd_base.specs.declared.kinds.Kind.TheVariants.{Metric, TagKey, TagValue}
+use Rattle.tsd_base.specs.Alphabet.{IsName}
+use Rattle.tsd_base.specs.TagList.{Pair}
+use Rattle.tsd_base.specs.Points.{DataPoint}
+use Rattle.row_key.specs.declared.tables.Table.TheVariants.{Points}
+use Rattle.row_key.specs.declared.keys.RowKey.{RowKey}
+use Rattle.list_lemmas.specs.BytesOrder.{bytes_cmp}
+use Rattle.qual_codec.specs.declared.cells.Item.{Item}
+use Rattle.qual_codec.specs.declared.cells.Dot.{Dot}
+use Rattle.qual_codec.specs.Items.{IsItems}
+use Rattle.qual_codec.specs.CellDots.{IsDots, items_of}
+use Rattle.qual_codec.specs.Order.{IsBelow}
+use Rattle.cell_model.specs.declared.row.Row.{Row}
+use Rattle.cell_model.specs.declared.events.Step.{Step}
+use Rattle.cell_model.specs.declared.events.Step.TheVariants.{Open, Read, NextRow, Bump, Claim, PutPoint, PutMerged, DropCells}
+use Rattle.cell_model.specs.declared.events.Entry.{Entry}
+use Rattle.cell_model.specs.Store.{value_at}
+use Rattle.cell_model.specs.Machine.{kind_qual}
+use Rattle.cell_model.specs.History.{History, len, store_after, Had}
+use Rattle.cell_laws.proofs.Beginnings.{Begins}
+use Rattle.cell_model.specs.History.History.{Base, Then}
+use Rattle.cell_laws.proofs.Beginnings.Begins.{whole, longer}
+use Rattle.cell_model.specs.IdRows.{id_row, id_bytes, id_of, name_of}
+use Rattle.cell_model.specs.Lawful.{IsLawful, MayStep, HadCell, Wrote}
+use Rattle.cell_laws.specs.Laws.{Kept, StandingWasAccepted, AcceptedTimesStand, StandingIsAccepted}
+use Rattle.cell_model.specs.Readings.{Reading, reading_of, Meets, point_row, IsNamed, Named, DotReads, CellReads, IsStanding, IsPut, AcceptedBy, Accepted}
+use Rattle.list_lemmas.proofs.ListMembers.{here, split, not_in, map_in, in_map}
+use Rattle.list_lemmas.proofs.SameLists.{same_rising}
+use Rattle.qual_codec.proofs.CallerLemmas.{items_once as one_list, one_dots}
+use Rattle.row_key.proofs.CallerLemmas.{one_key}
+use Rattle.list_lemmas.proofs.BoolTests.{not_Some, same_Some}
+use Rattle.cell_laws.proofs.Keeps.{stood, lawful_begins}
+use Rattle.cell_laws.proofs.Entries.{entry_at-more, entry_at-last}
+use Rattle.cell_laws.proofs.Ids.{value_keeps, reverse_uid, trans_begins}
+use Rattle.cell_laws.proofs.LawsHold.{names_back}
+use Rattle.cell_laws.proofs.Known.{had_cell}
+use Rattle.cell_laws.proofs.Keep.{keep, cell_split}
+use Rattle.cell_laws.proofs.Written.{moved, each_reads, Basis, metric_resolves, key_resolves, value_resolves}
+
+pub name_keeps : {h0 h : History} (kind : Kind) (id : ℕ) (name : List ℕ) → Begins h0 h → IsLawful h → name_of h0 kind id ≡ Some name → name_of h kind id ≡ Some name
+name_keeps kind id name b l is = value_keeps (id_row id) (kind_qual kind) name b l (reverse_uid (id_bytes id) (kind_qual kind)) is
+
+-- names that are found by the one function are found by the other
+abbrev pub Finds : (Kind → ℕ → Option (List ℕ)) → (Kind → ℕ → Option (List ℕ)) → Type 0
+Finds names more = (kind : Kind) (id : ℕ) (name : List ℕ) → names kind id ≡ Some name → more kind id ≡ Some name
+
+named_by : {names more : Kind → ℕ → Option (List ℕ)} (p : ℕ × ℕ) (t : Pair) → Finds names more → IsNamed names p t → IsNamed more p t
+named_by p t f n = (f TagKey p.0 t.0 n.0, f TagValue p.1 t.1 n.1)
+
+-- a reading is one by the other names too
+pub cell_by : {names more : Kind → ℕ → Option (List ℕ)} (row qual value : List ℕ) (r : Reading) → Finds names more → CellReads names row qual value r → CellReads more row qual value r
+cell_by row qual value r f c =
+    let d = c.dot_reads in
+    let t = d.tags_are in
+    record {
+      dots = c.dots;
+      reads = c.reads;
+      dot = c.dot;
+      among = c.among;
+      dot_reads = record {
+        key = d.key;
+        is_key = d.is_key;
+        row_is = d.row_is;
+        metric_is = f Metric d.key.metric r.metric d.metric_is;
+        time_is = d.time_is;
+        value_is = d.value_is;
+        tags_are = record {
+          rising = t.rising;
+          each = λ p x. let w = t.each p x in (w.0, w.1, named_by p w.0 f w.2);
+          back = λ y x. let w = t.back y x in (w.0, w.1, named_by w.0 y f w.2);
+        };
+      };
+    }
+
+-- what a point's cell says
+record PutReads (names : Kind → ℕ → Option (List ℕ)) (point : DataPoint) (row qual value : List ℕ) : Type 0 where
+  dot : Dot
+  reads : IsDots qual value (dot ∷ [])
+  dot_reads : DotReads names row dot (reading_of point)
+
+put_reads : (before h : History) (point : DataPoint) (row : Row) (qual value : List ℕ) → Begins before h → IsLawful h → Basis before point row qual value → PutReads (name_of h) point row.bytes qual value
+put_reads before h point row qual value b l k =
+    let lay = k.layout in
+    let has = lay.has in
+    let l0 = lawful_begins b l in
+    let m = metric_resolves before point row qual value k in
+    let back : (kind : Kind) (name : List ℕ) (id n : ℕ) → IsName name → id_of before kind name ≡ Some id → id ≡ n → name_of h kind n ≡ Some name =
+    λ kind name id n ok is same. name_keeps kind n name b l (ap (name_of before kind) (sym same) ∙ names_back before kind name id l0 ok is) in
+    let named : (p : ℕ × ℕ) (t : Pair) → Contains point.tags t → k.ids TagKey t.0 ≡ p.0 → k.ids TagValue t.1 ≡ p.1 → IsNamed (name_of h) p t =
+    λ p t c x y.
+    let w = key_resolves before point row qual value k t c in
+    let v = value_resolves before point row qual value k t c in
+    (back TagKey t.0 _ p.0 w.is_name w.id_is x, back TagValue t.1 _ p.1 v.is_name v.id_is y) in
+    let base = has.base in
+    record {
+      dot = _;
+      reads = lay.dot;
+      dot_reads = record {
+        key = lay.key;
+        is_key = has.is_key;
+        row_is = lay.row_is;
+        metric_is = back Metric point.metric _ _ m.is_name m.id_is (sym has.metric);
+        tags_are = record {
+          rising = k.is_point.tags.rising;
+          each = λ p c. let w = has.each_pair p c in (w.0, w.1, named p w.0 w.1 (ap (λ (x : ℕ × ℕ). x.0) w.2) (ap (λ (x : ℕ × ℕ). x.1) w.2));
+          back = λ t c. ((k.ids TagKey t.0, k.ids TagValue t.1), has.each_tag t c, named (k.ids TagKey t.0, k.ids TagValue t.1) t c refl refl);
+        };
+        time_is = omega (arith, base);
+        value_is = refl;
+      };
+    }
+
+points_row : (row : Row) → row.table ≡ Points → row ≡ point_row row.bytes
+points_row row e i = record { table = e i; bytes = row.bytes }
+
+tag_same : (names : Kind → ℕ → Option (List ℕ)) (p : ℕ × ℕ) (s t : Pair) → IsNamed names p s → IsNamed names p t → s ≡ t
+tag_same names p s t x y = let k = same_Some s.0 t.0 (sym x.0 ∙ y.0) in let v = same_Some s.1 t.1 (sym x.1 ∙ y.1) in λ i. (k i, v i)
+
+below_asym : (s t : Pair) → bytes_cmp s.0 t.0 ≡ Less → bytes_cmp t.0 s.0 ≡ Less → ⊥
+below_asym s t x y = let z : Less ≡ Greater = sym x ∙ nat_list_cmp_total.antisymm s.0 t.0 ∙ ap ordering_reverse y in cc
+
+tags_same : (names : Kind → ℕ → Option (List ℕ)) (ps qs : List (ℕ × ℕ)) (a b : List Pair) → ps ≡ qs → Named names ps a → Named names qs b → a ≡ b
+tags_same names ps qs a b same x y = same_rising (λ s t. bytes_cmp s.0 t.0 ≡ Less) below_asym a b x.rising y.rising
+    (λ t c. let p = x.back t c in let w = y.each p.0 (subst (λ (l : List (ℕ × ℕ)). Contains l p.0) same p.1) in subst (Contains b) (tag_same names p.0 w.0 t w.2 p.2) w.1)
+    (λ t c. let p = y.back t c in let w = x.each p.0 (subst (λ (l : List (ℕ × ℕ)). Contains l p.0) (sym same) p.1) in subst (Contains a) (tag_same names p.0 w.0 t w.2 p.2) w.1)
+
+-- a data point of a row has one reading
+reading_once : (names : Kind → ℕ → Option (List ℕ)) (row : List ℕ) (d : Dot) (r s : Reading) → DotReads names row d r → DotReads names row d s → r ≡ s
+reading_once names row d r s x y =
+    let k : x.key ≡ y.key = one_key x.key y.key x.is_key y.is_key (sym x.row_is ∙ y.row_is) in
+    let metric = same_Some r.metric s.metric (sym x.metric_is ∙ ap (λ (z : RowKey). names Metric z.metric) k ∙ y.metric_is) in
+    let tags = tags_same names x.key.pairs.items y.key.pairs.items r.tags s.tags (ap (λ (z : RowKey). z.pairs.items) k) x.tags_are y.tags_are in
+    let time = x.time_is ∙ ap (λ (z : RowKey). z.base * 1000 + d.item.offset) k ∙ sym y.time_is in
+    let value = x.value_is ∙ sym y.value_is in
+    λ i. record { metric = metric i; tags = tags i; time = time i; value = value i }
+
+accepted_more : (names : Kind → ℕ → Option (List ℕ)) (h : History) (e : Entry) (r : Reading) → AcceptedBy names h r → AcceptedBy names (Then h e) r
+accepted_more names h e r (inl based) = inl based
+accepted_more names h e r (inr w) = inr (w.0, (w.1.0, entry_at-more h e w.0 w.1.0 w.1.1), w.2)
+
+only_dot : (x d : Dot) → Contains (x ∷ []) d → x ≡ d
+only_dot x d c = at (split x d [] c)
+  where
+    at : (x ≡ d) ⊎ Contains [] d → x ≡ d
+    at (inl same) = same
+    at (inr none) = absurd (not_in d none)
+
+wrote_accepted : (h0 h : History) (e : Entry) (step : Step) → Begins h0 h → IsLawful h → (row : Row) (q v : List ℕ) (r : Reading) → ((a b : List ℕ) → HadCell h0 row a b → CellReads (name_of h) row.bytes a b r → AcceptedBy (name_of h) h0 r)
+    → (IsPut step r → IsPut e.step r) → Wrote row q v step → MayStep h0 e.caller step → CellReads (name_of h) row.bytes q v r → AcceptedBy (name_of h) (Then h0 e) r
+wrote_accepted h0 h e (PutPoint point p qual value) b l row q v r go put w may c =
+    let x = put_reads h0 h point p qual value b l may in
+    let reads : IsDots q v (x.dot ∷ []) = moved qual value q v (x.dot ∷ []) w.1 w.2 x.reads in
+    let same : x.dot ≡ c.dot = only_dot x.dot c.dot (subst (λ (ds : List Dot). Contains ds c.dot) (one_dots q v c.dots (x.dot ∷ []) c.reads reads) c.among) in
+    let here : DotReads (name_of h) row.bytes c.dot (reading_of point) = subst (λ (y : Row). DotReads (name_of h) y.bytes c.dot (reading_of point)) w.0 (subst (λ (d : Dot). DotReads (name_of h) p.bytes d (reading_of point)) same x.dot_reads) in
+    inr (e, (len h0 + 1, entry_at-last h0 e), put (reading_once (name_of h) row.bytes c.dot (reading_of point) r here c.dot_reads))
+wrote_accepted h0 h e (PutMerged p qual value) b l row q v r go put w may c =
+    let reads : IsDots q v may.dots = moved qual value q v may.dots w.1 w.2 may.reads in
+    let had = may.each c.dot (subst (λ (ds : List Dot). Contains ds c.dot) (one_dots q v c.dots may.dots c.reads reads) c.among) in
+    accepted_more (name_of h) h0 e r (go had.0 had.1 (subst (λ (x : Row). HadCell h0 x had.0 had.1) w.0 had.3) (record { dots = had.2; reads = had.4; dot = c.dot; among = had.5; dot_reads = c.dot_reads }))
+wrote_accepted h0 h e Open b l row q v r go put w may c = absurd w
+wrote_accepted h0 h e (Read p) b l row q v r go put w may c = absurd w
+wrote_accepted h0 h e (NextRow t x y) b l row q v r go put w may c = absurd w
+wrote_accepted h0 h e (Bump k) b l row q v r go put w may c = absurd w
+wrote_accepted h0 h e (Claim p x y) b l row q v r go put w may c = absurd w
+wrote_accepted h0 h e (DropCells p which) b l row q v r go put w may c = absurd w
+
+-- what a cell that was there reads was accepted
+pub had_accepted : (h0 h : History) → Begins h0 h → IsLawful h → (row : Row) (q v : List ℕ) (r : Reading) → row.table ≡ Points → HadCell h0 row q v → CellReads (name_of h) row.bytes q v r → AcceptedBy (name_of h) h0 r
+had_accepted (Base base) h b l row q v r t (inl based) c =
+    inl (record { row = row.bytes; qual = q; value = v; stands = ap (λ (x : Row). value_at base x q) (sym (points_row row t)) ∙ based; reads = c })
+had_accepted (Base base) h b l row q v r t (inr w) c = absurd (not_Some w.0 (sym w.1.1))
+had_accepted (Then h0 e) h b l row q v r t had c =
+    let before = trans_begins (longer whole) b in
+    elim (cell_split h0 e row q v had) [
+      | inl earlier ↦ accepted_more (name_of h) h0 e r (had_accepted h0 h before l row q v r t earlier c)
+      | inr w ↦ wrote_accepted h0 h e e.step before l row q v r (λ a d x y. had_accepted h0 h before l row a d r t x y) (λ x. x) w (lawful_begins b l).1.may c
+    ]
+
+pub standing_was_accepted : StandingWasAccepted
+standing_was_accepted h r l f = had_accepted h h whole l (point_row f.row) f.qual f.value r refl (had_cell h (point_row f.row) f.qual f.value l refl f.stands) f.reads
+
+-- the cell in which an accepted reading first stood
+record Source (h : History) (r : Reading) : Type 0 where
+  row : List ℕ
+  qual : List ℕ
+  value : List ℕ
+  had : HadCell h (point_row row) qual value
+  reads : CellReads (name_of h) row qual value r
+
+put_source : (h : History) (r : Reading) (e : Entry) (step : Step) → e.step ≡ step → IsLawful h → Had h e → IsPut step r → (before : History) → Begins before h → MayStep before e.caller step → Source h r
+put_source h r e (PutPoint point row qual value) is l had put before b may =
+    let x = put_reads before h point row qual value b l may in
+    let same = points_row row may.in_points in
+    record {
+      row = row.bytes;
+      qual = qual;
+      value = value;
+      had = inr (e, had, subst (λ (s : Step). Wrote (point_row row.bytes) qual value s) (sym is) (same, refl, refl));
+      reads = record { dots = x.dot ∷ []; reads = x.reads; dot = x.dot; among = here x.dot []; dot_reads = subst (DotReads (name_of h) row.bytes x.dot) put x.dot_reads };
+    }
+put_source h r e Open is l had put before b may = absurd put
+put_source h r e (Read row) is l had put before b may = absurd put
+put_source h r e (NextRow t x y) is l had put before b may = absurd put
+put_source h r e (Bump k) is l had put before b may = absurd put
+put_source h r e (Claim p x y) is l had put before b may = absurd put
+put_source h r e (PutMerged p x y) is l had put before b may = absurd put
+put_source h r e (DropCells p which) is l had put before b may = absurd put
+
+source : (h : History) (r : Reading) → IsLawful h → Accepted h r → Source h r
+source h r l (inl based) = record { row = based.row; qual = based.qual; value = based.value; had = inl based.stands; reads = based.reads }
+source h r l (inr w) =
+    let st = stood h w.1.0 w.0 w.1.1 in
+    put_source h r w.0 w.0.step refl l w.1 w.2 st.before (trans_begins (longer whole) st.begins) (lawful_begins st.begins l).1.may
+
+item_of : Dot → Item
+item_of d = d.item
+
+-- a data point of a cell has one at its offset in each cell that is the same or above
+same_offset : (q v p w : List ℕ) (ds es : List Dot) → IsDots q v ds → IsDots p w es → (p ≡ q) ⊎ IsBelow q p → (d : Dot) → Contains ds d → (e : Dot) × Contains es e × (e.item.offset ≡ d.item.offset)
+same_offset q v p w ds es rd re (inl same) d c =
+    let items = one_list p (items_of ds) (items_of es) (subst (λ x. IsItems x (items_of ds)) (sym same) rd.items) re.items in
+    let r = map_in (λ (x : Dot). x.item) es d.item (subst (λ (xs : List Item). Contains xs d.item) items (in_map (λ (x : Dot). x.item) ds d c)) in
+    (r.0, r.1, ap (λ (i : Item). i.offset) r.2)
+same_offset q v p w ds es rd re (inr b) d c =
+    let m = b.at_most in
+    let here : Contains m.items d.item = subst (λ (xs : List Item). Contains xs d.item) (one_list q (items_of ds) m.items rd.items m.reads) (in_map (λ (x : Dot). x.item) ds d c) in
+    let good = m.each d.item here in
+    let r = map_in (λ (x : Dot). x.item) es good.0 (subst (λ (xs : List Item). Contains xs good.0) (one_list p m.others (items_of es) m.others_read re.items) good.1) in
+    (r.0, r.1, ap (λ (i : Item). i.offset) r.2 ∙ sym good.2.offset)
+
+pub accepted_times_stand : AcceptedTimesStand
+accepted_times_stand h r l acc =
+    let f = source h r l acc in
+    let row : Row = point_row f.row in
+    let k : Kept (store_after h) row f.qual = keep h row f.qual f.value l refl f.had in
+    let there = each_reads h row k.other k.value l refl k.stands in
+    let c = f.reads in
+    let d = c.dot_reads in
+    let dot = same_offset f.qual f.value k.other k.value c.dots there.0 c.reads there.1 k.at_least c.dot c.among in
+    let s : Reading = record { metric = r.metric; tags = r.tags; time = r.time; value = dot.0.value } in (
+      s,
+      record {
+        row = f.row;
+        qual = k.other;
+        value = k.value;
+        stands = k.stands;
+        reads = record {
+          dots = there.0;
+          reads = there.1;
+          dot = dot.0;
+          among = dot.1;
+          dot_reads = record { key = d.key; is_key = d.is_key; row_is = d.row_is; metric_is = d.metric_is; tags_are = d.tags_are; time_is = d.time_is ∙ ap (λ n. d.key.base * 1000 + n) (sym dot.2); value_is = refl };
+        };
+      },
+      record { metric = refl; tags = refl; time = refl },
+    )
+
+-- a reading that meets another and has its value is that one
+pub same_reading : (a b : Reading) → Meets a b → a.value ≡ b.value → b ≡ a
+same_reading a b m v = λ i. record { metric = sym m.metric i; tags = sym m.tags i; time = sym m.time i; value = sym v i }
+
+pub standing_is_accepted : StandingIsAccepted
+standing_is_accepted h r l one = (λ acc. there acc (accepted_times_stand h r l acc), standing_was_accepted h r l)
+  where
+    there : Accepted h r → (s : Reading) × IsStanding h s × Meets r s → IsStanding h r
+    there acc (s, stands, m) =
+        let value = one r s acc (standing_was_accepted h s l stands) m in
+        subst (IsStanding h) (same_reading r s m value) stands

@@ -1,0 +1,24 @@
+mod Beginnings
+mod Keeps
+mod Entries
+mod Ids
+mod LawsHold
+mod Counters
+mod Known
+mod Keep
+mod DeedRanges
+mod Carry
+mod InOrder
+mod Written
+mod Accepting
+mod Sounding
+mod Wasting
+mod Invisible
+mod Sheets
+mod Worked
+mod Compacted
+mod SeenIds
+mod Placing
+mod Lining
+mod Points
+pub mod CallerLemmas

@@ -1,0 +1,13 @@
+-- What a caller's proof cites of the store's words.
+-- ---- the orders of rows and of places
+-- they are total, and what ties in them is one
+pub use Rattle.cell_model.proofs.Stores.{rows_total, places_total, exact_rows, exact_places}
+-- two places are one, or they are not
+pub use Rattle.cell_model.proofs.Stores.{same_or_not}
+-- ---- what a store has at a place
+-- after a write: what was written there, and elsewhere what it had
+pub use Rattle.cell_model.proofs.Stores.{content-written, content-written_other}
+-- after a removal and a drop: what it had elsewhere, and no more than it had
+pub use Rattle.cell_model.proofs.Stores.{get-removed_other, get-dropped_other, get-dropped}
+-- the cells of a row have what the store has
+pub use Rattle.cell_model.proofs.Shown.{value_among-cells_of}

@@ -1,5 +1,0 @@
-use Rattle.cell_model.proofs.Worked.{next_row_ends as worked}
-use Rattle.cell_model.proofs.examples.next_row_ends.Goals as goal
-
-pub returns : goal.returns
-returns c = worked

@@ -1,5 +1,0 @@
-use Rattle.cell_model.proofs.Placing.{first_is_lawful, entries_are_lawful as each_entry}
-use Rattle.cell_model.proofs.laws.entries_are_lawful.Goals as goal
-
-pub returns : goal.returns
-returns c = record { first = first_is_lawful; each = each_entry }

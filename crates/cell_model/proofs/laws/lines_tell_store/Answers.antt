@@ -1,5 +1,0 @@
-use Rattle.cell_model.proofs.Lining.{lines_tell_store}
-use Rattle.cell_model.proofs.laws.lines_tell_store.Goals as goal
-
-pub returns : goal.returns
-returns c = lines_tell_store

@@ -1,5 +1,0 @@
-use Rattle.cell_model.proofs.Placing.{seen_cell_reads}
-use Rattle.cell_model.proofs.laws.seen_cells_read.Goals as goal
-
-pub returns : goal.returns
-returns c = seen_cell_reads

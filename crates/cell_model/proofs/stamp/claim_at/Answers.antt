@@ -1,0 +1,13 @@
+use Rattle.std.proofs.Common.{◌≢◌, None, sym, subst, ap, ◌∙◌}
+use Rattle.cell_model.specs.Store.{Store, content_at, stamped}
+use Rattle.cell_model.proofs.Stamps.{claim_there, claim_stamped}
+use Rattle.cell_model.proofs.stamp.claim_at.Goals as goal
+
+pub stamp-requires-clause-there : goal.stamp-requires-clause-there
+stamp-requires-clause-there g c =
+    subst (λ (s : Store). content_at s c.args.row.now c.args.qual.now ≢ None) (sym c.in_ok-claimed.ensures.ok) (claim_there _ c.args.row.now c.args.qual.now c.args.value.now (sym c.in-Done.is ∙ c.in_ok-claimed.ensures.reply))
+
+pub returns-in-Done-clause-ok : goal.returns-in-Done-clause-ok
+returns-in-Done-clause-ok g c =
+    c.stamp.ensures.content ∙ ap (λ (s : Store). stamped s c.args.row.now c.args.qual.now c.args.place) c.in_ok-claimed.ensures.ok
+    ∙ claim_stamped _ c.args.row.now c.args.qual.now c.args.value.now c.args.place c.ranges.place.fits (sym c.in-Done.is ∙ c.in_ok-claimed.ensures.reply)

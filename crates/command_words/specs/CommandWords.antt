@@ -1,0 +1,75 @@
+-- What words ask for: `clap` gives the words of a command their places, and they have to be in their forms.
+use Rattle.std.specs.Prelude.{ℕ, Bool, false, ◌&&◌, not, nat_le, List, [], ◌∷◌, codes, Option, None, Some, option_map, if◌then◌else◌}
+use Rattle.std.specs.Option.{option_map_or}
+use Rattle.std.specs.Str.Parse.{digits_value}
+use Rattle.clap.specs.Kinds.{Kinds}
+use Rattle.clap.specs.Walk.{Row, Text, first_of}
+use Rattle.clap.specs.Simple.{subcommand_of}
+use Rattle.clap.specs.Faults.{fault_of}
+use Rattle.tsd_base.specs.Digits.{is_number}
+use Rattle.tsd_base.specs.Tags.{is_same}
+use Rattle.command_words.specs.Grammar.{grammar}
+
+-- what `batch` is asked: a range of seconds, the text of a query, and whether times are told in milliseconds
+pub record Batch : Type 0 where
+  pub start : ℕ
+  pub end : ℕ
+  pub query : List ℕ
+  pub ms : Bool
+
+-- what `stdio` is asked: of which kinds names that have no id are given one
+pub record Stdio : Type 0 where
+  pub auto_metric : Bool
+  pub auto_tag_key : Bool
+  pub auto_tag_value : Bool
+
+pub data Asked : Type 0 where
+  BatchAsked : Batch → Asked
+  StdioAsked : Stdio → Asked
+
+-- digits alone, from 0 to 4294967295
+abbrev pub is_second : List ℕ → Bool
+is_second word = is_number word && nat_le (digits_value 10 word) 4294967295
+
+abbrev pub is_range : List ℕ → List ℕ → Bool
+is_range start end = is_second start && (is_second end && nat_le (digits_value 10 start) (digits_value 10 end))
+
+abbrev pub batch_from : List ℕ → List ℕ → List ℕ → Bool → Option Batch
+batch_from start end query ms =
+    if is_range start end then Some (record { start = digits_value 10 start; end = digits_value 10 end; query = query; ms = ms }) else None
+
+-- the option is among the words
+abbrev pub is_given : Text → List Row → Bool
+is_given id rows = option_map_or (λ text. is_same text (codes "true")) (first_of id rows) false
+
+abbrev pub batch_with : Option Text → Option Text → Option Text → Bool → Option Batch
+batch_with (Some start) (Some end) (Some query) ms = batch_from start end query ms
+batch_with _ _ _ ms = None
+
+abbrev pub batch_in : List Row → Option Batch
+batch_in rows = batch_with (first_of (codes "start") rows) (first_of (codes "end") rows) (first_of (codes "query") rows) (is_given (codes "ms") rows)
+
+abbrev pub stdio_in : List Row → Stdio
+stdio_in rows = record {
+  auto_metric = is_given (codes "auto-metric") rows;
+  auto_tag_key = not (is_given (codes "no-auto-tagk") rows);
+  auto_tag_value = not (is_given (codes "no-auto-tagv") rows);
+}
+
+-- of a command's name and what its words are
+abbrev pub asked_by : Text → List Row → Option Asked
+asked_by name rows =
+    if is_same name (codes "batch") then option_map BatchAsked (batch_in rows) else if is_same name (codes "stdio") then Some (StdioAsked (stdio_in rows)) else None
+
+abbrev pub asked_in : Option (Text × List Row) → Option Asked
+asked_in None = None
+asked_in (Some command) = asked_by command.0 command.1
+
+-- nothing where `clap` refuses the words, which it does of a request for help or for a version too
+abbrev pub unless_refused : Kinds → Option Asked → Option Asked
+unless_refused [] asked = asked
+unless_refused (kind ∷ kinds) asked = None
+
+-- what the words ask for
+abbrev pub asked_of : List Text → Option Asked
+asked_of words = unless_refused (fault_of grammar words) (asked_in (subcommand_of grammar words))

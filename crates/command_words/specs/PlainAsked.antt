@@ -1,0 +1,29 @@
+-- What is asked, as plain data.
+use Rattle.std.specs.Prelude.{◌≤◌, Option, option_map}
+use Rattle.command_words.specs.declared.asked.Batch as batch
+use Rattle.command_words.specs.declared.asked.Stdio as stdio
+use Rattle.command_words.specs.declared.asked.Asked as code
+use Rattle.command_words.specs.declared.asked.Asked.TheVariants as asked
+use Rattle.command_words.specs.CommandWords.{Batch, Stdio, Asked}
+use Rattle.command_words.specs.CommandWords.Asked.{BatchAsked, StdioAsked}
+
+abbrev pub plain_batch : batch.Batch → Batch
+plain_batch b = record { start = b.start; end = b.end; query = b.query.now; ms = b.ms }
+
+abbrev pub plain_stdio : stdio.Stdio → Stdio
+plain_stdio s = record { auto_metric = s.auto_metric; auto_tag_key = s.auto_tag_key; auto_tag_value = s.auto_tag_value }
+
+abbrev pub plain_asked : code.Asked → Asked
+plain_asked (asked.Batch b) = BatchAsked (plain_batch b)
+plain_asked (asked.Stdio s) = StdioAsked (plain_stdio s)
+
+abbrev pub batch_of : Option batch.Batch → Option Batch
+batch_of b = option_map plain_batch b
+
+abbrev pub what_asked : Option code.Asked → Option Asked
+what_asked a = option_map plain_asked a
+
+-- a range ends at its start or behind it, and at the last second of a time or before
+abbrev pub InRange : code.Asked → Type 0
+InRange (asked.Batch b) = (b.start ≤ b.end) × (b.end ≤ 4294967295)
+InRange (asked.Stdio s) = Unit {0}

@@ -1,0 +1,28 @@
+//! What words ask for.
+
+/// What `batch` is asked: a range of seconds, both ends included, the text of a query, and whether times are told in
+/// milliseconds.
+#[derive(Clone, Copy, Drop)]
+pub struct Batch<'a> {
+    pub start: u64,
+    pub end: u64,
+    pub query: &'a [u8],
+    pub ms: bool,
+}
+
+/// What `stdio` is asked: of which kinds names that have no id are given one.
+#[derive(Clone, Copy, Drop)]
+pub struct Stdio {
+    pub auto_metric: bool,
+    pub auto_tag_key: bool,
+    pub auto_tag_value: bool,
+}
+
+/// What words ask for.
+#[derive(Clone, Copy, Drop)]
+pub enum Asked<'a> {
+    /// The answer of a query over points.
+    Batch { batch: Batch<'a> },
+    /// One connection, over the input and the output.
+    Stdio { stdio: Stdio },
+}

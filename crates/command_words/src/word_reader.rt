@@ -1,0 +1,136 @@
+//! Reading words.
+ghost use Rattle.std.specs.Prelude.{◌≡◌, ◌≤◌, true, false, map, option_map, string_bytes, IfOk, IfSome, MatchOption};
+ghost use Rattle.std.specs.Str.Parse.{digits_value};
+ghost use Rattle.clap.specs.Matches.{found_of};
+ghost use Rattle.clap.specs.Walk.{first_of, rows_of};
+ghost use Rattle.clap.specs.Simple.{subcommand_rows_of};
+ghost use Rattle.command_words.specs.CommandWords.{asked_by, asked_in, asked_of, batch_from, batch_in, is_given, is_second, stdio_in};
+ghost use Rattle.command_words.specs.PlainAsked.{InRange, batch_of, plain_stdio, what_asked};
+
+use crate::asked::{Asked, Batch, Stdio};
+use crate::grammar::grammar;
+use clap::ArgMatches;
+use clap::error::ErrorKind;
+use std::alloc::{AllocError, Global};
+use tsd_base::digits::read_digits;
+use tsd_base::times::LAST_SECOND;
+
+/// Reads the words of a command, without the program's name. None where they are none, also where they ask for help or
+/// for a version. It fails only for want of memory.
+///
+/// `batch START END M` may have the option `--ms`, with START and END in digits alone up to 4294967295, and END not below
+/// START. `stdio` may have the options `--auto-metric`, `--no-auto-tagk` and `--no-auto-tagv`. An option is given at most
+/// once, and `clap` says where it may stand.
+pub fn read_words<'a>(alloc: Global, words: &'a [String]) -> Result<Option<Asked<'a>>, AllocError>
+    ensures asked { IfOk result (λ found. what_asked found ≡ asked_of (map string_bytes words.entry.now)) }
+    ensures range { IfOk result (λ found. IfSome found InRange) }
+{
+    let grammar = grammar(alloc)?;
+    match grammar.try_get_matches_from(words) {
+        Ok(matches) => Ok(asked_in(&matches)),
+        Err(error) => match error.kind() {
+            ErrorKind::OutOfMemory => Err(AllocError),
+            _ => Ok(None),
+        },
+    }
+}
+
+/// What the matches of a command ask for.
+fn asked_in<'a>(matches: &ArgMatches<'a>) -> Option<Asked<'a>>
+    ensures asked { what_asked result ≡ asked_in (subcommand_rows_of matches.now) }
+    ensures range { IfSome result InRange }
+{
+    match matches.subcommand() {
+        Some((name, words)) => asked_by(name.as_bytes(), words),
+        None => None,
+    }
+}
+
+/// What a command of this name with these words asks for.
+fn asked_by<'a>(name: &[u8], words: &ArgMatches<'a>) -> Option<Asked<'a>>
+    ensures asked { what_asked result ≡ asked_by name.now (rows_of (found_of words.now)) }
+    ensures range { IfSome result InRange }
+{
+    if name == b"batch".as_slice() {
+        let batch = batch_in(words)?;
+        return Some(Asked::Batch { batch });
+    }
+    if name == b"stdio".as_slice() {
+        let stdio = stdio_in(words);
+        return Some(Asked::Stdio { stdio });
+    }
+    None
+}
+
+/// What `batch` is asked.
+fn batch_in<'a>(words: &ArgMatches<'a>) -> Option<Batch<'a>>
+    ensures asked { batch_of result ≡ batch_in (rows_of (found_of words.now)) }
+    ensures range { IfSome result (λ batch. (batch.start ≤ batch.end) × (batch.end ≤ 4294967295)) }
+{
+    let start = text(words, "start")?;
+    let end = text(words, "end")?;
+    let query = text(words, "query")?;
+    let ms = is_given(words, "ms");
+    read_batch(start, end, query, ms)
+}
+
+/// What `stdio` is asked.
+fn stdio_in(words: &ArgMatches<'_>) -> Stdio
+    ensures { plain_stdio result ≡ stdio_in (rows_of (found_of words.now)) }
+{
+    let auto_metric = is_given(words, "auto-metric");
+    let no_tag_key = is_given(words, "no-auto-tagk");
+    let no_tag_value = is_given(words, "no-auto-tagv");
+    Stdio {
+        auto_metric,
+        auto_tag_key: !no_tag_key,
+        auto_tag_value: !no_tag_value,
+    }
+}
+
+/// The text of a word.
+fn text<'a>(words: &ArgMatches<'a>, id: &str) -> Option<&'a [u8]>
+    ensures { option_map (λ text. text.now) result ≡ first_of id.now (rows_of (found_of words.now)) }
+{
+    match words.get_str(id) {
+        Some(text) => Some(text.as_bytes()),
+        None => None,
+    }
+}
+
+/// Whether an option is among the words.
+fn is_given(words: &ArgMatches<'_>, id: &str) -> bool
+    ensures { result ≡ is_given id.now (rows_of (found_of words.now)) }
+{
+    match text(words, id) {
+        Some(text) => text == b"true".as_slice(),
+        None => false,
+    }
+}
+
+/// Reads the words of `batch`.
+fn read_batch<'a>(start: &[u8], end: &[u8], query: &'a [u8], ms: bool) -> Option<Batch<'a>>
+    ensures asked { batch_of result ≡ batch_from start.now end.now query.entry.now ms }
+    ensures range { IfSome result (λ batch. (batch.start ≤ batch.end) × (batch.end ≤ 4294967295)) }
+{
+    let start = read_second(start)?;
+    let end = read_second(end)?;
+    if end < start {
+        return None;
+    }
+    Some(Batch {
+        start,
+        end,
+        query,
+        ms,
+    })
+}
+
+/// A second of a range: digits alone, up to the last second of a time.
+fn read_second(word: &[u8]) -> Option<u64>
+    ensures reads { MatchOption result (is_second word.now ≡ false) (λ second. (is_second word.now ≡ true) × (second ≡ digits_value 10 word.now)) }
+    ensures most { IfSome result (λ second. second ≤ 4294967295) }
+{
+    let second = read_digits(word)?;
+    (second <= LAST_SECOND).then_some(second)
+}

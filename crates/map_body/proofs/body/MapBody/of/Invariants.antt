@@ -1,7 +1,0 @@
-use Rattle.std.proofs.Common.{◌≡◌}
-use Rattle.map_body.proofs.body.MapBody.of.Given as goal
-use Rattle.std.specs.Prelude.{take}
-use Rattle.cell_model.specs.Listed.{store_of}
-
-abbrev pub invariant-loop-line : goal.invariant-loop-line
-invariant-loop-line l = l.body ≡ store_of (take l.line-index l.line-items)

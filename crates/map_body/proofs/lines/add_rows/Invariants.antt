@@ -1,6 +1,0 @@
-use Rattle.std.proofs.Common.{◌≡◌, ◌++◌}
-use Rattle.map_body.proofs.lines.add_rows.Given as goal
-use Rattle.map_body.specs.Whole.{lines_in}
-
-abbrev pub invariant-loop-bytes : goal.invariant-loop-bytes
-invariant-loop-bytes l = l.listing ++ lines_in l.table l.bytes-iterator ≡ l.fn.listing ++ lines_in l.table l.fn.rows

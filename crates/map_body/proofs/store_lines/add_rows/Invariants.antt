@@ -1,0 +1,6 @@
+use Rattle.std.proofs.Common.{◌≡◌, ◌++◌}
+use Rattle.map_body.proofs.store_lines.add_rows.Given as goal
+use Rattle.map_body.specs.Whole.{lines_in}
+
+abbrev pub invariant-loop-bytes : goal.invariant-loop-bytes
+invariant-loop-bytes l = l.listing ++ lines_in l.table l.bytes-iterator ≡ l.fn.listing ++ lines_in l.table l.fn.rows

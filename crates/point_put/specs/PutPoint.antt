@@ -1,0 +1,57 @@
+-- What a put is answered, by the entries that its caller makes for it.
+use Rattle.std.specs.Prelude.{◌≡◌, ℕ, List, [], ◌∷◌, ◌++◌, Some, Result, Ok, Err}
+use Rattle.tsd_base.specs.Points.{DataPoint}
+use Rattle.cell_model.specs.declared.answers.Stored.{Stored}
+use Rattle.cell_model.specs.declared.row.Row.{Row}
+use Rattle.cell_model.specs.declared.events.Step.TheVariants.{PutPoint}
+use Rattle.cell_model.specs.declared.events.Reply.TheVariants.{Written}
+use Rattle.cell_model.specs.declared.events.Placed.{Placed}
+use Rattle.cell_model.specs.Layout.{names_of, base_time}
+use Rattle.cell_model.specs.Lawful.{PointBasis}
+use Rattle.cell_model.specs.History.{History, first}
+use Rattle.cell_model.specs.IdRows.{id_of, AllResolved}
+use Rattle.cell_model.specs.Seen.{Seen, InEach}
+use Rattle.cell_model.specs.Deeds.{Made}
+use Rattle.uid_table.specs.IdSteps.{Did}
+use Rattle.point_put.specs.declared.config.Config.{Config}
+use Rattle.point_put.specs.declared.fault.PutFault.{PutFault}
+use Rattle.point_put.specs.declared.fault.PutFault.TheVariants.{Unknown, Exhausted, OutOfMemory, Stopped}
+use Rattle.point_put.specs.Entries.{ForNames, WasUnknown, WasExhausted, Before}
+
+-- the entry puts the point in this row, in the layout with the ids that its names have after the history
+pub record DidPut (h : History) (point : DataPoint) (row : Row) (d : Placed) : Type 0 where
+  pub qual : List ℕ
+  pub value : List ℕ
+  pub did : Did d (PutPoint point row qual value) Written
+  pub layout : PointBasis (λ kind name id. id_of h kind name ≡ Some id) point row qual value
+
+-- the entries for the names, and one more, which puts the point
+pub record WasStored (c : Config) (point : DataPoint) (h : History) (list : List Placed) (stored : Stored) : Type 0 where
+  pub names : List Placed
+  pub put : Placed
+  pub list_is : list ≡ names ++ put ∷ []
+  pub entries : ForNames c (names_of point) names
+  pub did : DidPut h point stored.row put
+  pub base : stored.base ≡ base_time point.time
+
+-- what the last step of a put makes
+abbrev pub StoreMade : DataPoint → Seen → Result Stored PutFault → Seen → Type 0
+StoreMade point old (Ok stored) new =
+    (d : Placed) × Made old (d ∷ []) new × InEach new (λ h. DidPut (first new.length h) point stored.row d) × (stored.base ≡ base_time point.time)
+StoreMade point old (Err (Unknown kind name)) new = ⊥
+StoreMade point old (Err (Exhausted kind)) new = ⊥
+StoreMade point old (Err OutOfMemory) new = Made old [] new
+StoreMade point old (Err Stopped) new = Made old [] new
+
+-- A point was asked, by these entries of its caller and the history as long as the caller has seen it. Accepted, they have one put, of the point;
+-- refused, they have none, and the names before the one that is told are resolved; without memory or stopped, they have none.
+abbrev pub PointAsked : Config → DataPoint → History → List Placed → Result Stored PutFault → Type 0
+PointAsked c point h list (Ok stored) = WasStored c point h list stored
+PointAsked c point h list (Err (Unknown kind name)) = ForNames c (names_of point) list × WasUnknown c kind name list × Before (names_of point) kind name (AllResolved h)
+PointAsked c point h list (Err (Exhausted kind)) = ForNames c (names_of point) list × WasExhausted c kind list × ((name : List ℕ) × Before (names_of point) kind name (AllResolved h))
+PointAsked c point h list (Err OutOfMemory) = ForNames c (names_of point) list
+PointAsked c point h list (Err Stopped) = ForNames c (names_of point) list
+
+-- the caller made these entries and no other, by which the point was asked, in each history that fits
+abbrev pub PutSays : Config → DataPoint → Seen → Result Stored PutFault → Seen → Type 0
+PutSays c point old result new = (list : List Placed) × Made old list new × InEach new (λ h. PointAsked c point (first new.length h) list result)

@@ -1,0 +1,47 @@
+//! The cell of a point: the row of its key, its qualifier and its value.
+ghost use Rattle.std.specs.Prelude.{◌≡◌, ◌%◌, [], ◌∷◌, length, IfOk};
+ghost use Rattle.row_key.specs.Key.{IsKey, key_bytes};
+ghost use Rattle.qual_codec.specs.Items.{IsLength};
+ghost use Rattle.qual_codec.specs.CellDots.{IsDots};
+ghost use Rattle.qual_codec.specs.Spelling.{IsShortest, dot_of};
+ghost use Rattle.cell_model.specs.Readings.{point_row};
+
+use cell_model::row::Row;
+use qual_codec::{Bytes, Item, laws, pack_item, pack_value};
+use row_key::{HOUR_MILLIS, RowKey, Table, write_key};
+use std::alloc::{AllocError, Global};
+use tsd_base::points::Point;
+
+/// The row of a key.
+pub fn row_of(alloc: Global, key: &RowKey) -> Result<Row, AllocError>
+    requires { IsKey key.now }
+    ensures { IfOk result (λ row. row ≡ point_row (key_bytes key.now)) }
+{
+    let bytes = write_key(key);
+    Ok(Row {
+        table: Table::Points,
+        bytes: Bytes::of(alloc, bytes.as_slice())?,
+    })
+}
+
+/// The shortest bytes of a point's value. They take no memory.
+pub fn value_of(point: &Point) -> Bytes
+    ensures { IsShortest point.now.value result }
+{
+    let bytes = pack_value(point.value);
+    Bytes::short(bytes.as_slice())
+}
+
+/// The qualifier of a point whose value has these bytes. It takes no memory.
+pub fn qualifier_of(point: &Point, value: &[u8]) -> Bytes
+    requires { IsShortest point.now.value value.now }
+    ensures { IsDots result value.now (dot_of (point.now.time % HOUR_MILLIS) point.now.fine point.now.value (length value.now) ∷ []) }
+{
+    laws::points_read_back();
+    let bytes = pack_item(Item {
+        offset: (point.time % HOUR_MILLIS) as u32,
+        fine: point.fine,
+        len: value.len() as u8,
+    });
+    Bytes::short(bytes.as_slice())
+}

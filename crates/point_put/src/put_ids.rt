@@ -1,0 +1,83 @@
+//! The ids of a point's names.
+ghost use Rattle.std.specs.Prelude.{◌≡◌, ◌≤◌, true, false, [], ◌∷◌, IfOk, IfErr, OnOk};
+ghost use Rattle.cell_model.specs.Seen.{IsPossible};
+ghost use Rattle.uid_table.specs.Shown.{HasShown};
+ghost use Rattle.point_put.specs.Configs.{makes};
+ghost use Rattle.cell_model.specs.Calls.{Leaves};
+ghost use Rattle.point_put.specs.PutFaults.{is_stop};
+ghost use Rattle.point_put.specs.ShownIds.{NamesAsked};
+
+use crate::config::Config;
+use crate::fault::PutFault;
+use cell_model::rows::Rows;
+use std::alloc::Global;
+use tsd_base::kinds::Kind;
+use tsd_base::names::Name;
+use uid_table::id_answers::{AssignFault, ResolveFault};
+use uid_table::uids::Uids;
+
+/// The id of a name that is given one where it has none.
+fn assigned<R: Rows + Drop>(
+    names: &mut Uids<R>,
+    alloc: Global,
+    config: &Config,
+    kind: Kind,
+    name: &Name,
+) -> Result<u32, PutFault>
+    requires { makes config.now kind ≡ true }
+    ensures asked { NamesAsked config.now ((kind, name.now) ∷ []) (R.seen names.old) result (R.seen names.new) }
+    ensures id { IfOk result (HasShown (R.seen names.new) kind name.now) }
+    ensures leaves { Leaves is_stop result (R.seen names.new) (R.stops names.old) (R.stops names.new) }
+{
+    match names.assign(alloc, kind, name) {
+        Ok(answer) => Ok(answer.id()),
+        Err(AssignFault::Exhausted { kind }) => Err(PutFault::Exhausted { kind }),
+        Err(AssignFault::OutOfMemory) => Err(PutFault::OutOfMemory),
+        Err(AssignFault::Stopped) => Err(PutFault::Stopped),
+    }
+}
+
+/// The id of a name that is given none.
+fn resolved<R: Rows + Drop>(
+    names: &mut Uids<R>,
+    alloc: Global,
+    config: &Config,
+    kind: Kind,
+    name: &Name,
+) -> Result<u32, PutFault>
+    requires { makes config.now kind ≡ false }
+    ensures asked { NamesAsked config.now ((kind, name.now) ∷ []) (R.seen names.old) result (R.seen names.new) }
+    ensures id { IfOk result (HasShown (R.seen names.new) kind name.now) }
+    ensures leaves { Leaves is_stop result (R.seen names.new) (R.stops names.old) (R.stops names.new) }
+{
+    match names.resolve(alloc, kind, name) {
+        Ok(id) => Ok(id),
+        Err(ResolveFault::Unknown { kind }) => {
+            let Ok(name) = name.again(alloc) else {
+                return Err(PutFault::OutOfMemory);
+            };
+            Err(PutFault::Unknown { kind, name })
+        }
+        Err(ResolveFault::OutOfMemory) => Err(PutFault::OutOfMemory),
+        Err(ResolveFault::Stopped) => Err(PutFault::Stopped),
+    }
+}
+
+/// The id of a name, which is given one where names of its kind are and it has none.
+pub fn id_for<R: Rows + Drop>(
+    names: &mut Uids<R>,
+    alloc: Global,
+    config: &Config,
+    kind: Kind,
+    name: &Name,
+) -> Result<u32, PutFault>
+    ensures asked { NamesAsked config.now ((kind, name.now) ∷ []) (R.seen names.old) result (R.seen names.new) }
+    ensures id { IfOk result (HasShown (R.seen names.new) kind name.now) }
+    ensures leaves { Leaves is_stop result (R.seen names.new) (R.stops names.old) (R.stops names.new) }
+{
+    if config.makes(kind) {
+        assigned(names, alloc, config, kind, name)
+    } else {
+        resolved(names, alloc, config, kind, name)
+    }
+}

@@ -1,0 +1,37 @@
+//! Putting a point.
+ghost use Rattle.std.specs.Prelude.{◌≡◌, ◌≤◌, ◌+◌, ◌*◌, length, IfErr, OnOk};
+ghost use Rattle.tsd_base.specs.Points.{data_point};
+ghost use Rattle.cell_model.specs.Seen.{IsPossible};
+ghost use Rattle.uid_table.specs.IdSteps.{MadeSo};
+ghost use Rattle.cell_model.specs.Calls.{Leaves};
+ghost use Rattle.point_put.specs.PutFaults.{is_stop};
+ghost use Rattle.point_put.specs.PutPoint.{PutSays};
+
+use crate::config::Config;
+use crate::fault::PutFault;
+use crate::point_key::key_for;
+use crate::put_cell::store;
+use cell_model::answers::Stored;
+use cell_model::rows::Rows;
+use std::alloc::Global;
+use tsd_base::points::Point;
+use uid_table::uids::Uids;
+
+/// Puts a point by the ids of its names, and answers its row.
+///
+/// The names are the metric, then each tag in byte order of its key, key before value. Each is given an id where names of its kind
+/// are and it has none, else it is resolved; the first that has no id refuses the point. Then one step writes the cell of the
+/// point. A fault writes no cell, and names that were given ids before it keep them.
+pub fn put<R: Rows + Drop>(
+    alloc: Global,
+    names: &mut Uids<R>,
+    config: &Config,
+    point: &Point,
+) -> Result<Stored, PutFault>
+    ensures says { PutSays config.now (data_point point.now) (R.seen names.old) result (R.seen names.new) }
+    ensures few { MadeSo (R.seen names.old) (λ list. length list ≤ 4 * (1 + 2 * length point.now.tags) + 1) (R.seen names.new) }
+    ensures leaves { Leaves is_stop result (R.seen names.new) (R.stops names.old) (R.stops names.new) }
+{
+    let key = key_for(names, alloc, config, point)?;
+    store(names, alloc, point, &key)
+}

@@ -1,0 +1,59 @@
+-- What a caller's proof cites of qualifiers, values and cells, where the functions of `laws` can't be called.
+use Rattle.std.proofs.Common.{◌≡◌, inr, ℕ, List, refl, arith}
+use Rattle.std.specs.Prelude.{Ok, Result}
+use Rattle.qual_codec.specs.declared.cells.Item.{Item}
+use Rattle.qual_codec.specs.declared.cells.Dot.{Dot}
+use Rattle.qual_codec.specs.declared.cells.CellFault.{CellFault}
+use Rattle.qual_codec.specs.CellDots.{IsDots}
+use Rattle.qual_codec.specs.CellFaults.{CellsReadOnce}
+use Rattle.qual_codec.specs.Order.{BelowExtends, IsAsGood, IsAtMost, IsBelow, ItemsAreUnique}
+use Rattle.qual_codec.proofs.Bits as bits
+use Rattle.qual_codec.proofs.OneReading.{reads_once}
+use Rattle.qual_codec.proofs.Ordering.{below_extends}
+-- ---- the bits of an item
+-- an item's fields have its bits
+pub use Rattle.qual_codec.proofs.Bits.{are_fields}
+-- the number of two bytes, and that of four
+pub use Rattle.qual_codec.proofs.Bits.{coarse, fine_number}
+-- the bits 1111 begin four bytes, and no two
+pub use Rattle.qual_codec.proofs.Bits.{coarse_high, fine_high}
+-- an item has two bytes at least, and items have an even number of bytes
+pub use Rattle.qual_codec.proofs.Progress.{even_items, long_fields}
+-- ---- values at an offset
+-- a dot's value stands at its offset, and a value that stands at an offset is a dot's
+pub use Rattle.qual_codec.proofs.Values.{DotAt, dot_value, value_dot}
+-- values that are one don't conflict
+pub use Rattle.qual_codec.proofs.Values.{no_conflict}
+-- ---- the dots of several cells
+-- the next of cells that read does, and its dots stand behind those of the cells before it
+pub use Rattle.qual_codec.proofs.Gathered.{are_next, reads_at}
+-- a dot of the cells is one of a cell
+pub use Rattle.qual_codec.proofs.Merges.{DotIn, dot_in}
+
+-- ---- what a cell reads as
+
+-- a qualifier is one list of items
+pub items_once : ItemsAreUnique
+items_once = bits.items_once
+
+cells_once : CellsReadOnce
+cells_once = reads_once
+
+same_ok : (a b : List Dot) → ◌≡◌ {A = Result (List Dot) CellFault} (Ok a) (Ok b) → a ≡ b
+same_ok a b e = cc
+
+-- a cell has one list of data points
+pub one_dots : (qual value : List ℕ) (a b : List Dot) → IsDots qual value a → IsDots qual value b → a ≡ b
+one_dots qual value a b x y = same_ok a b (cells_once qual value (Ok a) (Ok b) x y)
+
+-- ---- the order of qualifiers
+
+good_refl : (i : Item) → IsAsGood i i
+good_refl i = record { offset = refl; better = inr (refl, omega arith) }
+
+-- what is strictly above another is strictly above all that this is at least
+pub below_then : (d q other : List ℕ) → IsBelow d q → IsAtMost q other → IsBelow d other
+below_then d q other b more =
+    let m = b.at_most in
+    let extends : BelowExtends = below_extends in
+    extends d d q other (record { items = m.items; others = m.items; reads = m.reads; others_read = m.reads; each = λ i c. (i, c, good_refl i) }) b more

@@ -1,0 +1,45 @@
+use Rattle.std.proofs.Common.{sym, ◌∙◌}
+use Rattle.query_run.specs.IdFilters.{passes}
+use Rattle.query_run.specs.RowNames.{known}
+use Rattle.query_run.specs.SubQuery.{SubSays}
+use Rattle.query_run.proofs.NameReads.{passed_on}
+use Rattle.query_run.proofs.OneSub.{sub_barred, metric_refused, filters_refused, begun, collect_refused, can_title, times_small, groups_answered}
+use Rattle.query_run.proofs.sub_query.work.Goals as goal
+
+pub returns-in-Some-clause-says : goal.returns-in-Some-clause-says
+returns-in-Some-clause-says g c = sub_barred c.args.query.now c.args.sub.now _ c.in-Some.fault (sym c.in-Some.ensures)
+
+pub returns-in_err-metric-clause-says : goal.returns-in_err-metric-clause-says
+returns-in_err-metric-clause-says g c =
+    passed_on (λ r. SubSays c.args.query.now c.args.sub.now (g.R.Rows.seen c.args.names.now) r (g.R.Rows.seen c.resolve_name.new.names)) c.in_err-metric.field-0.0 c.from_residual.result c.from_residual.ensures.1
+    (metric_refused c.args.query.now c.args.sub.now _ _ c.in_err-metric.field-0.0 (sym c.barred.ensures ∙ c.in_default.is) c.in_err-metric.ensures.says)
+
+pub returns-in_err-filters-clause-says : goal.returns-in_err-filters-clause-says
+returns-in_err-filters-clause-says g c =
+    passed_on (λ r. SubSays c.args.query.now c.args.sub.now (g.R.Rows.seen c.args.names.now) r (g.R.Rows.seen c.resolve_filters.new.names)) c.in_err-filters.field-0.0 c.from_residual-in_err-filters.result c.from_residual-in_err-filters.ensures.1
+    (filters_refused c.args.query.now c.args.sub.now c.list.result.now _ _ _ c.in_err-filters.field-0.0 c.list.ensures (sym c.barred.ensures ∙ c.in_default.is) c.in_ok-metric.ensures.says.0 c.in_err-filters.ensures.says)
+
+pub returns-in_err-collected-clause-says : goal.returns-in_err-collected-clause-says
+returns-in_err-collected-clause-says g c =
+    let q = c.args.query.now in
+    let s = c.args.sub.now in
+    let cut = c.in_err-collected.ensures.says in
+    passed_on (λ r. SubSays q s (g.R.Rows.seen c.args.names.now) r (g.R.Rows.seen c.collect.new.names)) c.in_err-collected.field-0.0 c.from_residual-in_err-collected.result c.from_residual-in_err-collected.ensures.1
+    (collect_refused q s _ _ _ c.in_ok-metric.metric c.deref.result.now (sym c.barred.ensures ∙ c.in_default.is) c.in_err-collected.field-0.0 cut
+    (begun s c.in_ok-metric.metric c.list.result.now c.in_ok-filters.filters.items c.deref.result.now _ _ _ _ cut.own c.list.ensures c.deref.ensures.value c.in_ok-metric.ensures.says c.in_ok-filters.ensures.says cut.made))
+
+pub groups-requires-clause-names : goal.groups-requires-clause-names
+groups-requires-clause-names g c =
+    can_title (passes c.deref.result.now) c.in_ok-metric.metric c.args.query.now.start c.args.query.now.end _ _ c.in_ok-collected.collected.spans (known c.in_ok-collected.collected.names) c.in_ok-collected.ensures.says c.in_ok-collected.ensures.leaves.possible
+
+pub groups-requires-clause-times : goal.groups-requires-clause-times
+groups-requires-clause-times g c =
+    times_small (passes c.deref.result.now) c.in_ok-metric.metric c.args.query.now.start c.args.query.now.end _ _ c.in_ok-collected.collected.spans (known c.in_ok-collected.collected.names) c.requires.most c.in_ok-collected.ensures.says
+
+pub returns-clause-says : goal.returns-clause-says
+returns-clause-says g c =
+    let q = c.args.query.now in
+    let s = c.args.sub.now in
+    let all = c.in_ok-collected.ensures.says in
+    groups_answered q s _ _ _ c.in_ok-metric.metric c.deref.result.now (sym c.barred.ensures ∙ c.in_default.is) c.in_ok-collected.collected.spans (known c.in_ok-collected.collected.names) c.scan_covers.ensures all
+    (begun s c.in_ok-metric.metric c.list.result.now c.in_ok-filters.filters.items c.deref.result.now _ _ _ _ all.own c.list.ensures c.deref.ensures.value c.in_ok-metric.ensures.says c.in_ok-filters.ensures.says all.made) c.groups.result c.groups.ensures.says

@@ -1,0 +1,36 @@
+-- Series under the names of their tags, in place of the ids.
+use Rattle.std.specs.Prelude.{◌≡◌, ℕ, ℤ, ◌<◌, ◌≤◌, List, length, AllPairs, Contains, Some}
+use Rattle.std.specs.declared.cmp.Ordering.TheVariants.{Less}
+use Rattle.tsd_base.specs.TagList.{tags_cmp}
+use Rattle.cell_model.specs.Readings.{Named}
+use Rattle.tsd_base.specs.declared.kinds.Kind.{Kind}
+use Rattle.span_merge.specs.Spans.{Span}
+use Rattle.query_run.specs.declared.named_series.Series.{Series}
+use Rattle.query_run.specs.RowNames.{IdOf, Names, HasName, ids_of}
+
+-- no two ids of a kind have one name
+abbrev pub OneToOne : Names → Type 0
+OneToOne names = (kind : Kind) (i j : ℕ) (name : List ℕ) → names kind i ≡ Some name → names kind j ≡ Some name → i ≡ j
+
+-- pairs of a key: 1 to 8, rising by their first ids, each of which has a name
+pub record ArePairs (names : Names) (pairs : List (ℕ × ℕ)) : Type 0 where
+  pub some : 1 ≤ length pairs
+  pub most : length pairs ≤ 8
+  pub rising : AllPairs (λ p q. p.0 < q.0) pairs
+  pub named : (i : IdOf) → Contains (ids_of pairs) i → HasName names i
+
+-- the series has the names of these ids, and the same points
+pub record IsTitled (names : Names) (pairs : List (ℕ × ℕ)) (dots : List (ℕ × ℤ)) (series : Series) : Type 0 where
+  pub tags : Named names pairs series.tags
+  pub dots_are : series.dots ≡ dots
+
+-- the series are those by ids, rising by their tags
+pub record Titles (names : Names) (spans : List Span) (series : List Series) : Type 0 where
+  pub rising : AllPairs (λ s t. tags_cmp s.tags t.tags ≡ Less) series
+  pub each : (t : Series) → Contains series t → (s : Span) × Contains spans s × IsTitled names s.0 s.1 t
+  pub all : (s : Span) → Contains spans s → (t : Series) × Contains series t × IsTitled names s.0 s.1 t
+
+-- names can stand for the ids
+pub record CanTitle (names : Names) (spans : List Span) : Type 0 where
+  pub one : OneToOne names
+  pub each : (s : Span) → Contains spans s → ArePairs names s.0

@@ -1,0 +1,57 @@
+-- Working one sub query.
+use Rattle.std.specs.Prelude.{◌≡◌, ℕ, List, map, None, Result, Ok, Err}
+use Rattle.std.specs.Global.{Vec}
+use Rattle.json_reply.specs.Replies.{Group, plain}
+use Rattle.json_reply.specs.declared.reply.Group as code
+use Rattle.query_text.specs.declared.queries.Query.{Query}
+use Rattle.query_text.specs.declared.queries.Sub.{Sub}
+use Rattle.cell_model.specs.History.{History, first}
+use Rattle.cell_model.specs.Seen.{Seen, InEach}
+use Rattle.cell_model.specs.Deeds.{Made, Extends}
+use Rattle.span_merge.specs.Spans.{Span}
+use Rattle.query_run.specs.declared.named_series.Series.{Series}
+use Rattle.query_run.specs.declared.fault.AskFault.{AskFault}
+use Rattle.query_run.specs.declared.fault.AskFault.TheVariants.{Overflow, OutOfMemory}
+use Rattle.query_run.specs.QueryAnswers.{answer}
+use Rattle.query_run.specs.Parts.{Part, AreQuerySteps, PartStands}
+use Rattle.query_run.specs.Asked.{Cause}
+use Rattle.query_run.specs.AskedQueries.{wanted, names_in, barred, answer_over, IsFew}
+use Rattle.query_run.specs.NamedSeries.{points_in}
+use Rattle.query_run.specs.RowNames.{Names}
+use Rattle.query_run.specs.SeriesTags.{Titles}
+
+-- the series under their names, with what the answer over their points is
+abbrev pub Answering : Query → Sub → Names → List Span → Result (List Group) ℕ → Type 0
+Answering q s names spans wanted = (series : List Series) × Titles names spans series × (answer q s (points_in s.metric series) ≡ wanted)
+
+abbrev pub GroupsSay : Query → Sub → Names → List Span → Result (Vec code.Group) AskFault → Type 0
+GroupsSay q s names spans (Ok groups) = Answering q s names spans (Ok (map plain groups.items))
+GroupsSay q s names spans (Err (Overflow time)) = Answering q s names spans (Err time)
+GroupsSay q s names spans (Err OutOfMemory) = Unit {0}
+GroupsSay q s names spans (Err fault) = ⊥
+
+-- so it is of the length and the history of each sight from this one on
+abbrev pub Later : Seen → (ℕ → History → Type 0) → Type 0
+Later s P = (later : Seen) → Extends s later → InEach later (P later.length)
+
+-- the sub query has a part that stands from now on, and these are the groups over what it shows
+pub record SubAnswered (q : Query) (s : Sub) (old : Seen) (groups : List Group) (new : Seen) : Type 0 where
+  pub part : Part
+  pub made : Made old part.own new
+  pub steps : AreQuerySteps part.own
+  pub free : barred q s ≡ None
+  pub stands : Later new (λ end h. PartStands (wanted q s) (names_in s) part end h)
+  pub answers : answer_over q s part.shown ≡ Ok groups
+  pub few : Later new (λ end h. IsFew q s part.own (first end h))
+
+-- the sub query is refused
+pub record SubRefused (q : Query) (s : Sub) (old : Seen) (fault : AskFault) (new : Seen) : Type 0 where
+  pub part : Part
+  pub made : Made old part.own new
+  pub steps : AreQuerySteps part.own
+  pub cause : InEach new (λ h. Cause (wanted q) names_in (barred q) (answer_over q) (IsFew q) s part new.length h fault)
+  pub few : InEach new (λ h. IsFew q s part.own (first new.length h))
+
+abbrev pub SubSays : Query → Sub → Seen → Result (Vec code.Group) AskFault → Seen → Type 0
+SubSays q s old (Ok groups) new = SubAnswered q s old (map plain groups.items) new
+SubSays q s old (Err fault) new = SubRefused q s old fault new

@@ -1,0 +1,142 @@
+//! The rows of a metric that pass filters, collected as the points of series by the ids of their tags.
+ghost use Rattle.std.specs.Prelude.{◌≡◌, ◌≤◌, ◌++◌, ◌∷◌, [], ℕ, All, OnOk};
+ghost use Rattle.row_key.specs.declared.keys.RowKey.{RowKey};
+ghost use Rattle.row_key.specs.Key.{IsKey, key_bytes};
+ghost use Rattle.cell_model.specs.Seen.{IsPossible};
+ghost use Rattle.cell_model.specs.Calls.{Leaves};
+ghost use Rattle.tsd_base.specs.Dots.{IsAboveAll};
+ghost use Rattle.span_merge.specs.Spans.{dots_of};
+ghost use Rattle.query_run.specs.AskFaults.{is_stop};
+ghost use Rattle.query_run.specs.IdFilters.{passes};
+ghost use Rattle.query_run.specs.Collection.{Adds, CollectSays, FoundRow, GoesOn, RowAsked, StandsBehind};
+
+use crate::fault::AskFault;
+use crate::id_filter::{IdFilter, passes};
+use crate::key_jump::jump;
+use crate::row_dots::row_dots;
+use crate::row_names::{IdNames, name_pairs};
+use cell_model::row::Found;
+use cell_model::rows::Rows;
+use row_key::{MOST_IDS, RowKey, base_of, read_key};
+use row_scan::Scan;
+use span_merge::spans::Spans;
+use std::alloc::{AllocError, Global};
+use tsd_base::dots::Dots;
+use uid_table::uids::Uids;
+
+/// The points of series by the ids of their tags, and the names of these ids.
+#[derive(Drop)]
+pub(crate) struct Collected {
+    pub(crate) spans: Spans,
+    pub(crate) names: IdNames,
+}
+
+/// The key of a row that has one.
+fn key_of(row: &[u8]) -> RowKey
+    requires { (key : RowKey) × IsKey key × (row.now ≡ key_bytes key) }
+    ensures is_key { IsKey result }
+    ensures row { row.now ≡ key_bytes result }
+{
+    match read_key(row) {
+        Ok(key) => key,
+        Err(_) => unreachable!(),
+    }
+}
+
+/// Adds points to those of a series, where there are any.
+fn add_dots(
+    alloc: Global,
+    spans: &mut Spans,
+    pairs: &[(u32, u32)],
+    dots: Dots,
+) -> Result<(), AllocError>
+    requires { All (λ d. IsAboveAll d.0 (dots_of spans.old pairs.now)) dots }
+    ensures { OnOk result (Adds spans.old pairs.now dots spans.new) }
+{
+    if dots.list().is_empty() {
+        return Ok(());
+    }
+    spans.add(alloc, pairs, dots)
+}
+
+/// Lets a scan go on behind the rows that fail the filters as one with this key does, which it found last.
+fn pass_over(scan: &mut Scan, filters: &[IdFilter], key: &RowKey)
+    requires key { IsKey key.now }
+    requires behind { scan.old.from ≡ key_bytes key.now ++ 0 ∷ [] }
+    ensures { GoesOn (passes filters.now) scan.old scan.new }
+{
+    if let Some(target) = jump(filters, key) {
+        scan.skip_to(&target);
+    }
+}
+
+/// Collects the points of a row from `start` to `end`, and the names of its ids, where it passes the filters. Of any other row the key
+/// alone is read, and the scan that found it goes on behind those that fail as it does.
+fn take_row<R: Rows + Drop>(
+    alloc: Global,
+    names: &mut Uids<R>,
+    filters: &[IdFilter],
+    start: u64,
+    end: u64,
+    found: &Found,
+    scan: &mut Scan,
+    collected: &mut Collected,
+) -> Result<(), AskFault>
+    requires most { end ≤ 4294967295999 }
+    requires row { (metric : ℕ) × FoundRow (R.seen names.old) metric start end found.now }
+    requires behind { StandsBehind collected.old.spans found.now }
+    requires scan { scan.old.from ≡ found.now.row.bytes ++ 0 ∷ [] }
+    requires possible { IsPossible (R.seen names.old) }
+    ensures asked { (metric : ℕ) → FoundRow (R.seen names.old) metric start end found.now → RowAsked (passes filters.now) metric start end found.now (R.seen names.old) collected.old result (R.seen names.new) collected.new }
+    ensures goes_on { OnOk result (GoesOn (passes filters.now) scan.old scan.new) }
+    ensures leaves { Leaves is_stop result (R.seen names.new) (R.stops names.old) (R.stops names.new) }
+{
+    let key = key_of(found.row.bytes.list());
+    if !passes(filters, key.pairs.as_slice()) {
+        pass_over(scan, filters, &key);
+        return Ok(());
+    }
+    let dots = row_dots(alloc, &found.cells, key.base, start, end)?;
+    name_pairs(alloc, names, key.pairs.as_slice(), &mut collected.names)?;
+    add_dots(alloc, &mut collected.spans, key.pairs.as_slice(), dots)?;
+    Ok(())
+}
+
+/// Collects the rows of a metric's id that pass the filters, with the points from `start` to `end`.
+pub(crate) fn collect<R: Rows + Drop>(
+    alloc: Global,
+    names: &mut Uids<R>,
+    metric: u32,
+    filters: &[IdFilter],
+    start: u64,
+    end: u64,
+) -> Result<Collected, AskFault>
+    requires metric { metric ≤ MOST_IDS }
+    requires order { start ≤ end }
+    requires most { end ≤ 4294967295999 }
+    requires possible { IsPossible (R.seen names.old) }
+    ensures says { CollectSays (passes filters.now) metric start end (R.seen names.old) result (R.seen names.new) }
+    ensures leaves { Leaves is_stop result (R.seen names.new) (R.stops names.old) (R.stops names.new) }
+{
+    let mut scan = Scan::start(metric, base_of(start), base_of(end));
+    let mut collected = Collected {
+        spans: Spans::make(alloc),
+        names: IdNames::none(alloc),
+    };
+    for _ in 0..u64::MAX {
+        let Some(found) = scan.turn(alloc, names)? else {
+            return Ok(collected);
+        };
+        take_row(
+            alloc,
+            names,
+            filters,
+            start,
+            end,
+            &found,
+            &mut scan,
+            &mut collected,
+        )?;
+    }
+    Err(AskFault::OutOfMemory)
+}

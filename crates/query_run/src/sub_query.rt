@@ -1,0 +1,92 @@
+//! Working one sub query.
+ghost use Rattle.std.specs.Prelude.{◌≡◌, ◌≤◌, ◌<◌, ◌^◌, All, Contains, ℕ, ℤ, length, IfOk};
+ghost use Rattle.json_reply.specs.Replies.{IsReady};
+ghost use Rattle.span_merge.specs.Spans.{Span};
+ghost use Rattle.cell_model.specs.Stops.{CountsStops};
+ghost use Rattle.query_run.specs.AskFaults.{is_stop};
+ghost use Rattle.query_run.specs.SeriesGroups.{IsWorkable};
+ghost use Rattle.query_run.specs.RowNames.{known};
+ghost use Rattle.query_run.specs.AskedQueries.{CanDown, barred};
+ghost use Rattle.query_run.specs.SeriesTags.{CanTitle};
+ghost use Rattle.query_run.specs.SubQuery.{GroupsSay, SubSays};
+
+use crate::collection::{Collected, collect};
+use crate::fault::AskFault;
+use crate::resolve::{resolve_filters, resolve_name};
+use crate::series_groups::groups_of;
+use crate::series_tags::titled;
+use cell_model::rows::Rows;
+use downsample::buckets;
+use json_reply::reply::Group;
+use lerp_aggregate::aggregation::AggFault;
+use query_text::queries::{Query, Sub};
+use row_scan::laws;
+use std::alloc::Global;
+use tsd_base::kinds::{Fill, Kind};
+use uid_table::uids::Uids;
+
+/// The most buckets that a fill of zeros may make.
+const MOST_BUCKETS: u64 = 1_000_000;
+
+/// What keeps a sub query from being worked at all: a fill of zeros with too many buckets.
+fn barred(query: &Query, sub: &Sub) -> Option<AskFault>
+    requires order { query.now.start ≤ query.now.end }
+    requires most { query.now.end ≤ 4294967295999 }
+    requires down { CanDown query.now.ms sub.now }
+    ensures { result ≡ barred query.now sub.now }
+{
+    let down = sub.down?;
+    match down.fill {
+        Fill::NoFill => None,
+        Fill::Zero => {
+            let count = buckets(query.start, query.end, down.interval);
+            (MOST_BUCKETS < count).then_some(AskFault::TooManyBuckets { count })
+        }
+    }
+}
+
+/// The groups of the series of a sub query.
+fn groups(
+    alloc: Global,
+    query: &Query,
+    sub: &Sub,
+    collected: Collected,
+) -> Result<Vec<Group>, AskFault>
+    requires works { IsWorkable query.now sub.now }
+    requires names { CanTitle (known collected.names) collected.spans }
+    requires some { (s : Span) → Contains collected.spans s → 1 ≤ length s.1 }
+    requires times { (s : Span) (d : ℕ × ℤ) → Contains collected.spans s → Contains s.1 d → d.0 < 2 ^ 43 }
+    ensures says { GroupsSay query.now sub.now (known collected.names) collected.spans result }
+    ensures ready { IfOk result (λ groups. All IsReady groups.items) }
+{
+    let series = titled(alloc, collected)?;
+    match groups_of(alloc, query, sub, series) {
+        Ok(groups) => Ok(groups),
+        Err(AggFault::Overflow { time }) => Err(AskFault::Overflow { time }),
+        Err(AggFault::OutOfMemory) => Err(AskFault::OutOfMemory),
+    }
+}
+
+/// Answers a sub query of a query.
+pub(crate) fn work<R: Rows + Drop>(
+    alloc: Global,
+    names: &mut Uids<R>,
+    query: &Query,
+    sub: &Sub,
+) -> Result<Vec<Group>, AskFault>
+    requires order { query.now.start ≤ query.now.end }
+    requires most { query.now.end ≤ 4294967295999 }
+    requires down { CanDown query.now.ms sub.now }
+    ensures says { SubSays query.now sub.now (R.seen names.old) result (R.seen names.new) }
+    ensures ready { IfOk result (λ groups. All IsReady groups.items) }
+    ensures stops { CountsStops is_stop result (R.stops names.old) (R.stops names.new) }
+{
+    laws::scan_covers();
+    if let Some(fault) = barred(query, sub) {
+        return Err(fault);
+    }
+    let metric = resolve_name(alloc, names, Kind::Metric, &sub.metric)?;
+    let filters = resolve_filters(alloc, names, sub.filters.list())?;
+    let collected = collect(alloc, names, metric, &filters, query.start, query.end)?;
+    groups(alloc, query, sub, collected)
+}

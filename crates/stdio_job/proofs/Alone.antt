@@ -1,0 +1,61 @@
+-- What was served over a store of one's own stands in the store's whole history.
+use Rattle.std.proofs.Common.{◌≡◌, ℕ, ◌+◌, ◌≤◌, ◌<◌, true, List, [], ◌∷◌, refl, sym, ap, subst, ◌∙◌, arith}
+use Rattle.std.specs.Prelude.{Some}
+use Rattle.std.specs.FinMap.{empty}
+use Rattle.cell_model.specs.declared.events.Entry.{Entry}
+use Rattle.cell_model.specs.History.{History, len, entry_at}
+use Rattle.cell_model.specs.Seen.{Seen, IsPossible}
+use Rattle.cell_solo.specs.Turns.{whole_seen, opened, opening}
+use Rattle.point_put.specs.declared.config.Config.{Config}
+use Rattle.lone_store.specs.LoneStores.{IsFresh}
+use Rattle.lone_store.proofs.CallerLemmas.{begun_lawful}
+use Rattle.list_lemmas.proofs.ListMembers.{here}
+use Rattle.tsd_daemon.specs.declared.served.Served.{Served}
+use Rattle.tsd_daemon.specs.declared.served.Served.TheVariants as answer
+use Rattle.tsd_daemon.specs.Exchanges.Ran.{start}
+use Rattle.tsd_daemon.specs.ServedConns.{Fills, IsServed, Serves}
+use Rattle.stdio_job.specs.LoneConnections.{IsServedAlone}
+
+abbrev begun : History
+begun = opened empty 1
+
+abbrev fresh_seen : Seen
+fresh_seen = whole_seen begun 1 true
+
+alone_served : (c : Config) (new : Seen) (input output : List ℕ) (result : Served) → IsPossible fresh_seen → Serves c fresh_seen input output result new → IsServedAlone c input output result
+alone_served c new input output result possible s =
+    let p = s.since.lives possible in
+    let long : len p.history ≡ new.length = p.whole s.since.alone in
+    record {
+      history = p.history;
+      lawful = p.lawful;
+      base = p.fits.base ∙ s.since.extends.base;
+      opened = (s.since.extends.fits p.history p.fits).seen 1 (opening 1) (omega arith, here (record { place = 1; entry = opening 1 }) []);
+      only = λ place e above most is. s.since.only refl p.history p.fits place e above (omega (arith, long, most)) is;
+      served = subst (λ (n : ℕ). IsServed c p.history 1 1 n input output result) (sym long) (s.served p.history p.lawful p.fits);
+    }
+
+-- what was served from a fresh store on
+pub served_alone : (c : Config) (old new : Seen) (input output : List ℕ) (result : Served) → IsFresh old → Serves c old input output result new → IsServedAlone c input output result
+served_alone c old new input output result fresh s =
+    alone_served c new input output result (subst IsPossible fresh.seen fresh.possible) (subst (λ (o : Seen). Serves c o input output result new) fresh.seen s)
+
+-- no memory for the store: nothing was served
+pub none_served : (c : Config) → IsServedAlone c [] [] answer.OutOfMemory
+none_served c = record {
+  history = begun;
+  lawful = begun_lawful;
+  base = refl;
+  opened = refl;
+  only = λ place e above most is. absurd (omega (arith, above, most));
+  served = record {
+    done = [];
+    last = 1;
+    in_range = omega arith;
+    ran = start;
+    table = record { rest = []; requests = refl; replies = refl; begun = refl };
+  };
+}
+
+pub nothing_fills : Fills answer.OutOfMemory 0
+nothing_fills = omega arith

@@ -1,0 +1,28 @@
+use Rattle.std.proofs.Common.{[]}
+use Rattle.std.proofs.KnownBytes.{Appends-nil, Consumes-nil}
+use Rattle.stdio_job.proofs.Alone.{none_served, nothing_fills, served_alone}
+use Rattle.stdio_job.proofs.lone_connection.serve_alone.Goals as goal
+
+pub returns-in-Ok-clause-served : goal.returns-in-Ok-clause-served
+returns-in-Ok-clause-served g c =
+    let s = c.serve_conn-served.ensures.served in
+    record {
+      input = s.input;
+      output = s.output;
+      takes = s.takes;
+      leaves = s.leaves;
+      gives = s.gives;
+      so = (served_alone c.args.config.now _ _ s.input s.output c.serve_conn-served.result c.in-Ok.ensures.fresh s.so.0, s.so.1);
+    }
+
+pub returns-in-Err-clause-served : goal.returns-in-Err-clause-served
+returns-in-Err-clause-served g c =
+    let s = g.S.Source in
+    record {
+      input = [];
+      output = [];
+      takes = Appends-nil (s.taken c.args.source.now);
+      leaves = Consumes-nil (s.left c.args.source.now);
+      gives = Appends-nil (g.K.Sink.held c.args.sink.now);
+      so = (none_served c.args.config.now, nothing_fills);
+    }

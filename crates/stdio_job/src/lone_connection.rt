@@ -1,0 +1,53 @@
+//! Serving one connection over a store of its own.
+ghost use Rattle.std.specs.Prelude.{◌≡◌};
+ghost use Rattle.std.specs.Io.KnownBytes.{IsAtEnd};
+ghost use Rattle.tsd_daemon.specs.ServedConns.{Passes};
+ghost use Rattle.tsd_daemon.specs.Talks.{ConnCauses};
+ghost use Rattle.stdio_job.specs.LoneConnections.{ServesAlone};
+
+use compactor::queue::Queue;
+use lone_store::{empty, halt_of};
+use point_put::Config;
+use std::alloc::Global;
+use tsd_daemon::{Served, serve_conn};
+use tsd_io::clock::Clock;
+use tsd_io::halt::Halt;
+use tsd_io::ports::{Sink, Source};
+
+/// How the serving of a connection ended, and the halt, as its last step left it.
+#[derive(Drop)]
+pub struct Finished<H> {
+    pub served: Served,
+    pub halt: H,
+}
+
+/// Serves one connection over an empty store of its own, each step of which asks the halt first. Rows that were put to are not
+/// compacted: the store goes with the connection.
+pub fn serve_alone<S: Source, K: Sink, C: Clock, H: Halt + Drop>(
+    alloc: Global,
+    config: &Config,
+    source: &mut S,
+    sink: &mut K,
+    clock: &mut C,
+    halt: H,
+) -> Finished<H>
+    ensures served { Passes (S.taken source.old) (S.taken source.new) (S.left source.old) (S.left source.new) (K.held sink.old) (K.held sink.new)
+        (ServesAlone config.now result.served) }
+    ensures end { result.served ≡ Served.End → IsAtEnd (S.left source.new) }
+    ensures causes { ConnCauses (S.faults source.old) (S.faults source.new) (K.faults sink.old) (K.faults sink.new) (H.stops halt) (H.stops result.halt) result.served }
+    ensures clock { clock.new ≡ clock.old }
+{
+    match empty(alloc, halt) {
+        Ok(store) => {
+            let mut store = store;
+            let mut queue = Queue::make(alloc);
+            let served = serve_conn(alloc, &mut store, config, source, sink, clock, &mut queue);
+            let halt = halt_of(store);
+            Finished { served, halt }
+        }
+        Err((_error, halt)) => Finished {
+            served: Served::OutOfMemory,
+            halt,
+        },
+    }
+}

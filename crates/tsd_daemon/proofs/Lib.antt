@@ -1,0 +1,7 @@
+mod Giving
+mod Points
+mod Moving
+mod Pieces
+mod Serving
+mod TalkLemmas
+mod Talking

@@ -1,0 +1,163 @@
+-- How a connection goes on by a piece that is taken, and the causes of its end.
+use Rattle.std.proofs.Common.{◌≡◌, ℕ, ◌+◌, ◌^◌, ◌≤◌, List, [], ◌++◌, map, length, refl, sym, ap, subst, ◌∙◌, add-zero, arith}
+use Rattle.std.specs.Prelude.{Option, None, Some, Result, Ok, Err, IfErr}
+use Rattle.tsd_io.specs.Causes.{Rose}
+use Rattle.telnet_put.specs.Requests.{Request}
+use Rattle.telnet_put.specs.Sessions as sessions
+use Rattle.telnet_put.specs.Unread.{Unread}
+use Rattle.point_put.specs.declared.config.Config.{Config}
+use Rattle.tsd_daemon.specs.declared.served.Served.{Served}
+use Rattle.tsd_daemon.specs.declared.served.Served.TheVariants as answer
+use Rattle.tsd_daemon.specs.ConnPieces.{PieceTaken, TakesNext}
+use Rattle.tsd_daemon.specs.ConnRequests.{ConnRequest}
+use Rattle.tsd_daemon.specs.ConnRequests.ConnRequest.{Telnet}
+use Rattle.tsd_daemon.specs.Talks.{Causes, ConnCauses, Ends, Gives, HasConnCause, HasEndCause, IsNext, PieceMoves, Stand, Start, Talks, telnet_to_come}
+use Rattle.tsd_daemon.proofs.Talking.{Quiet, talk_failed, talk_gave, talk_quiet, talk_took}
+
+-- ---- causes
+
+rose_later : (a b d : ℕ) → a ≤ b → Rose b d → Rose a d
+rose_later a b d le r = omega (arith, le, r)
+
+rose_more : (a b d : ℕ) → b ≤ d → Rose a b → Rose a d
+rose_more a b d le r = omega (arith, le, r)
+
+later_cause : (a b d s s' s'' : ℕ) (r : Option Served) → a ≤ b → s ≤ s' → HasEndCause b d s' s'' r → HasEndCause a d s s'' r
+later_cause a b d s s' s'' None le sle h = tt
+later_cause a b d s s' s'' (Some answer.WriteFault) le sle h = rose_later a b d le h
+later_cause a b d s s' s'' (Some answer.Stopped) le sle h = rose_later s s' s'' sle h
+later_cause a b d s s' s'' (Some answer.Exit) le sle h = tt
+later_cause a b d s s' s'' (Some answer.Die) le sle h = tt
+later_cause a b d s s' s'' (Some answer.OutOfMemory) le sle h = tt
+later_cause a b d s s' s'' (Some answer.End) le sle h = absurd h
+later_cause a b d s s' s'' (Some answer.Closed) le sle h = absurd h
+later_cause a b d s s' s'' (Some answer.ReadFault) le sle h = absurd h
+later_cause a b d s s' s'' (Some answer.ClockFault) le sle h = absurd h
+later_cause a b d s s' s'' (Some answer.SessionFull) le sle h = absurd h
+
+-- one after the other
+pub causes_on : (a b d s s' s'' : ℕ) (r : Option Served) → Causes a b s s' None → Causes b d s' s'' r → Causes a d s s'' r
+causes_on a b d s s' s'' r x y = record {
+  later = let p = x.later in let q = y.later in omega (arith, p, q);
+  grows = let p = x.grows in let q = y.grows in omega (arith, p, q);
+  cause = later_cause a b d s s' s'' r x.later x.grows y.cause;
+}
+
+-- a session ended where nothing was read
+pub conn_causes : (reads reads' a b d s s' s'' : ℕ) (r : Served) → reads ≤ reads' → a ≤ b → s ≤ s' → Causes b d s' s'' (Some r) → ConnCauses reads reads' a d s s'' r
+conn_causes reads reads' a b d s s' s'' r rle le sle x = record {
+  source = rle;
+  sink = let q = x.later in omega (arith, le, q);
+  rows = let q = x.grows in omega (arith, sle, q);
+  cause = at r (later_cause a b d s s' s'' (Some r) le sle x.cause);
+}
+  where
+    at : (r : Served) → HasEndCause a d s s'' (Some r) → HasConnCause reads reads' a d s s'' r
+    at answer.WriteFault h = h
+    at answer.Stopped h = h
+    at answer.Exit h = tt
+    at answer.Die h = tt
+    at answer.OutOfMemory h = tt
+    at answer.End h = tt
+    at answer.Closed h = tt
+    at answer.ReadFault h = absurd h
+    at answer.ClockFault h = absurd h
+    at answer.SessionFull h = tt
+
+pub taken_causes : (taken taken' left left' : Option (List ℕ)) (old new : PieceTaken) (reads reads' writes writes' : ℕ) (r : Result (Unit {0}) Served) → TakesNext taken taken' left left' old r new → reads ≤ reads' → writes ≤ writes' → (r ≡ Err answer.ReadFault → Rose reads reads')
+    → IfErr r (λ end. (stops : ℕ) → ConnCauses reads reads' writes writes' stops stops end)
+taken_causes taken taken' left left' old new reads reads' writes writes' (Ok x) t rle wle failed = tt
+taken_causes taken taken' left left' old new reads reads' writes writes' (Err answer.End) t rle wle failed = λ stops. record { source = rle; sink = wle; rows = omega arith; cause = tt }
+taken_causes taken taken' left left' old new reads reads' writes writes' (Err answer.ReadFault) t rle wle failed = λ stops. record { source = rle; sink = wle; rows = omega arith; cause = failed refl }
+taken_causes taken taken' left left' old new reads reads' writes writes' (Err answer.SessionFull) t rle wle failed = λ stops. record { source = rle; sink = wle; rows = omega arith; cause = tt }
+taken_causes taken taken' left left' old new reads reads' writes writes' (Err answer.WriteFault) t rle wle failed = λ stops. absurd t.next
+taken_causes taken taken' left left' old new reads reads' writes writes' (Err answer.Stopped) t rle wle failed = λ stops. absurd t.next
+taken_causes taken taken' left left' old new reads reads' writes writes' (Err answer.Exit) t rle wle failed = λ stops. absurd t.next
+taken_causes taken taken' left left' old new reads reads' writes writes' (Err answer.Die) t rle wle failed = λ stops. absurd t.next
+taken_causes taken taken' left left' old new reads reads' writes writes' (Err answer.Closed) t rle wle failed = λ stops. absurd t.next
+taken_causes taken taken' left left' old new reads reads' writes writes' (Err answer.ClockFault) t rle wle failed = λ stops. absurd t.next
+taken_causes taken taken' left left' old new reads reads' writes writes' (Err answer.OutOfMemory) t rle wle failed = λ stops. absurd t.next
+
+-- after what came before
+pub later_causes : (r0 r1 r2 w0 w1 w2 s0 s1 : ℕ) (end : Served) → r0 ≤ r1 → w0 ≤ w1 → s0 ≤ s1 → ConnCauses r1 r2 w1 w2 s1 s1 end → ConnCauses r0 r2 w0 w2 s0 s1 end
+later_causes r0 r1 r2 w0 w1 w2 s0 s1 end rle wle sle x = record {
+  source = let q = x.source in omega (arith, rle, q);
+  sink = let q = x.sink in omega (arith, wle, q);
+  rows = sle;
+  cause = at end x.cause;
+}
+  where
+    at : (end : Served) → HasConnCause r1 r2 w1 w2 s1 s1 end → HasConnCause r0 r2 w0 w2 s0 s1 end
+    at answer.ReadFault h = rose_later r0 r1 r2 rle h
+    at answer.WriteFault h = rose_later w0 w1 w2 wle h
+    at answer.Stopped h = rose_later s0 s1 s1 sle h
+    at answer.ClockFault h = absurd h
+    at answer.Exit h = tt
+    at answer.Die h = tt
+    at answer.OutOfMemory h = tt
+    at answer.End h = tt
+    at answer.Closed h = tt
+    at answer.SessionFull h = tt
+
+-- ---- pieces
+
+pub piece_moved : (taken taken' left left' held held' : Option (List ℕ)) (waiting : List ℕ) (old new : PieceTaken) (r : Result (Unit {0}) Served) → Gives held held' waiting [] → TakesNext taken taken' left left' old r new → PieceMoves taken taken' left left' held held' waiting old r new
+piece_moved taken taken' left left' held held' waiting old new (Ok x) g t = (g, t)
+piece_moved taken taken' left left' held held' waiting old new (Err answer.WriteFault) g t = absurd t.next
+piece_moved taken taken' left left' held held' waiting old new (Err answer.End) g t = (g, t)
+piece_moved taken taken' left left' held held' waiting old new (Err answer.ReadFault) g t = (g, t)
+piece_moved taken taken' left left' held held' waiting old new (Err answer.SessionFull) g t = (g, t)
+piece_moved taken taken' left left' held held' waiting old new (Err answer.Stopped) g t = (g, t)
+piece_moved taken taken' left left' held held' waiting old new (Err answer.Exit) g t = (g, t)
+piece_moved taken taken' left left' held held' waiting old new (Err answer.Die) g t = (g, t)
+piece_moved taken taken' left left' held held' waiting old new (Err answer.Closed) g t = (g, t)
+piece_moved taken taken' left left' held held' waiting old new (Err answer.ClockFault) g t = (g, t)
+piece_moved taken taken' left left' held held' waiting old new (Err answer.OutOfMemory) g t = (g, t)
+
+-- what waited was given, and a piece was taken
+pub talk_piece : (c : Config) (from : Start) (taken left taken' left' : Option (List ℕ)) (now : Stand) (held' : Option (List ℕ)) (input new : PieceTaken) (come : List ℕ → List ConnRequest)
+    → Talks c from (record { taken = taken; left = left; size = input.taken }) now come → PieceMoves taken taken' left left' now.held held' now.waiting input (Ok tt) new
+    → Talks c from (record { taken = taken'; left = left'; size = new.taken }) (record { seen = now.seen; held = held'; queue = now.queue; waiting = []; counts = now.counts }) (λ more. come (new.piece ++ more))
+talk_piece c from taken left taken' left' now held' input new come k (g, t) =
+    subst (λ (piece : List ℕ). Talks c from (record { taken = taken'; left = left'; size = new.taken }) (record { seen = now.seen; held = held'; queue = now.queue; waiting = []; counts = now.counts }) (λ more. come (piece ++ more))) (sym t.next.0)
+    (talk_took c from (record { taken = taken; left = left; size = input.taken }) taken' left' new.taken _ come t.more (talk_gave c from _ now held' come k g) t.takes t.leaves t.count)
+
+-- what waited was given, and no piece was taken
+quiet_end : (c : Config) (from : Start) (taken left taken' left' : Option (List ℕ)) (now : Stand) (held' : Option (List ℕ)) (input new : PieceTaken) (r : Result (Unit {0}) Served) (come : List ℕ → List ConnRequest)
+    → Talks c from (record { taken = taken; left = left; size = input.taken }) now come → come [] ≡ [] → Gives now.held held' now.waiting [] → (t : TakesNext taken taken' left left' input r new) → t.more ≡ []
+    → Quiet c from (record { taken = taken'; left = left'; size = input.taken }) (record { seen = now.seen; held = held'; queue = now.queue; waiting = []; counts = now.counts })
+quiet_end c from taken left taken' left' now held' input new r come k none g t nothing =
+    let grows : input.taken ≡ input.taken + length t.more = sym (ap (λ (m : List ℕ). input.taken + length m) nothing ∙ add-zero input.taken) in
+    talk_quiet c from (record { taken = taken'; left = left'; size = input.taken }) (record { seen = now.seen; held = held'; queue = now.queue; waiting = []; counts = now.counts }) (λ more. come (t.more ++ more))
+    (talk_took c from (record { taken = taken; left = left; size = input.taken }) taken' left' input.taken _ come t.more (talk_gave c from _ now held' come k g) t.takes t.leaves grows)
+    refl (ap (λ (m : List ℕ). come (m ++ [])) nothing ∙ none)
+
+pub talk_no_piece : (c : Config) (from : Start) (taken left taken' left' : Option (List ℕ)) (now : Stand) (held' : Option (List ℕ)) (input new : PieceTaken) (end : Served) (come : List ℕ → List ConnRequest)
+    → input.taken ≤ 2 ^ 40 → Talks c from (record { taken = taken; left = left; size = input.taken }) now come → come [] ≡ [] → PieceMoves taken taken' left left' now.held held' now.waiting input (Err end) new
+    → Ends c from taken' left' end now.seen held' now.queue
+talk_no_piece c from taken left taken' left' now held' input new answer.WriteFault come le k none (g, same, also) =
+    subst (λ (l : Option (List ℕ)). Ends c from taken' l answer.WriteFault now.seen held' now.queue) (sym also)
+    (subst (λ (x : Option (List ℕ)). Ends c from x left answer.WriteFault now.seen held' now.queue) (sym same) (talk_failed c from (record { taken = taken; left = left; size = input.taken }) now held' come le k g))
+talk_no_piece c from taken left taken' left' now held' input new answer.End come le k none (g, t) = (quiet_end c from taken left taken' left' now held' input new (Err answer.End) come k none g t t.next.0).end t.next.1
+talk_no_piece c from taken left taken' left' now held' input new answer.ReadFault come le k none (g, t) = (quiet_end c from taken left taken' left' now held' input new (Err answer.ReadFault) come k none g t t.next.0).failed t.next.1
+talk_no_piece c from taken left taken' left' now held' input new answer.SessionFull come le k none (g, t) = (quiet_end c from taken left taken' left' now held' input new (Err answer.SessionFull) come k none g t t.next.0).full t.next.1
+talk_no_piece c from taken left taken' left' now held' input new answer.Stopped come le k none (g, t) = absurd t.next
+talk_no_piece c from taken left taken' left' now held' input new answer.Exit come le k none (g, t) = absurd t.next
+talk_no_piece c from taken left taken' left' now held' input new answer.Die come le k none (g, t) = absurd t.next
+talk_no_piece c from taken left taken' left' now held' input new answer.Closed come le k none (g, t) = absurd t.next
+talk_no_piece c from taken left taken' left' now held' input new answer.ClockFault come le k none (g, t) = absurd t.next
+talk_no_piece c from taken left taken' left' now held' input new answer.OutOfMemory come le k none (g, t) = absurd t.next
+
+-- ---- telnet requests that are to come
+
+pub next_of : (old new : Unread) (request : Request) → sessions.Gives old request new → IsNext (Telnet request) (telnet_to_come old) (telnet_to_come new)
+next_of old new request g = record { next = λ more. ap (map Telnet) (g.next more); last = λ closes more. ap (map Telnet) (g.last closes more) }
+
+pub same_come : (old new : Unread) → sessions.ComesAs old new → (more : List ℕ) → telnet_to_come new more ≡ telnet_to_come old more
+same_come old new same more = ap (map Telnet) (same more)
+
+pub none_come : (old new : Unread) → sessions.Waits old new → telnet_to_come new [] ≡ []
+none_come old new w = ap (map Telnet) (w.same [] ∙ w.none)
+
+pub fed_come : (old new : Unread) (piece fed : List ℕ) → piece ≡ fed → ((more : List ℕ) → sessions.to_come new more ≡ sessions.to_come old (piece ++ more)) → (more : List ℕ) → telnet_to_come new more ≡ telnet_to_come old (fed ++ more)
+fed_come old new piece fed is same more = ap (map Telnet) (same more ∙ ap (λ (p : List ℕ). sessions.to_come old (p ++ more)) is)

@@ -1,0 +1,109 @@
+-- A whole connection, from its first piece to its end.
+use Rattle.std.proofs.Common.{◌≡◌, ℕ, ◌^◌, ◌≤◌, ◌<◌, Bool, true, false, List, [], ◌∷◌, ◌++◌, map, length, refl, sym, ap, subst, arith}
+use Rattle.std.specs.Prelude.{Option, Some, Ok, Err, if◌then◌else◌}
+use Rattle.cell_model.specs.declared.answers.Stored.{Stored}
+use Rattle.cell_model.specs.Seen.{Seen}
+use Rattle.telnet_put.specs.Requests.{requests_of}
+use Rattle.point_put.specs.declared.config.Config.{Config}
+use Rattle.tsd_daemon.specs.declared.served.Served.{Served}
+use Rattle.tsd_daemon.specs.declared.served.Served.TheVariants as answer
+use Rattle.tsd_daemon.specs.declared.counts.Counts.{Counts}
+use Rattle.tsd_daemon.specs.ConnPieces.{PieceTaken, TakesNext, no_piece}
+use Rattle.tsd_daemon.specs.ConnReplies.{fixed_reply, no_counts, not_built}
+use Rattle.tsd_daemon.specs.ConnRequests.{begins_unbuilt, conn_requests}
+use Rattle.tsd_daemon.specs.ConnRequests.ConnRequest.{Telnet, Unbuilt}
+use Rattle.tsd_daemon.specs.ServedConns.{Passes, QueuesBytes, ServesBytes}
+use Rattle.tsd_daemon.specs.Talks.{ConnCauses, Ends, GivesLast, HasConnCause, HasEndCause, Stand, Start, Talks}
+use Rattle.tsd_daemon.proofs.Giving.{gave_none}
+use Rattle.tsd_daemon.proofs.Moving.{fixed_last}
+use Rattle.tsd_daemon.proofs.Pieces.{piece_moved, talk_no_piece, talk_piece}
+use Rattle.tsd_daemon.proofs.Talking.{talk_come, talk_memory, talk_start}
+
+abbrev start_of : Seen → Option (List ℕ) → Option (List ℕ) → Option (List ℕ) → List Stored → Start
+start_of seen taken left held queue = record { seen = seen; taken = taken; left = left; held = held; queue = queue }
+
+abbrev first_stand : Seen → Option (List ℕ) → List Stored → Stand
+first_stand seen held queue = record { seen = seen; held = held; queue = queue; waiting = []; counts = no_counts }
+
+-- ---- what a served connection says
+
+pub ends_served : (c : Config) (from : Start) (taken left : Option (List ℕ)) (result : Served) (seen : Seen) (held : Option (List ℕ)) (queue : List Stored) → Ends c from taken left result seen held queue
+    → Passes from.taken taken from.left left from.held held (ServesBytes c from.seen result seen)
+ends_served c from taken left result seen held queue e = record { input = e.input; output = e.output; takes = e.takes; leaves = e.leaves; gives = e.gives; so = (record { since = e.since; served = λ h l f. (e.served h l f).served }, e.fills) }
+
+pub ends_queued : (c : Config) (from : Start) (taken left : Option (List ℕ)) (result : Served) (seen : Seen) (held : Option (List ℕ)) (queue : List Stored) → Ends c from taken left result seen held queue
+    → Passes from.taken taken from.left left from.held held (QueuesBytes c from.seen from.queue result seen queue)
+ends_queued c from taken left result seen held queue e = record { input = e.input; output = e.output; takes = e.takes; leaves = e.leaves; gives = e.gives; so = e.served }
+
+-- ---- ends before a session begins
+
+pub none_taken : (c : Config) (seen : Seen) (taken left held : Option (List ℕ)) (queue : List Stored) → Ends c (start_of seen taken left held queue) taken left answer.OutOfMemory seen held queue
+none_taken c seen taken left held queue = talk_memory c (start_of seen taken left held queue) (record { taken = taken; left = left; size = 0 }) (first_stand seen held queue) conn_requests (omega arith) (talk_start c seen taken left held queue) refl
+
+started : (c : Config) (seen : Seen) (taken left held : Option (List ℕ)) (queue : List Stored) (input : PieceTaken) → input ≡ no_piece
+    → Talks c (start_of seen taken left held queue) (record { taken = taken; left = left; size = input.taken }) (first_stand seen held queue) conn_requests
+started c seen taken left held queue input none = subst (λ (i : PieceTaken). Talks c (start_of seen taken left held queue) (record { taken = taken; left = left; size = i.taken }) (first_stand seen held queue) conn_requests) (sym none) (talk_start c seen taken left held queue)
+
+least : (input : PieceTaken) → input ≡ no_piece → input.taken ≤ 2 ^ 40
+least input none = let e = ap (λ (i : PieceTaken). i.taken) none in omega (arith, e)
+
+pub no_piece_taken : (c : Config) (seen : Seen) (taken left taken' left' held : Option (List ℕ)) (queue : List Stored) (input new : PieceTaken) (end : Served) → input ≡ no_piece → TakesNext taken taken' left left' input (Err end) new
+    → Ends c (start_of seen taken left held queue) taken' left' end seen held queue
+no_piece_taken c seen taken left taken' left' held queue input new end none t =
+    talk_no_piece c (start_of seen taken left held queue) taken left taken' left' (first_stand seen held queue) held input new end conn_requests (least input none) (started c seen taken left held queue input none) refl
+    (piece_moved taken taken' left left' held held [] input new (Err end) (gave_none held []) t)
+
+-- ---- the first piece
+
+first_piece : (c : Config) (seen : Seen) (taken left taken' left' held : Option (List ℕ)) (queue : List Stored) (input new : PieceTaken) → input ≡ no_piece → TakesNext taken taken' left left' input (Ok tt) new
+    → Talks c (start_of seen taken left held queue) (record { taken = taken'; left = left'; size = new.taken }) (first_stand seen held queue) (λ more. conn_requests (new.piece ++ more))
+first_piece c seen taken left taken' left' held queue input new none t =
+    talk_piece c (start_of seen taken left held queue) taken left taken' left' (first_stand seen held queue) held input new conn_requests (started c seen taken left held queue input none) (piece_moved taken taken' left left' held held [] input new (Ok tt) (gave_none held []) t)
+
+chosen : (piece more : List ℕ) (b : Bool) → 0 < length piece → begins_unbuilt piece ≡ b → conn_requests (piece ++ more) ≡ (if b then Unbuilt ∷ [] else map Telnet (requests_of (piece ++ more)))
+chosen [] more b some e = absurd (omega (arith, some))
+chosen (byte ∷ piece) more b some e = ap (λ (t : Bool). if t then Unbuilt ∷ [] else map Telnet (requests_of ((byte ∷ piece) ++ more))) e
+
+some_bytes : (new : PieceTaken) (more : List ℕ) → (new.piece ≡ more) × (0 < length more) → 0 < length new.piece
+some_bytes new more (is, some) = subst (λ (p : List ℕ). 0 < length p) (sym is) some
+
+told_unbuilt : (counts : Counts) → not_built ≡ fixed_reply counts Unbuilt
+unfolding fixed_reply
+told_unbuilt counts = refl
+
+pub unbuilt_refused : (c : Config) (seen : Seen) (taken left taken' left' held held' : Option (List ℕ)) (queue : List Stored) (input new : PieceTaken) (result : Served) → input ≡ no_piece → TakesNext taken taken' left left' input (Ok tt) new
+    → begins_unbuilt new.piece ≡ true → GivesLast held held' not_built answer.Closed result → Ends c (start_of seen taken left held queue) taken' left' result seen held' queue
+unbuilt_refused c seen taken left taken' left' held held' queue input new result none t begins g =
+    fixed_last Unbuilt held held' [] [] no_counts no_counts not_built answer.Closed result refl (told_unbuilt no_counts) refl g c seen queue (λ more. conn_requests (new.piece ++ more)) (λ more. [])
+    (record { next = λ more. chosen new.piece more true (some_bytes new t.more t.next) begins; last = λ closes more. refl })
+    (start_of seen taken left held queue) (record { taken = taken'; left = left'; size = new.taken }) t.most (first_piece c seen taken left taken' left' held queue input new none t)
+
+pub telnet_begins : (c : Config) (seen : Seen) (taken left taken' left' held : Option (List ℕ)) (queue : List Stored) (input new : PieceTaken) → input ≡ no_piece → TakesNext taken taken' left left' input (Ok tt) new
+    → begins_unbuilt new.piece ≡ false → Talks c (start_of seen taken left held queue) (record { taken = taken'; left = left'; size = new.taken }) (first_stand seen held queue) (λ more. map Telnet (requests_of (new.piece ++ more)))
+telnet_begins c seen taken left taken' left' held queue input new none t begins =
+    talk_come c (start_of seen taken left held queue) _ _ (λ more. conn_requests (new.piece ++ more)) (λ more. map Telnet (requests_of (new.piece ++ more))) (first_piece c seen taken left taken' left' held queue input new none t)
+    (λ more. sym (chosen new.piece more false (some_bytes new t.more t.next) begins))
+
+-- ---- causes
+
+pub no_causes : (reads writes stops : ℕ) → ConnCauses reads reads writes writes stops stops answer.OutOfMemory
+no_causes reads writes stops = record { source = omega arith; sink = omega arith; rows = omega arith; cause = tt }
+
+pub reads_later : (r0 r1 r2 w w' s s' : ℕ) (end : Served) → r0 ≤ r1 → ConnCauses r1 r2 w w' s s' end → ConnCauses r0 r2 w w' s s' end
+reads_later r0 r1 r2 w w' s s' end le x = record { source = let q = x.source in omega (arith, le, q); sink = x.sink; rows = x.rows; cause = at end x.cause }
+  where
+    at : (end : Served) → HasConnCause r1 r2 w w' s s' end → HasConnCause r0 r2 w w' s s' end
+    at answer.ReadFault h = omega (arith, le, h)
+    at answer.WriteFault h = h
+    at answer.Stopped h = h
+    at answer.ClockFault h = h
+    at answer.Exit h = tt
+    at answer.Die h = tt
+    at answer.OutOfMemory h = tt
+    at answer.End h = tt
+    at answer.Closed h = tt
+    at answer.SessionFull h = tt
+
+-- a session's own ends aren't that of its source
+pub not_end : {P : Type 0} (a b s s' : ℕ) (r : Served) → HasEndCause a b s s' (Some r) → r ≡ answer.End → P
+not_end a b s s' r h e = absurd (subst (λ (x : Served). HasEndCause a b s s' (Some x)) e h)

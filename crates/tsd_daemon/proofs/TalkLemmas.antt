@@ -1,0 +1,162 @@
+-- Exchanges that were done, and one more.
+use Rattle.std.proofs.Common.{◌≡◌, ◌⊎◌, inl, inr, ℕ, ◌+◌, ◌^◌, ◌≤◌, Bool, true, false, ◌||◌, List, [], ◌∷◌, ◌++◌, length, refl, sym, ap, subst, ◌∙◌, append_assoc, append-nil, arith}
+use Rattle.std.specs.Prelude.{None, Some, Contains, filter, if◌then◌else◌}
+use Rattle.std.specs.List.{list_any}
+use Rattle.std.proofs.lemmas.List.Elements.{Contains-append_left, Contains-append_right, Contains-append_cases}
+use Rattle.list_lemmas.proofs.ListCuts.{filter_join}
+use Rattle.list_lemmas.proofs.ListParts.{length_push}
+use Rattle.list_lemmas.proofs.ListMembers.{not_in}
+use Rattle.list_lemmas.proofs.BoolTests.{not_Some, same_Some}
+use Rattle.cell_model.specs.declared.answers.Stored.{Stored}
+use Rattle.cell_model.specs.declared.events.Placed.{Placed}
+use Rattle.cell_model.specs.History.{History}
+use Rattle.point_put.specs.declared.config.Config.{Config}
+use Rattle.telnet_put.specs.Requests.Request.{Put, Version, Help, Stats, DropCaches, Exit, Die, TooLong, Other}
+use Rattle.tsd_daemon.specs.declared.counts.Counts.{Counts}
+use Rattle.tsd_daemon.specs.declared.served.Served.{Served}
+use Rattle.tsd_daemon.specs.declared.served.Served.TheVariants as answer
+use Rattle.tsd_daemon.specs.ConnRequests.{ConnRequest, closes_conn}
+use Rattle.tsd_daemon.specs.ConnRequests.ConnRequest.{Telnet, Unbuilt}
+use Rattle.tsd_daemon.specs.ConnReplies.{counts_with, one_more}
+use Rattle.tsd_daemon.specs.Exchanges.{Exchange, counted, counts_of, is_accepted, is_put, is_refused, replies_in, requests_in, rows_in}
+use Rattle.tsd_daemon.specs.ServedConns.{Closes, Fills, HasRows, MayHaveRows, QueueTable, Table, end_of}
+use Rattle.tsd_daemon.specs.Talks.{counted_if}
+
+-- ---- lists of exchanges
+
+pub replies_push : (done : List Exchange) (x : Exchange) → replies_in (done ++ x ∷ []) ≡ replies_in done ++ x.reply
+replies_push [] x = append-nil x.reply
+replies_push (y ∷ done) x = ap (λ t. y.reply ++ t) (replies_push done x) ∙ sym (append_assoc y.reply (replies_in done) x.reply)
+
+pub rows_push : (done : List Exchange) (x : Exchange) → rows_in (done ++ x ∷ []) ≡ rows_in done ++ x.stored
+rows_push [] x = append-nil x.stored
+rows_push (y ∷ done) x = ap (λ t. y.stored ++ t) (rows_push done x) ∙ sym (append_assoc y.stored (rows_in done) x.stored)
+
+pub requests_push : (done : List Exchange) (x : Exchange) → requests_in (done ++ x ∷ []) ≡ requests_in done ++ x.request ∷ []
+requests_push [] x = refl
+requests_push (y ∷ done) x = ap (λ t. y.request ∷ t) (requests_push done x)
+
+-- the requests after one more
+pub requests_next : (done : List Exchange) (x : Exchange) (all come come' : List ConnRequest) → all ≡ requests_in done ++ come → come ≡ x.request ∷ come' → all ≡ requests_in (done ++ x ∷ []) ++ come'
+requests_next done x all come come' is next =
+    is ∙ ap (λ t. requests_in done ++ t) next ∙ sym (append_assoc (requests_in done) (x.request ∷ []) come') ∙ ap (λ t. t ++ come') (sym (requests_push done x))
+
+any_push : (requests : List ConnRequest) (r : ConnRequest) → list_any closes_conn requests ≡ false → closes_conn r ≡ false → list_any closes_conn (requests ++ r ∷ []) ≡ false
+any_push [] r none last = ap (λ t. t || false) last
+any_push (x ∷ requests) r none last = at (closes_conn x) refl none (any_push requests r)
+  where
+    at : (t : Bool) → closes_conn x ≡ t → t || list_any closes_conn requests ≡ false → (list_any closes_conn requests ≡ false → closes_conn r ≡ false → list_any closes_conn (requests ++ r ∷ []) ≡ false) → closes_conn x || list_any closes_conn (requests ++ r ∷ []) ≡ false
+    at true e n go = absurd (grind (arith, n))
+    at false e n go = ap (λ t. t || list_any closes_conn (requests ++ r ∷ [])) e ∙ go n last
+
+pub open_push : (done : List Exchange) (x : Exchange) → list_any closes_conn (requests_in done) ≡ false → closes_conn x.request ≡ false → list_any closes_conn (requests_in (done ++ x ∷ [])) ≡ false
+open_push done x none last = ap (list_any closes_conn) (requests_push done x) ∙ any_push (requests_in done) x.request none last
+
+-- ---- counts
+
+count_push : (p : Exchange → Bool) (done : List Exchange) (x : Exchange) (b : Bool) → p x ≡ b → length (filter p (done ++ x ∷ [])) ≡ length (filter p done) + (if b then 1 else 0)
+count_push p done x b e = ap length (filter_join p done (x ∷ [])) ∙ at b e
+  where
+    at : (t : Bool) → p x ≡ t → length (filter p done ++ filter p (x ∷ [])) ≡ length (filter p done) + (if t then 1 else 0)
+    at true e = ap (λ (t : Bool). length (filter p done ++ (if t then x ∷ [] else []))) e ∙ length_push (filter p done) x
+    at false e = ap (λ (t : Bool). length (filter p done ++ (if t then x ∷ [] else []))) e ∙ ap length (append-nil (filter p done)) ∙ omega arith
+
+counted_more : (n m : ℕ) → m ≡ n + 1 → counted m ≡ one_more (counted n)
+counted_more n m e = omega (arith, e)
+
+counted_same : (n m : ℕ) → m ≡ n + 0 → counted m ≡ counted n
+counted_same n m e = ap counted (e ∙ omega arith)
+
+same_counts : (a b d a' b' d' : ℕ) → a ≡ a' → b ≡ b' → d ≡ d' → ◌≡◌ {A = Counts} (record { requests = a; puts = b; refused = d }) (record { requests = a'; puts = b'; refused = d' })
+same_counts a b d a' b' d' p q r = cc
+
+pub counts_push : (done : List Exchange) (x : Exchange) → counts_of (done ++ x ∷ []) ≡ counts_with (counts_of done) (counted_if (is_put x.request) x.stored)
+counts_push done x = at (is_put x.request) x.stored (count_push accepted done x) (count_push refused done x)
+  where
+    accepted : Exchange → Bool
+    accepted y = is_accepted (is_put y.request) y.stored
+
+    refused : Exchange → Bool
+    refused y = is_refused (is_put y.request) y.stored
+
+    all : counted (length (done ++ x ∷ [])) ≡ one_more (counted (length done))
+    all = counted_more (length done) (length (done ++ x ∷ [])) (length_push done x)
+
+    at : (put : Bool) (stored : List Stored) → ((b : Bool) → is_accepted put stored ≡ b → length (filter accepted (done ++ x ∷ [])) ≡ length (filter accepted done) + (if b then 1 else 0))
+        → ((b : Bool) → is_refused put stored ≡ b → length (filter refused (done ++ x ∷ [])) ≡ length (filter refused done) + (if b then 1 else 0))
+        → counts_of (done ++ x ∷ []) ≡ counts_with (counts_of done) (counted_if put stored)
+    at true (row ∷ rows) a r = same_counts _ _ _ _ _ _ all (counted_more _ _ (a true refl)) (counted_same _ _ (r false refl))
+    at true [] a r = same_counts _ _ _ _ _ _ all (counted_same _ _ (a false refl)) (counted_more _ _ (r true refl))
+    at false stored a r = same_counts _ _ _ _ _ _ all (counted_same _ _ (a false refl)) (counted_same _ _ (r false refl))
+
+-- ---- rows of the queue
+
+pub rows_none : (before : List Stored) → HasRows before [] before
+rows_none before s = (λ has. inl has, λ had. at had)
+  where
+    at : Contains before s ⊎ Contains [] s → Contains before s
+    at (inl had) = had
+    at (inr none) = absurd (not_in s none)
+
+pub rows_joined : (before mid after rows more : List Stored) → HasRows before rows mid → HasRows mid more after → HasRows before (rows ++ more) after
+rows_joined before mid after rows more one two s = (λ has. out ((two s).0 has), λ had. (two s).1 (into had))
+  where
+    out' : Contains before s ⊎ Contains rows s → Contains before s ⊎ Contains (rows ++ more) s
+    out' (inl had) = inl had
+    out' (inr row) = inr (Contains-append_left rows more s row)
+
+    out : Contains mid s ⊎ Contains more s → Contains before s ⊎ Contains (rows ++ more) s
+    out (inl had) = out' ((one s).0 had)
+    out (inr row) = inr (Contains-append_right rows more s row)
+
+    into' : Contains rows s ⊎ Contains more s → Contains mid s ⊎ Contains more s
+    into' (inl row) = inl ((one s).1 (inr row))
+    into' (inr row) = inr row
+
+    into : Contains before s ⊎ Contains (rows ++ more) s → Contains mid s ⊎ Contains more s
+    into (inl had) = inl ((one s).1 (inl had))
+    into (inr row) = into' (Contains-append_cases rows more s row)
+
+pub may_have : (before rows after : List Stored) (later : List Placed) → HasRows before rows after → MayHaveRows before rows later after
+may_have before rows after later has = record { kept = λ s had. (has s).1 had; most = λ s there. inl ((has s).0 there) }
+
+-- ---- requests that end a connection
+
+pub record ClosesSo (request : ConnRequest) (end : Served) : Type 0 where
+  pub table : (c : Config) (h : History) (done : List Exchange) (input output : List ℕ) (later : List Placed) → Closes request done input output later → Table end c h done input output later
+  pub queue : (before rows : List Stored) (later : List Placed) (after : List Stored) → HasRows before rows after → QueueTable end before rows later after
+  pub fills : (count : ℕ) → count ≤ 2 ^ 40 → Fills end count
+  pub closes : closes_conn request ≡ true
+
+exits : ClosesSo (Telnet Exit) answer.Exit
+exits = record { table = λ c h done input output later t. t; queue = λ before rows later after q. q; fills = λ count le. le; closes = refl }
+
+dies : ClosesSo (Telnet Die) answer.Die
+dies = record { table = λ c h done input output later t. t; queue = λ before rows later after q. q; fills = λ count le. le; closes = refl }
+
+pub unbuilt_closes : ClosesSo Unbuilt answer.Closed
+unbuilt_closes = record { table = λ c h done input output later t. t; queue = λ before rows later after q. q; fills = λ count le. le; closes = refl }
+
+pub closes_so : (request : ConnRequest) (end : Served) → end_of request ≡ Some end → ClosesSo request end
+closes_so (Telnet Exit) end e = subst (λ r. ClosesSo (Telnet Exit) r) (same_Some _ _ e) exits
+closes_so (Telnet Die) end e = subst (λ r. ClosesSo (Telnet Die) r) (same_Some _ _ e) dies
+closes_so Unbuilt end e = subst (λ r. ClosesSo Unbuilt r) (same_Some _ _ e) unbuilt_closes
+closes_so (Telnet (Put p)) end e = absurd (not_Some end (sym e))
+closes_so (Telnet Version) end e = absurd (not_Some end (sym e))
+closes_so (Telnet Help) end e = absurd (not_Some end (sym e))
+closes_so (Telnet Stats) end e = absurd (not_Some end (sym e))
+closes_so (Telnet DropCaches) end e = absurd (not_Some end (sym e))
+closes_so (Telnet TooLong) end e = absurd (not_Some end (sym e))
+closes_so (Telnet Other) end e = absurd (not_Some end (sym e))
+
+pub goes_on : (request : ConnRequest) → end_of request ≡ None → closes_conn request ≡ false
+goes_on (Telnet Exit) e = absurd (not_Some _ e)
+goes_on (Telnet Die) e = absurd (not_Some _ e)
+goes_on Unbuilt e = absurd (not_Some _ e)
+goes_on (Telnet (Put p)) e = refl
+goes_on (Telnet Version) e = refl
+goes_on (Telnet Help) e = refl
+goes_on (Telnet Stats) e = refl
+goes_on (Telnet DropCaches) e = refl
+goes_on (Telnet TooLong) e = refl
+goes_on (Telnet Other) e = refl

@@ -1,0 +1,30 @@
+-- How a connection's bytes are taken.
+use Rattle.std.specs.Prelude.{◌≡◌, ℕ, ◌+◌, ◌^◌, ◌<◌, ◌≤◌, List, [], length, Option, Result, Ok, Err}
+use Rattle.std.specs.Io.KnownBytes.{Appends, Consumes, IsAtEnd}
+use Rattle.tsd_daemon.specs.declared.served.Served.{Served}
+use Rattle.tsd_daemon.specs.declared.served.Served.TheVariants as answer
+
+-- the last piece that was taken, and how many bytes were taken in all
+pub record PieceTaken : Type 0 where
+  pub piece : List ℕ
+  pub taken : ℕ
+
+abbrev pub no_piece : PieceTaken
+no_piece = record { piece = []; taken = 0 }
+
+-- a piece of a byte or more, or why there is none
+abbrev pub NextPiece : Option (List ℕ) → PieceTaken → List ℕ → Result (Unit {0}) Served → PieceTaken → Type 0
+NextPiece left old more (Ok x) new = (new.piece ≡ more) × (0 < length more)
+NextPiece left old more (Err answer.End) new = (more ≡ []) × (old.taken < 2 ^ 40) × IsAtEnd left
+NextPiece left old more (Err answer.ReadFault) new = (more ≡ []) × (old.taken < 2 ^ 40)
+NextPiece left old more (Err answer.SessionFull) new = (more ≡ []) × (old.taken ≡ 2 ^ 40)
+NextPiece left old more (Err other) new = ⊥
+
+-- these further bytes were taken
+pub record TakesNext (taken taken' left left' : Option (List ℕ)) (old : PieceTaken) (result : Result (Unit {0}) Served) (new : PieceTaken) : Type 0 where
+  pub more : List ℕ
+  pub takes : Appends taken taken' more
+  pub leaves : Consumes left left' more
+  pub count : new.taken ≡ old.taken + length more
+  pub most : new.taken ≤ 2 ^ 40
+  pub next : NextPiece left' old more result new

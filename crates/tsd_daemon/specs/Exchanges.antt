@@ -1,0 +1,85 @@
+-- What a request is answered, by the entries that its caller makes for it.
+use Rattle.std.specs.Prelude.{◌≡◌, ℕ, ◌-◌, ◌^◌, ◌≤◌, min, Bool, true, false, List, [], ◌∷◌, ◌++◌, length, map, filter, Option, None, Some, Result}
+use Rattle.std.specs.List.{flat_map}
+use Rattle.tsd_base.specs.Points.{DataPoint}
+use Rattle.cell_model.specs.declared.answers.Stored.{Stored}
+use Rattle.cell_model.specs.declared.events.Placed.{Placed}
+use Rattle.cell_model.specs.History.{History, first}
+use Rattle.cell_model.specs.Deeds.{deeds}
+use Rattle.point_put.specs.declared.config.Config.{Config}
+use Rattle.point_put.specs.declared.fault.PutFault.{PutFault}
+use Rattle.point_put.specs.PutPoint.{PointAsked}
+use Rattle.telnet_put.specs.Requests.Request.{Put}
+use Rattle.tsd_daemon.specs.declared.counts.Counts.{Counts}
+use Rattle.tsd_daemon.specs.ConnRequests.{ConnRequest, point_in}
+use Rattle.tsd_daemon.specs.ConnRequests.ConnRequest.{Telnet}
+use Rattle.tsd_daemon.specs.ConnReplies.{IsTold, fixed_reply}
+
+-- a request, the bytes of its reply, and the rows of the points that were accepted for it, in their order
+pub record Exchange : Type 0 where
+  pub request : ConnRequest
+  pub reply : List ℕ
+  pub stored : List Stored
+
+abbrev pub requests_in : List Exchange → List ConnRequest
+requests_in done = map (λ (x : Exchange). x.request) done
+
+abbrev pub replies_in : List Exchange → List ℕ
+replies_in done = flat_map (λ (x : Exchange). x.reply) done
+
+abbrev pub rows_in : List Exchange → List Stored
+rows_in done = flat_map (λ (x : Exchange). x.stored) done
+
+-- a put of a telnet session, also one whose words are no point
+abbrev pub is_put : ConnRequest → Bool
+is_put (Telnet (Put point)) = true
+is_put _ = false
+
+-- of a put: some row was stored, or none
+abbrev pub is_accepted : Bool → List Stored → Bool
+is_accepted true (row ∷ rows) = true
+is_accepted true [] = false
+is_accepted false rows = false
+
+abbrev pub is_refused : Bool → List Stored → Bool
+is_refused true (row ∷ rows) = false
+is_refused true [] = true
+is_refused false rows = false
+
+-- a number that stands still at the last u64
+abbrev pub counted : ℕ → ℕ
+counted number = min number (2 ^ 64 - 1)
+
+-- how many requests there were, how many puts were accepted, and how many were refused
+abbrev pub counts_of : List Exchange → Counts
+counts_of done = record {
+  requests = counted (length done);
+  puts = counted (length (filter (λ (x : Exchange). is_accepted (is_put x.request) x.stored) done));
+  refused = counted (length (filter (λ (x : Exchange). is_refused (is_put x.request) x.stored) done));
+}
+
+-- A request was answered by these entries of its caller, where the history is as long as the caller has seen it at its end, and the counts are
+-- those of the requests before it. A point is asked, and what is told of it is the reply. Any other request makes no entry.
+abbrev pub AnsweredBy : Config → History → List Placed → Counts → ConnRequest → Option DataPoint → List ℕ → List Stored → Type 0
+AnsweredBy c h own counts request (Some point) reply stored = (outcome : Result Stored PutFault) × PointAsked c point h own outcome × IsTold outcome reply stored
+AnsweredBy c h own counts request None reply stored = (own ≡ []) × (reply ≡ fixed_reply counts request) × (stored ≡ [])
+
+abbrev pub Answered : Config → History → List Placed → Counts → Exchange → Type 0
+Answered c h own counts x = AnsweredBy c h own counts x.request (point_in x.request) x.reply x.stored
+
+-- a request was begun: a point was asked, whatever came of it
+abbrev pub BegunBy : Config → History → List Placed → Option DataPoint → Type 0
+BegunBy c h own (Some point) = (outcome : Result Stored PutFault) × PointAsked c point h own outcome
+BegunBy c h own None = own ≡ []
+
+abbrev pub Begun : Config → History → List Placed → ConnRequest → Type 0
+Begun c h own request = BegunBy c h own (point_in request)
+
+-- a request was asked between two lengths of the history, behind these exchanges
+abbrev pub Asked : Config → History → ℕ → ℕ → List Exchange → Exchange → ℕ → Type 0
+Asked c h caller n earlier x n2 = Answered c (first n2 h) (deeds h caller n n2) (counts_of earlier) x
+
+-- requests were asked one after the other, from one length on to another
+pub data Ran (c : Config) (h : History) (caller n : ℕ) : List Exchange → ℕ → Type 0 where
+  start : Ran c h caller n [] n
+  then_asked : {done : List Exchange} {e e2 : ℕ} (x : Exchange) → Ran c h caller n done e → e ≤ e2 → Asked c h caller e done x e2 → Ran c h caller n (done ++ x ∷ []) e2

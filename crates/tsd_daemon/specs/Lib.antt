@@ -1,0 +1,7 @@
+pub mod ConnRequests
+pub mod ConnReplies
+pub mod Exchanges
+pub mod ServedConns
+pub mod ConnPieces
+pub mod Talks
+pub mod PointAnswers

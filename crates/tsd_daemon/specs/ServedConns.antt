@@ -1,0 +1,155 @@
+-- What a connection was served, over a history.
+use Rattle.std.specs.Prelude.{◌≡◌, ◌⊎◌, ◌↔◌, ℕ, ◌^◌, ◌<◌, ◌≤◌, false, List, [], ◌∷◌, ◌++◌, length, Contains, Option, None, Some}
+use Rattle.std.specs.List.{list_any}
+use Rattle.std.specs.Io.KnownBytes.{Appends, Consumes}
+use Rattle.tsd_base.specs.Points.{DataPoint}
+use Rattle.telnet_put.specs.Requests.Request.{Exit, Die}
+use Rattle.cell_model.specs.declared.answers.Stored.{Stored}
+use Rattle.cell_model.specs.declared.events.Placed.{Placed}
+use Rattle.cell_model.specs.declared.events.Step.TheVariants.{PutPoint}
+use Rattle.cell_model.specs.History.{History, first}
+use Rattle.cell_model.specs.Layout.{base_time}
+use Rattle.cell_model.specs.Seen.{Seen, InEach}
+use Rattle.cell_model.specs.Deeds.{deeds, Extends, Since}
+use Rattle.point_put.specs.declared.config.Config.{Config}
+use Rattle.tsd_daemon.specs.declared.served.Served.{Served}
+use Rattle.tsd_daemon.specs.declared.served.Served.TheVariants as answer
+use Rattle.tsd_daemon.specs.ConnRequests.{ConnRequest, closes_conn, conn_requests}
+use Rattle.tsd_daemon.specs.ConnRequests.ConnRequest.{Telnet, Unbuilt}
+use Rattle.tsd_daemon.specs.Exchanges.{Exchange, requests_in, replies_in, rows_in, Begun, Ran}
+
+-- ---- the table of answers
+
+-- each request of the input was answered, all replies were given, and the caller made no later entry
+pub record AllAnswered (done : List Exchange) (input output : List ℕ) (later : List Placed) : Type 0 where
+  pub requests : conn_requests input ≡ requests_in done
+  pub replies : output ≡ replies_in done
+  pub no_later : later ≡ []
+
+-- the same, and no request closes
+pub record Rests (done : List Exchange) (input output : List ℕ) (later : List Placed) : Type 0 where
+  pub all : AllAnswered done input output later
+  pub open_still : list_any closes_conn (requests_in done) ≡ false
+
+-- the same, and the last request is this one
+pub record Closes (last : ConnRequest) (done : List Exchange) (input output : List ℕ) (later : List Placed) : Type 0 where
+  pub all : AllAnswered done input output later
+  pub before : List ConnRequest
+  pub ends : requests_in done ≡ before ++ last ∷ []
+
+-- the later entries are of the first of these requests
+abbrev pub FirstBegun : Config → History → List Placed → List ConnRequest → Type 0
+FirstBegun c h later [] = later ≡ []
+FirstBegun c h later (request ∷ rest) = Begun c h later request
+
+-- the first requests of the input were answered, their replies were given, and later entries are of the next
+pub record BreaksOff (c : Config) (h : History) (done : List Exchange) (input output : List ℕ) (later : List Placed) : Type 0 where
+  pub rest : List ConnRequest
+  pub requests : conn_requests input ≡ requests_in done ++ rest
+  pub replies : output ≡ replies_in done
+  pub begun : FirstBegun c h later rest
+
+-- the first requests were answered, a front of their replies was given, and the caller made no later entry
+pub record GivesFront (done : List Exchange) (input output : List ℕ) (later : List Placed) : Type 0 where
+  pub rest : List ConnRequest
+  pub requests : conn_requests input ≡ requests_in done ++ rest
+  pub unsent : List ℕ
+  pub replies : output ++ unsent ≡ replies_in done
+  pub no_later : later ≡ []
+
+abbrev pub Table : Served → Config → History → List Exchange → List ℕ → List ℕ → List Placed → Type 0
+Table answer.End c h = Rests
+Table answer.ReadFault c h = Rests
+Table answer.SessionFull c h = Rests
+Table answer.Exit c h = Closes (Telnet Exit)
+Table answer.Die c h = Closes (Telnet Die)
+Table answer.Closed c h = Closes Unbuilt
+Table answer.ClockFault c h = BreaksOff c h
+Table answer.Stopped c h = BreaksOff c h
+Table answer.OutOfMemory c h = BreaksOff c h
+Table answer.WriteFault c h = GivesFront
+
+-- with which answer a request ends the connection, if it does
+abbrev pub end_of : ConnRequest → Option Served
+end_of (Telnet Exit) = Some answer.Exit
+end_of (Telnet Die) = Some answer.Die
+end_of (Telnet _) = None
+end_of Unbuilt = Some answer.Closed
+
+-- ---- over a history
+
+-- One caller of the history served a connection between the lengths n and n2: these bytes were taken and these given, and the answer was this.
+pub record IsServed (c : Config) (h : History) (caller n n2 : ℕ) (input output : List ℕ) (result : Served) : Type 0 where
+  pub done : List Exchange
+  pub last : ℕ
+  pub in_range : last ≤ n2
+  pub ran : Ran c h caller n done last
+  pub table : Table result c (first n2 h) done input output (deeds h caller last n2)
+
+-- the same in each lawful history that fits what the caller has seen after it
+pub record Serves (c : Config) (old : Seen) (input output : List ℕ) (result : Served) (new : Seen) : Type 0 where
+  pub since : Since old new
+  pub served : InEach new (λ h. IsServed c h old.caller old.length new.length input output result)
+
+-- so it stays in each lawful history that fits what is seen later, by another caller too
+abbrev pub ServesStands : Type 0
+ServesStands = (c : Config) (old new later : Seen) (input output : List ℕ) (result : Served) → Serves c old input output result new → Extends new later
+    → InEach later (λ h. IsServed c h old.caller old.length new.length input output result)
+
+-- 2^40 bytes fill a session, and fewer do none
+abbrev pub Fills : Served → ℕ → Type 0
+Fills answer.SessionFull count = count ≡ 2 ^ 40
+Fills answer.End count = count < 2 ^ 40
+Fills answer.ReadFault count = count < 2 ^ 40
+Fills result count = count ≤ 2 ^ 40
+
+-- ---- the queue
+
+-- it holds what it held, and these rows
+abbrev pub HasRows : List Stored → List Stored → List Stored → Type 0
+HasRows before rows after = (s : Stored) → Contains after s ↔ (Contains before s ⊎ Contains rows s)
+
+-- the row of a put among these entries
+pub record IsPutRow (own : List Placed) (s : Stored) : Type 0 where
+  pub entry : Placed
+  pub among : Contains own entry
+  pub point : DataPoint
+  pub qual : List ℕ
+  pub value : List ℕ
+  pub step : entry.entry.step ≡ PutPoint point s.row qual value
+  pub base : s.base ≡ base_time point.time
+
+-- it holds what it held, these rows, and perhaps rows that later entries put
+pub record MayHaveRows (before rows : List Stored) (later : List Placed) (after : List Stored) : Type 0 where
+  pub kept : (s : Stored) → Contains before s ⊎ Contains rows s → Contains after s
+  pub most : (s : Stored) → Contains after s → (Contains before s ⊎ Contains rows s) ⊎ IsPutRow later s
+
+abbrev pub QueueTable : Served → List Stored → List Stored → List Placed → List Stored → Type 0
+QueueTable answer.Stopped before rows later after = MayHaveRows before rows later after
+QueueTable answer.OutOfMemory before rows later after = MayHaveRows before rows later after
+QueueTable result before rows later after = HasRows before rows after
+
+-- the connection was served so, and the queue has the rows of the points that were accepted for the requests that were answered
+pub record IsQueued (c : Config) (h : History) (caller n n2 : ℕ) (input output : List ℕ) (result : Served) (before after : List Stored) : Type 0 where
+  pub served : IsServed c h caller n n2 input output result
+  pub queued : QueueTable result before (rows_in served.done) (deeds h caller served.last n2) after
+
+abbrev pub Queues : Config → Seen → List Stored → List ℕ → List ℕ → Served → Seen → List Stored → Type 0
+Queues c old before input output result new after = InEach new (λ h. IsQueued c h old.caller old.length new.length input output result before after)
+
+-- ---- the bytes of a call
+
+-- these bytes were taken and these given, and so it is of them
+pub record Passes (taken taken' left left' held held' : Option (List ℕ)) (P : List ℕ → List ℕ → Type 0) : Type 0 where
+  pub input : List ℕ
+  pub output : List ℕ
+  pub takes : Appends taken taken' input
+  pub leaves : Consumes left left' input
+  pub gives : Appends held held' output
+  pub so : P input output
+
+abbrev pub ServesBytes : Config → Seen → Served → Seen → List ℕ → List ℕ → Type 0
+ServesBytes c old result new input output = Serves c old input output result new × Fills result (length input)
+
+abbrev pub QueuesBytes : Config → Seen → List Stored → Served → Seen → List Stored → List ℕ → List ℕ → Type 0
+QueuesBytes c old before result new after input output = Queues c old before input output result new after

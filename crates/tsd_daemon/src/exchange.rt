@@ -1,0 +1,222 @@
+//! Working one request of a telnet session.
+ghost use Rattle.std.specs.Prelude.{◌≡◌, ℕ, List, [], ◌++◌, None, Some, Ok, MatchOption};
+ghost use Rattle.tsd_base.specs.Points.{data_point};
+ghost use Rattle.telnet_put.specs.Requests.Request.{Put};
+ghost use Rattle.telnet_put.specs.TelnetCommands.{request_of};
+ghost use Rattle.tsd_daemon.specs.ConnRequests.{ConnRequest, point_asked};
+ghost use Rattle.tsd_daemon.specs.ConnRequests.ConnRequest.{Telnet};
+ghost use Rattle.tsd_daemon.specs.ServedConns.{end_of};
+ghost use Rattle.tsd_daemon.specs.ConnReplies.{counts_with};
+ghost use Rattle.tsd_daemon.specs.Talks.{Causes, FixedMoves, GivesLast, GivesReply, HasEndCause, IsNext, Moves, counted_as};
+
+use crate::counts::Counted;
+use crate::point_answer::answer_point;
+use crate::reply_buffer::ReplyBuffer;
+use crate::served::Served;
+use crate::session::Session;
+use crate::telnet_reply::fixed_reply;
+use cell_model::answers::RowsFault;
+use cell_model::rows::Rows;
+use compactor::queue::Queue;
+use point_put::Config;
+use std::alloc::Global;
+use telnet_put::telnet_command::Command;
+use tsd_base::points::Point;
+use tsd_io::ports::Sink;
+use uid_table::uids::Uids;
+
+/// Works one request, and lets go of it. The session may end with it.
+pub fn exchange<R: Rows + Drop, K: Sink>(
+    alloc: Global,
+    names: &mut Uids<R>,
+    config: &Config,
+    queue: &mut Queue,
+    sink: &mut K,
+    session: &mut Session,
+    command: Command,
+) -> Option<Served>
+    ensures moves { (come come' : List ℕ → List ConnRequest) → IsNext (Telnet (request_of command)) come come'
+        → Moves config.now (record { seen = R.seen names.old; held = K.held sink.old; queue = queue.old; waiting = session.old.replies; counts = session.old.counts }) come
+        (record { seen = R.seen names.new; held = K.held sink.new; queue = queue.new; waiting = session.new.replies; counts = session.new.counts }) come' result }
+    ensures causes { Causes (K.faults sink.old) (K.faults sink.new) (R.stops names.old) (R.stops names.new) result }
+    ensures number { K.number sink.new ≡ K.number sink.old }
+{
+    work(alloc, names, config, queue, sink, session, &command)
+}
+
+/// Works one request. The session may end with it.
+fn work<R: Rows + Drop, K: Sink>(
+    alloc: Global,
+    names: &mut Uids<R>,
+    config: &Config,
+    queue: &mut Queue,
+    sink: &mut K,
+    session: &mut Session,
+    command: &Command,
+) -> Option<Served>
+    ensures moves { (come come' : List ℕ → List ConnRequest) → IsNext (Telnet (request_of command.now)) come come'
+        → Moves config.now (record { seen = R.seen names.old; held = K.held sink.old; queue = queue.old; waiting = session.old.replies; counts = session.old.counts }) come
+        (record { seen = R.seen names.new; held = K.held sink.new; queue = queue.new; waiting = session.new.replies; counts = session.new.counts }) come' result }
+    ensures causes { Causes (K.faults sink.old) (K.faults sink.new) (R.stops names.old) (R.stops names.new) result }
+    ensures number { K.number sink.new ≡ K.number sink.old }
+{
+    if let Some(point) = point_of(command) {
+        return work_point(alloc, names, config, queue, sink, session, point);
+    }
+    forget(names, command);
+    work_fixed(alloc, sink, session, command)
+}
+
+/// Forgets the kept pairs of names and ids, where that is asked.
+fn forget<R: Rows + Drop>(names: &mut Uids<R>, command: &Command)
+    ensures { names.new ≡ names.old }
+{
+    if let Command::DropCaches = command {
+        names.drop_cache();
+    }
+}
+
+/// The point that a request asks to be put.
+fn point_of(command: &Command) -> Option<&Point>
+    ensures { MatchOption result (point_asked (request_of command.now) ≡ None) (λ point. request_of command.now ≡ Put (Ok (data_point point.now))) }
+{
+    match command {
+        Command::Put { result: Ok(point) } => Some(point),
+        _ => None,
+    }
+}
+
+/// Works the put of a point. Replies that wait are given before it, since it may make a step.
+fn work_point<R: Rows + Drop, K: Sink>(
+    alloc: Global,
+    names: &mut Uids<R>,
+    config: &Config,
+    queue: &mut Queue,
+    sink: &mut K,
+    session: &mut Session,
+    point: &Point,
+) -> Option<Served>
+    ensures moves { (come come' : List ℕ → List ConnRequest) → IsNext (Telnet (Put (Ok (data_point point.now)))) come come'
+        → Moves config.now (record { seen = R.seen names.old; held = K.held sink.old; queue = queue.old; waiting = session.old.replies; counts = session.old.counts }) come
+        (record { seen = R.seen names.new; held = K.held sink.new; queue = queue.new; waiting = session.new.replies; counts = session.new.counts }) come' result }
+    ensures causes { Causes (K.faults sink.old) (K.faults sink.new) (R.stops names.old) (R.stops names.new) result }
+    ensures number { K.number sink.new ≡ K.number sink.old }
+{
+    match session.replies.give(sink) {
+        Ok(()) => put_in_turn(alloc, names, config, queue, sink, session, point),
+        Err(_) => Some(Served::WriteFault),
+    }
+}
+
+/// Works the put of a point, where no reply waits.
+fn put_in_turn<R: Rows + Drop, K: Sink>(
+    alloc: Global,
+    names: &mut Uids<R>,
+    config: &Config,
+    queue: &mut Queue,
+    sink: &mut K,
+    session: &mut Session,
+    point: &Point,
+) -> Option<Served>
+    requires { session.old.replies ≡ [] }
+    ensures moves { (come come' : List ℕ → List ConnRequest) → IsNext (Telnet (Put (Ok (data_point point.now)))) come come'
+        → Moves config.now (record { seen = R.seen names.old; held = K.held sink.old; queue = queue.old; waiting = session.old.replies; counts = session.old.counts }) come
+        (record { seen = R.seen names.new; held = K.held sink.new; queue = queue.new; waiting = session.new.replies; counts = session.new.counts }) come' result }
+    ensures causes { Causes (K.faults sink.old) (K.faults sink.new) (R.stops names.old) (R.stops names.new) result }
+    ensures number { K.number sink.new ≡ K.number sink.old }
+{
+    let answer = match answer_point(alloc, names, config, queue, point) {
+        Ok(answer) => answer,
+        Err(RowsFault::OutOfMemory) => return Some(Served::OutOfMemory),
+        Err(RowsFault::Stopped) => return Some(Served::Stopped),
+    };
+    match session.tell(sink, answer.reply.as_slice(), answer.counted) {
+        Ok(()) => None,
+        Err(_) => Some(Served::WriteFault),
+    }
+}
+
+/// Works a request that asks for no step.
+fn work_fixed<K: Sink>(
+    alloc: Global,
+    sink: &mut K,
+    session: &mut Session,
+    command: &Command,
+) -> Option<Served>
+    requires { point_asked (request_of command.now) ≡ None }
+    ensures moves { FixedMoves (Telnet (request_of command.now)) (K.held sink.old) session.old.replies session.old.counts result (K.held sink.new) session.new.replies session.new.counts }
+    ensures causes { (stops : ℕ) → Causes (K.faults sink.old) (K.faults sink.new) stops stops result }
+    ensures number { K.number sink.new ≡ K.number sink.old }
+{
+    let Ok(reply) = fixed_reply(alloc, &session.counts, command) else {
+        return Some(break_off(sink, &mut session.replies));
+    };
+    match end_of(command) {
+        Some(end) => Some(tell_last(sink, &mut session.replies, reply.as_slice(), end)),
+        None => tell_fixed(sink, session, command, reply.as_slice()),
+    }
+}
+
+/// Tells the reply to a request that asks for no step and doesn't close.
+fn tell_fixed<K: Sink>(
+    sink: &mut K,
+    session: &mut Session,
+    command: &Command,
+    reply: &[u8],
+) -> Option<Served>
+    ensures some { GivesReply (K.held sink.old) (K.held sink.new) (session.old.replies ++ reply.now) session.new.replies result }
+    ensures counts { session.new.counts ≡ counts_with session.old.counts (counted_as (Telnet (request_of command.now)) []) }
+    ensures causes { (stops : ℕ) → Causes (K.faults sink.old) (K.faults sink.new) stops stops result }
+    ensures number { K.number sink.new ≡ K.number sink.old }
+{
+    match session.tell(sink, reply, counted_as(command)) {
+        Ok(()) => None,
+        Err(_) => Some(Served::WriteFault),
+    }
+}
+
+/// Tells the last reply, and how the serving ends.
+fn tell_last<K: Sink>(sink: &mut K, replies: &mut ReplyBuffer, reply: &[u8], end: Served) -> Served
+    requires { HasEndCause 0 0 0 0 (Some end) }
+    ensures gives { GivesLast (K.held sink.old) (K.held sink.new) (replies.old ++ reply.now) end result }
+    ensures causes { (stops : ℕ) → Causes (K.faults sink.old) (K.faults sink.new) stops stops (Some result) }
+    ensures number { K.number sink.new ≡ K.number sink.old }
+{
+    match replies.add_last(sink, reply) {
+        Ok(()) => end,
+        Err(_) => Served::WriteFault,
+    }
+}
+
+/// Gives the replies that wait, where there is no memory for more.
+pub fn break_off<K: Sink>(sink: &mut K, replies: &mut ReplyBuffer) -> Served
+    ensures gives { GivesLast (K.held sink.old) (K.held sink.new) replies.old Served.OutOfMemory result }
+    ensures causes { (stops : ℕ) → Causes (K.faults sink.old) (K.faults sink.new) stops stops (Some result) }
+    ensures number { K.number sink.new ≡ K.number sink.old }
+{
+    match replies.give(sink) {
+        Ok(()) => Served::OutOfMemory,
+        Err(_) => Served::WriteFault,
+    }
+}
+
+/// How a session ends with a request, if it does.
+fn end_of(command: &Command) -> Option<Served>
+    ensures { result ≡ end_of (Telnet (request_of command.now)) }
+{
+    match command {
+        Command::Exit => Some(Served::Exit),
+        Command::Die => Some(Served::Die),
+        _ => None,
+    }
+}
+
+/// How a request that stored nothing counts.
+fn counted_as(command: &Command) -> Counted
+    ensures { result ≡ counted_as (Telnet (request_of command.now)) [] }
+{
+    match command {
+        Command::Put { .. } => Counted::Refused,
+        _ => Counted::Other,
+    }
+}

@@ -1,0 +1,102 @@
+//! A telnet session, from its bytes to its replies.
+ghost use Rattle.std.specs.Prelude.{◌≡◌, ℕ, ◌^◌, ◌<◌, ◌≤◌, [], length, None, Err, IfErr, OnOk};
+ghost use Rattle.std.specs.Io.KnownBytes.{IsAtEnd};
+ghost use Rattle.tsd_daemon.specs.Talks.{Causes, ConnCauses, Moves, PieceMoves, TelnetServed, telnet_to_come};
+
+use crate::conn_input::ConnInput;
+use crate::exchange::{break_off, exchange};
+use crate::reply_buffer::ReplyBuffer;
+use crate::served::Served;
+use crate::session::Session;
+use cell_model::rows::Rows;
+use compactor::queue::Queue;
+use point_put::Config;
+use std::alloc::Global;
+use telnet_put::telnet_lines::Lines;
+use tsd_io::ports::{Sink, Source};
+use uid_table::uids::Uids;
+
+/// Serves a session whose first piece was taken, and isn't empty.
+pub fn serve_telnet<R: Rows + Drop, S: Source, K: Sink>(
+    alloc: Global,
+    names: &mut Uids<R>,
+    config: &Config,
+    queue: &mut Queue,
+    source: &mut S,
+    sink: &mut K,
+    input: &mut ConnInput,
+) -> Served
+    requires { input.old.taken ≤ 2 ^ 40 }
+    ensures served { TelnetServed config.now (R.seen names.old) (K.held sink.old) queue.old input.old (S.taken source.old) (S.left source.old)
+        result (R.seen names.new) (K.held sink.new) queue.new (S.taken source.new) (S.left source.new) }
+    ensures end { result ≡ Served.End → IsAtEnd (S.left source.new) }
+    ensures causes { ConnCauses (S.faults source.old) (S.faults source.new) (K.faults sink.old) (K.faults sink.new) (R.stops names.old) (R.stops names.new) result }
+    ensures source { S.number source.new ≡ S.number source.old }
+    ensures sink { K.number sink.new ≡ K.number sink.old }
+{
+    let mut lines = Lines::make(alloc);
+    let mut session = Session::make(alloc);
+    loop {
+        match lines.feed(input.piece()) {
+            Ok(()) => {}
+            Err(_) => return Served::OutOfMemory,
+        }
+        if let Some(end) = answer_all(alloc, names, config, queue, sink, &mut session, &mut lines) {
+            return end;
+        }
+        match next_piece(source, sink, &mut session.replies, input) {
+            Ok(()) => {}
+            Err(end) => return end,
+        }
+    }
+}
+
+/// Answers the requests that have come whole.
+fn answer_all<R: Rows + Drop, K: Sink>(
+    alloc: Global,
+    names: &mut Uids<R>,
+    config: &Config,
+    queue: &mut Queue,
+    sink: &mut K,
+    session: &mut Session,
+    lines: &mut Lines,
+) -> Option<Served>
+    ensures moves { Moves config.now (record { seen = R.seen names.old; held = K.held sink.old; queue = queue.old; waiting = session.old.replies; counts = session.old.counts }) (telnet_to_come lines.old)
+        (record { seen = R.seen names.new; held = K.held sink.new; queue = queue.new; waiting = session.new.replies; counts = session.new.counts }) (telnet_to_come lines.new) result }
+    ensures none { result ≡ None → telnet_to_come lines.new [] ≡ [] }
+    ensures causes { Causes (K.faults sink.old) (K.faults sink.new) (R.stops names.old) (R.stops names.new) result }
+    ensures number { K.number sink.new ≡ K.number sink.old }
+{
+    loop {
+        match lines.turn(alloc) {
+            Err(_) => return Some(break_off(sink, &mut session.replies)),
+            Ok(None) => return None,
+            Ok(Some(command)) => {
+                if let Some(end) = exchange(alloc, names, config, queue, sink, session, command) {
+                    return Some(end);
+                }
+            }
+        }
+    }
+}
+
+/// Gives the replies that wait, and takes the next piece, which has a byte.
+fn next_piece<S: Source, K: Sink>(
+    source: &mut S,
+    sink: &mut K,
+    replies: &mut ReplyBuffer,
+    input: &mut ConnInput,
+) -> Result<(), Served>
+    ensures moves { PieceMoves (S.taken source.old) (S.taken source.new) (S.left source.old) (S.left source.new) (K.held sink.old) (K.held sink.new) replies.old input.old result input.new }
+    ensures none { OnOk result (replies.new ≡ []) }
+    ensures end { result ≡ Err Served.End → IsAtEnd (S.left source.new) }
+    ensures causes { IfErr result (λ end. (stops : ℕ) → ConnCauses (S.faults source.old) (S.faults source.new) (K.faults sink.old) (K.faults sink.new) stops stops end) }
+    ensures later { (S.faults source.old ≤ S.faults source.new) × (K.faults sink.old ≤ K.faults sink.new) }
+    ensures source { S.number source.new ≡ S.number source.old }
+    ensures sink { K.number sink.new ≡ K.number sink.old }
+{
+    match replies.give(sink) {
+        Ok(()) => input.take(source),
+        Err(_) => Err(Served::WriteFault),
+    }
+}

@@ -1,9 +1,0 @@
-use Rattle.std.proofs.Common.{◌≡◌, take}
-use Rattle.tsd_run.proofs.SettleLemmas.{IsUpTo}
-use Rattle.tsd_run.proofs.settling.in_order.Given as goal
-
-abbrev pub invariant-loop-value : goal.invariant-loop-value
-invariant-loop-value l = record {
-  same : l.dots ≡ take l.value-index l.values;
-  latest : IsUpTo l.latest l.dots;
-}

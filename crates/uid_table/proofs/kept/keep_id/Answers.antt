@@ -1,6 +1,0 @@
-use Rattle.uid_table.specs.Kept.{IsShownId}
-use Rattle.uid_table.proofs.Keeping.{same_name_key, after_put}
-use Rattle.uid_table.proofs.kept.keep_id.Goals as goal
-
-pub returns : goal.returns
-returns c s all one = after_put _ same_name_key (IsShownId s) _ _ c.args.key c.args.id c.put.result c.put.ensures.entries c.put.ensures.err all one

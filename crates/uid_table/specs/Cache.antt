@@ -1,0 +1,26 @@
+-- The pairs of names and ids that are kept.
+use Rattle.std.specs.Prelude.{ℕ, List, Contains}
+use Rattle.cell_model.specs.Seen.{Seen, IsPossible}
+use Rattle.uid_table.specs.declared.cache.NameKey.{NameKey}
+use Rattle.uid_table.specs.declared.cache.IdKey.{IdKey}
+use Rattle.uid_table.specs.Shown.{HasShown, HasShownName}
+
+-- each of the one is among the other
+abbrev pub AreAmong : {X : Type 0} → List X → List X → Type 0
+AreAmong xs ys = (x : _) → Contains xs x → Contains ys x
+
+-- the caller has seen that the name has the id
+abbrev pub IsShownId : Seen → NameKey × ℕ → Type 0
+IsShownId s pair = HasShown s pair.0.kind pair.0.row.bytes pair.1 × IsPossible s
+
+-- the caller has seen that the id has the name
+abbrev pub IsShownName : Seen → IdKey × List ℕ → Type 0
+IsShownName s pair = HasShownName s pair.0.kind pair.0.id pair.1 × IsPossible s
+
+-- so it is of each id that is kept
+abbrev pub KeepsIds : Seen → List (NameKey × ℕ) → Type 0
+KeepsIds s ids = (pair : NameKey × ℕ) → Contains ids pair → IsShownId s pair
+
+-- and of each name
+abbrev pub KeepsNames : Seen → List (IdKey × List ℕ) → Type 0
+KeepsNames s names = (pair : IdKey × List ℕ) → Contains names pair → IsShownName s pair

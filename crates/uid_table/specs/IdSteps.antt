@@ -1,0 +1,148 @@
+-- The entries that a call makes, by its answer.
+use Rattle.std.specs.Prelude.{◌≡◌, ◌⊎◌, ℕ, List, [], ◌∷◌, Option, None, Some, Result, Ok, Err, option_map}
+use Rattle.tsd_base.specs.declared.kinds.Kind.{Kind}
+use Rattle.qual_codec.specs.declared.cells.Cell.{Cell}
+use Rattle.cell_model.specs.declared.row.Row.{Row}
+use Rattle.cell_model.specs.declared.events.Step.TheVariants.{Read, Bump, Claim}
+use Rattle.cell_model.specs.declared.events.Reply.TheVariants.{Shown, BumpReply, ClaimReply}
+use Rattle.cell_model.specs.declared.events.Placed.{Placed}
+use Rattle.cell_model.specs.declared.answers.RowsFault.{RowsFault}
+use Rattle.cell_model.specs.declared.answers.RowsFault.TheVariants as rows
+use Rattle.cell_model.specs.declared.answers.Bumped.TheVariants.{Given, Full}
+use Rattle.cell_model.specs.declared.answers.Claimed.{Claimed}
+use Rattle.cell_model.specs.declared.answers.Claimed.TheVariants.{Done, Held}
+use Rattle.cell_model.specs.Store.{value_among}
+use Rattle.cell_model.specs.Machine.{kind_qual}
+use Rattle.cell_model.specs.IdRows.{name_row, id_row, id_bytes}
+pub use Rattle.cell_model.specs.Deeds.{MadeSo, Did}
+use Rattle.uid_table.specs.declared.id_answers.Assigned.{Assigned}
+use Rattle.uid_table.specs.declared.id_answers.Assigned.TheVariants.{Fresh, Existing, Lost}
+use Rattle.uid_table.specs.declared.id_answers.ResolveFault.{ResolveFault}
+use Rattle.uid_table.specs.declared.id_answers.ResolveFault.TheVariants as resolve
+use Rattle.uid_table.specs.declared.id_answers.AssignFault.{AssignFault}
+use Rattle.uid_table.specs.declared.id_answers.AssignFault.TheVariants as assign
+
+-- the entry is a read of the row, which showed this value for the kind, or no cell
+pub record DidRead (d : Placed) (row : Row) (kind : Kind) (shown : Option (List ℕ)) : Type 0 where
+  pub cells : List Cell
+  pub did : Did d (Read row) (Shown cells)
+  pub shows : value_among cells (kind_qual kind) ≡ shown
+
+-- the same of the row of a name
+abbrev pub DidLook : Placed → Kind → List ℕ → Option (List ℕ) → Type 0
+DidLook d kind name shown = DidRead d (name_row name) kind shown
+
+-- one read, which showed this value, or no cell
+abbrev pub OneLook : Kind → List ℕ → Option (List ℕ) → List Placed → Type 0
+OneLook kind name shown list = (d : Placed) × (list ≡ d ∷ []) × DidLook d kind name shown
+
+-- what a look at the cell of a name makes
+abbrev pub LookMade : Kind → List ℕ → Result (Option ℕ) RowsFault → List Placed → Type 0
+LookMade kind name (Ok id) list = OneLook kind name (option_map id_bytes id) list
+LookMade kind name (Err fault) list = list ≡ []
+
+-- one read, which showed this id, or none, where the pair was kept
+abbrev pub LookedOrKept : Kind → List ℕ → ℕ → List Placed → Type 0
+LookedOrKept kind name id list = (list ≡ []) ⊎ OneLook kind name (Some (id_bytes id)) list
+
+-- A resolve makes at most one read. `Unknown` comes only of a read that found no cell.
+abbrev pub ResolveMade : Kind → List ℕ → Result ℕ ResolveFault → List Placed → Type 0
+ResolveMade kind name (Ok id) list = LookedOrKept kind name id list
+ResolveMade kind name (Err (resolve.Unknown k)) list = (k ≡ kind) × OneLook kind name None list
+ResolveMade kind name (Err resolve.OutOfMemory) list = list ≡ []
+ResolveMade kind name (Err resolve.Stopped) list = list ≡ []
+
+-- the entry is the bump that gave the id
+abbrev pub DidBump : Placed → Kind → ℕ → Type 0
+DidBump d kind id = Did d (Bump kind) (BumpReply (Given id))
+
+-- the entry is the claim of the id for the name, which was done
+abbrev pub DidReverse : Placed → Kind → List ℕ → ℕ → Type 0
+DidReverse d kind name id = Did d (Claim (id_row id) (kind_qual kind) name) (ClaimReply Done)
+
+-- the entry is the claim of the name with the id, which had this reply
+abbrev pub DidForward : Placed → Kind → List ℕ → ℕ → Claimed → Type 0
+DidForward d kind name id reply = Did d (Claim (name_row name) (kind_qual kind) (id_bytes id)) (ClaimReply reply)
+
+-- what the claim of an id for a name makes, which is never held
+abbrev pub ReverseMade : Kind → List ℕ → ℕ → Result (Unit {0}) RowsFault → List Placed → Type 0
+ReverseMade kind name id (Ok x) list = (d : Placed) × (list ≡ d ∷ []) × DidReverse d kind name id
+ReverseMade kind name id (Err fault) list = list ≡ []
+
+-- one claim of the name with the id, which had this reply
+abbrev pub OneForward : Kind → List ℕ → ℕ → Claimed → List Placed → Type 0
+OneForward kind name id reply list = (d : Placed) × (list ≡ d ∷ []) × DidForward d kind name id reply
+
+-- what the claim of a name makes
+abbrev pub ForwardMade : Kind → List ℕ → ℕ → Result Assigned RowsFault → List Placed → Type 0
+ForwardMade kind name id (Ok (Fresh x)) list = (x ≡ id) × OneForward kind name id Done list
+ForwardMade kind name id (Ok (Existing x)) list = ⊥
+ForwardMade kind name id (Ok (Lost wasted x)) list = (wasted ≡ id) × OneForward kind name id (Held (id_bytes x)) list
+ForwardMade kind name id (Err fault) list = list ≡ []
+
+-- the claim of the id for the name, and then those
+abbrev pub AfterReverse : Kind → List ℕ → ℕ → (List Placed → Type 0) → List Placed → Type 0
+AfterReverse kind name id P list = (d : Placed) × (rest : List Placed) × (list ≡ d ∷ rest) × DidReverse d kind name id × P rest
+
+-- what the two claims of an id that was given make
+abbrev pub BindMade : Kind → List ℕ → ℕ → Result Assigned RowsFault → List Placed → Type 0
+BindMade kind name id (Ok answer) list = AfterReverse kind name id (ForwardMade kind name id (Ok answer)) list
+BindMade kind name id (Err fault) list = (list ≡ []) ⊎ AfterReverse kind name id (ForwardMade kind name id (Err fault)) list
+
+-- a bump, the claim of its id for the name, and then the claim of the name with it, which had this reply
+pub record Gave (kind : Kind) (name : List ℕ) (id : ℕ) (reply : Claimed) (list : List Placed) : Type 0 where
+  pub bump : Placed
+  pub reverse : Placed
+  pub forward : Placed
+  pub list_is : list ≡ bump ∷ reverse ∷ forward ∷ []
+  pub bumped : DidBump bump kind id
+  pub reversed : DidReverse reverse kind name id
+  pub forwarded : DidForward forward kind name id reply
+
+-- a bump that found the counter full
+abbrev pub WasFull : Kind → List Placed → Type 0
+WasFull kind list = (d : Placed) × (list ≡ d ∷ []) × Did d (Bump kind) (BumpReply Full)
+
+-- as far as a giving came that was broken off
+pub data GaveUp (kind : Kind) (name : List ℕ) : List Placed → Type 0 where
+  before : GaveUp kind name []
+  bumped : {d : Placed} (id : ℕ) → DidBump d kind id → GaveUp kind name (d ∷ [])
+  reversed : {d e : Placed} (id : ℕ) → DidBump d kind id → DidReverse e kind name id → GaveUp kind name (d ∷ e ∷ [])
+
+-- what the giving of an id makes
+abbrev pub GiveMade : Kind → List ℕ → Result Assigned AssignFault → List Placed → Type 0
+GiveMade kind name (Ok (Fresh id)) list = Gave kind name id Done list
+GiveMade kind name (Ok (Existing id)) list = ⊥
+GiveMade kind name (Ok (Lost wasted id)) list = Gave kind name wasted (Held (id_bytes id)) list
+GiveMade kind name (Err (assign.Exhausted k)) list = (k ≡ kind) × WasFull kind list
+GiveMade kind name (Err assign.OutOfMemory) list = GaveUp kind name list
+GiveMade kind name (Err assign.Stopped) list = GaveUp kind name list
+
+-- a read that found no cell, and then those
+abbrev pub AfterLook : Kind → List ℕ → (List Placed → Type 0) → List Placed → Type 0
+AfterLook kind name P list = (d : Placed) × (rest : List Placed) × (list ≡ d ∷ rest) × DidLook d kind name None × P rest
+
+-- An assignment makes no entry where the pair was kept, and else one read. Where that found the cell it makes nothing more; else it gives an id.
+abbrev pub AssignMade : Kind → List ℕ → Result Assigned AssignFault → List Placed → Type 0
+AssignMade kind name (Ok (Existing id)) list = LookedOrKept kind name id list
+AssignMade kind name (Ok (Fresh id)) list = AfterLook kind name (GiveMade kind name (Ok (Fresh id))) list
+AssignMade kind name (Ok (Lost wasted id)) list = AfterLook kind name (GiveMade kind name (Ok (Lost wasted id))) list
+AssignMade kind name (Err (assign.Exhausted k)) list = AfterLook kind name (GiveMade kind name (Err (assign.Exhausted k))) list
+AssignMade kind name (Err assign.OutOfMemory) list = (list ≡ []) ⊎ AfterLook kind name (GiveMade kind name (Err assign.OutOfMemory)) list
+AssignMade kind name (Err assign.Stopped) list = (list ≡ []) ⊎ AfterLook kind name (GiveMade kind name (Err assign.Stopped)) list
+
+-- one read of the id's row, which showed this name
+abbrev pub OneNameRead : Kind → ℕ → List ℕ → List Placed → Type 0
+OneNameRead kind id name list = (d : Placed) × (list ≡ d ∷ []) × DidRead d (id_row id) kind (Some name)
+
+-- the naming of an id makes one read, which showed the name, or none, where the pair was kept
+abbrev pub NameMade : Kind → ℕ → Result (List ℕ) RowsFault → List Placed → Type 0
+NameMade kind id (Ok name) list = (list ≡ []) ⊎ OneNameRead kind id name list
+NameMade kind id (Err rows.OutOfMemory) list = (list ≡ []) ⊎ ((name : List ℕ) × OneNameRead kind id name list)
+NameMade kind id (Err rows.Stopped) list = list ≡ []
+
+-- the name that bytes are, or want of memory
+abbrev pub IsNamed : List ℕ → Result (List ℕ) RowsFault → Type 0
+IsNamed bytes (Ok name) = name ≡ bytes
+IsNamed bytes (Err rows.OutOfMemory) = Unit {0}
+IsNamed bytes (Err rows.Stopped) = ⊥
