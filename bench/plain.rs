@@ -2,10 +2,11 @@
 //! `sum:` or `zimsum:`, perhaps `Nm-avg:` or `Ns-avg:`, a metric, and perhaps one filter that groups, `{KEY=*}` or `{KEY=VALUE}`.
 //! It accepts and refuses the same lines, but those in milliseconds, and prints the same bytes.
 //!
-//! With the word `stdio` it does that of `tsd stdio --auto-metric` for the requests `put` and `exit` alone.
+//! With the word `stdio` it does that of `tsd stdio --auto-metric` for the requests `put` and `exit` alone, and with `http` for
+//! `POST /api/put` without flags, whose body is a list of points.
 
 use std::collections::{BTreeMap, HashMap};
-use std::io::{self, BufRead, BufReader, Write};
+use std::io::{self, BufRead, BufReader, Read, Write};
 use std::process::ExitCode;
 
 const LONGEST_LINE: usize = 8192;
@@ -82,6 +83,9 @@ fn run() -> Result<String, Stop> {
     let args: Vec<String> = std::env::args().skip(1).collect();
     if args == ["stdio"] {
         return session(BufReader::with_capacity(1 << 16, io::stdin().lock()));
+    }
+    if args == ["http"] {
+        return http_session(BufReader::with_capacity(1 << 16, io::stdin().lock()));
     }
     let words = read_words(&args)?;
     let store = read_lines(BufReader::with_capacity(1 << 16, io::stdin().lock()))?;
@@ -215,6 +219,253 @@ fn session(mut input: impl BufRead) -> Result<String, Stop> {
                 status: 4,
             });
         }
+    }
+}
+
+/// Keeps the points of each body, up to the input's end.
+fn http_session(mut input: impl BufRead) -> Result<String, Stop> {
+    let mut output = io::stdout().lock();
+    let mut store = Store::new();
+    let mut key = Vec::new();
+    let mut body = Vec::new();
+    let failed = |status| Stop {
+        text: String::new(),
+        status,
+    };
+    while let Some(length) = read_head(&mut input).map_err(|_| failed(3))? {
+        body.clear();
+        match input.by_ref().take(length).read_to_end(&mut body) {
+            Ok(count) if count as u64 == length => {}
+            Ok(_) => break,
+            Err(_) => return Err(failed(3)),
+        }
+        let reply: &[u8] = match put_body(&body, &mut store, &mut key) {
+            Some(0) => b"HTTP/1.1 204 No Content\r\n\r\n",
+            _ => b"HTTP/1.1 400 Bad Request\r\n\r\n",
+        };
+        output.write_all(reply).map_err(|_| failed(4))?;
+    }
+    Ok(String::new())
+}
+
+/// The length of the body whose head comes next, or nothing where no head comes.
+fn read_head(input: &mut impl BufRead) -> io::Result<Option<u64>> {
+    let mut line = Vec::new();
+    let mut length = None;
+    loop {
+        line.clear();
+        if input.read_until(b'\n', &mut line)? == 0 {
+            return Ok(None);
+        }
+        let text = line.trim_ascii_end();
+        if text.is_empty() {
+            return Ok(length);
+        }
+        if let Some(at) = text.iter().position(|b| *b == b':')
+            && text[..at].eq_ignore_ascii_case(b"content-length")
+        {
+            length = number(text[at + 1..].trim_ascii());
+        }
+    }
+}
+
+/// Keeps the points of a body, and answers how many of its elements are none, if it is a list.
+fn put_body(body: &[u8], store: &mut Store, key: &mut Vec<u8>) -> Option<usize> {
+    let text = std::str::from_utf8(body).ok()?;
+    let mut reader = Json { text, at: 0 };
+    let Value::List(elements) = reader.value(0)? else {
+        return None;
+    };
+    reader.blanks();
+    if reader.at != text.len() {
+        return None;
+    }
+    let mut bad = 0;
+    for element in &elements {
+        match element_point(element) {
+            Some(point) => keep(store, key, &point),
+            None => bad += 1,
+        }
+    }
+    Some(bad)
+}
+
+/// The point in seconds that an element is, if it is one.
+fn element_point<'a>(element: &'a Value) -> Option<Point<'a>> {
+    let Value::Object(members) = element else {
+        return None;
+    };
+    let Value::Text(metric) = members.get("metric")? else {
+        return None;
+    };
+    let time = match members.get("timestamp")? {
+        Value::Text(text) | Value::Number(text) => read_time(text.as_bytes())?,
+        _ => return None,
+    };
+    let value = match members.get("value")? {
+        Value::Text(text) | Value::Number(text) => read_value(text.as_bytes()).ok()?,
+        _ => return None,
+    };
+    let Value::Object(tags) = members.get("tags")? else {
+        return None;
+    };
+    let mut pairs: Vec<(&[u8], &[u8])> = Vec::with_capacity(tags.len());
+    for (key, value) in tags {
+        let Value::Text(value) = value else {
+            return None;
+        };
+        pairs.push((key.as_bytes(), value.as_bytes()));
+    }
+    let named = pairs.iter().all(|tag| name_fault(tag.0).is_none() && name_fault(tag.1).is_none());
+    let whole = named && name_fault(metric.as_bytes()).is_none() && !time.1 && (1..=MOST_TAGS).contains(&pairs.len());
+    whole.then_some(Point {
+        metric: metric.as_bytes(),
+        time: time.0,
+        value,
+        tags: pairs,
+    })
+}
+
+/// A JSON value. Numbers stay as they are written.
+enum Value {
+    Null,
+    Truth,
+    Number(String),
+    Text(String),
+    List(Vec<Value>),
+    Object(BTreeMap<String, Value>),
+}
+
+/// Reads JSON from the left.
+struct Json<'a> {
+    text: &'a str,
+    at: usize,
+}
+
+impl Json<'_> {
+    fn peek(&self) -> Option<u8> {
+        self.text.as_bytes().get(self.at).copied()
+    }
+
+    fn blanks(&mut self) {
+        while matches!(self.peek(), Some(b' ' | b'\t' | b'\n' | b'\r')) {
+            self.at += 1;
+        }
+    }
+
+    /// Goes behind a byte, if it is the next behind blanks.
+    fn take(&mut self, byte: u8) -> bool {
+        self.blanks();
+        let is_there = self.peek() == Some(byte);
+        self.at += usize::from(is_there);
+        is_there
+    }
+
+    fn value(&mut self, depth: usize) -> Option<Value> {
+        self.blanks();
+        if depth > 127 {
+            return None;
+        }
+        match self.peek()? {
+            b'{' => self.object(depth),
+            b'[' => self.list(depth),
+            b'"' => self.string().map(Value::Text),
+            b'-' | b'0'..=b'9' => self.number(),
+            _ => self.word(),
+        }
+    }
+
+    fn object(&mut self, depth: usize) -> Option<Value> {
+        self.at += 1;
+        let mut members = BTreeMap::new();
+        if self.take(b'}') {
+            return Some(Value::Object(members));
+        }
+        loop {
+            self.blanks();
+            let key = self.string()?;
+            if !self.take(b':') {
+                return None;
+            }
+            members.insert(key, self.value(depth + 1)?);
+            if self.take(b'}') {
+                return Some(Value::Object(members));
+            }
+            if !self.take(b',') {
+                return None;
+            }
+        }
+    }
+
+    fn list(&mut self, depth: usize) -> Option<Value> {
+        self.at += 1;
+        let mut items = Vec::new();
+        if self.take(b']') {
+            return Some(Value::List(items));
+        }
+        loop {
+            items.push(self.value(depth + 1)?);
+            if self.take(b']') {
+                return Some(Value::List(items));
+            }
+            if !self.take(b',') {
+                return None;
+            }
+        }
+    }
+
+    /// A string, in which of the escapes those of one letter are read.
+    fn string(&mut self) -> Option<String> {
+        if self.peek() != Some(b'"') {
+            return None;
+        }
+        self.at += 1;
+        let mut text = String::new();
+        loop {
+            let rest = &self.text[self.at..];
+            let stop = rest.bytes().position(|b| b == b'"' || b == b'\\' || b < b' ')?;
+            text.push_str(&rest[..stop]);
+            self.at += stop;
+            match self.peek()? {
+                b'"' => {
+                    self.at += 1;
+                    return Some(text);
+                }
+                b'\\' => {
+                    let escaped = *self.text.as_bytes().get(self.at + 1)?;
+                    text.push(match escaped {
+                        b'"' | b'\\' | b'/' => char::from(escaped),
+                        b'n' => '\n',
+                        b'r' => '\r',
+                        b't' => '\t',
+                        _ => return None,
+                    });
+                    self.at += 2;
+                }
+                _ => return None,
+            }
+        }
+    }
+
+    fn number(&mut self) -> Option<Value> {
+        let rest = &self.text[self.at..];
+        let end = rest
+            .bytes()
+            .position(|b| !matches!(b, b'0'..=b'9' | b'-' | b'+' | b'.' | b'e' | b'E'))
+            .unwrap_or(rest.len());
+        rest[..end].parse::<f64>().ok()?;
+        self.at += end;
+        Some(Value::Number(rest[..end].to_string()))
+    }
+
+    fn word(&mut self) -> Option<Value> {
+        for (word, value) in [("null", Value::Null), ("true", Value::Truth), ("false", Value::Truth)] {
+            if self.text[self.at..].starts_with(word) {
+                self.at += word.len();
+                return Some(value);
+            }
+        }
+        None
     }
 }
 

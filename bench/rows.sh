@@ -6,5 +6,5 @@
 set -euo pipefail
 . "$(dirname "$0")/driver.sh"
 
-prepare rows 'qual_codec cell_model row_scan' list_lemmas short_bytes row_key qual_codec packed_cells tsd_base tsd_io cell_model cell_laws row_scan
+prepare rows 'list_lemmas qual_codec cell_model row_scan' list_lemmas short_bytes row_key qual_codec packed_cells tsd_base tsd_io cell_model cell_laws row_scan
 run rows 3

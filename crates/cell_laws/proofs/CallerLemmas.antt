@@ -3,11 +3,11 @@ use Rattle.std.proofs.Common.{[], refl, arith}
 use Rattle.cell_model.specs.declared.events.Step.{Step}
 use Rattle.cell_model.specs.declared.events.Reply.{Reply}
 use Rattle.cell_model.specs.Seen.{Seen, Stepped}
-use Rattle.cell_model.specs.Deeds.{Extends, Made}
+use Rattle.cell_model.specs.Deeds.{Extends, Made, Since}
 use Rattle.cell_laws.specs.Laws.{AcceptedTimesStand, EachReads, EntriesAreLawful, FirstFits, FirstIsLawful, GivenIsFree, GivenIsId, KeepsId, MadeJoins, MadeStands, NamesBack, OneName, RowIdsAreTaken, SeenCellReads, SeenIdStands, SeenNameStands, StandingWasAccepted, StaysSound, StepIsMade, WaitIsMade}
 use Rattle.cell_laws.specs.Laws as law
 use Rattle.cell_laws.proofs.Accepting as accepting
-use Rattle.cell_laws.proofs.Carry.{nothing_waited, extends_extends, made_made, stepped_extends, stepped_made, waited_made}
+use Rattle.cell_laws.proofs.Carry.{nothing_waited, extends_extends, made_made, since_since, stepped_extends, stepped_made, waited_made}
 use Rattle.cell_laws.proofs.InOrder.{fits_first, made_in_order}
 use Rattle.cell_laws.proofs.Keep as kept
 use Rattle.cell_laws.proofs.Known as known
@@ -138,6 +138,10 @@ first_fits = fits_first
 -- what is seen later extends what was seen, by a step too
 pub extends_joined : (a b c : Seen) → Extends a b → Extends b c → Extends a c
 extends_joined a b c x y = extends_extends x y
+
+-- one call after the other, whatever each made
+pub since_joined : (a b c : Seen) → Since a b → Since b c → Since a c
+since_joined a b c x y = since_since x y
 
 pub step_extends : (old new : Seen) (step : Step) (reply : Reply) → Stepped old step reply new → Extends old new
 step_extends old new step reply s = stepped_extends s

@@ -13,6 +13,3 @@ pub use body::Body;
 pub use events::{Content, Entry, Place, Placed, PlainPoint, Reply, Step};
 pub use row::{Cells, Drops, Found, ListLine, Listing, Row};
 pub use rows::Rows;
-
-#[cfg(test)]
-mod tests;

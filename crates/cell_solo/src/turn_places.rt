@@ -179,18 +179,3 @@ fn after_name<'a>(bytes: &'a [u8], name: &Name) -> Option<&'a [u8]>
     }
     rest.strip_prefix(name)
 }
-
-// What tests measure.
-#[cfg(test)]
-impl Places {
-    /// How many places there are, and how many bytes of theirs.
-    pub fn sizes(&self) -> (usize, usize) {
-        (self.list.len(), self.bytes.len())
-    }
-}
-
-/// How many bytes a place takes beside its own.
-#[cfg(test)]
-pub fn size_of_place() -> usize {
-    std::mem::size_of::<Place>()
-}

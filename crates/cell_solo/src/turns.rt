@@ -289,6 +289,3 @@ impl Turns {
         self.heads.push_reserved(Head::DropCells { caller });
     }
 }
-
-#[cfg(test)]
-mod tests;

@@ -1,5 +1,6 @@
-pub mod Lower
-pub mod Writes
-pub mod Rows
-pub mod QueueRows
-pub mod Draining
+pub mod CallerLemmas
+mod Lower
+mod Writes
+mod Rows
+mod QueueRows
+mod Draining

@@ -29,3 +29,7 @@ pub record Added (old : List Stored) (stored : Stored) (new : List Stored) : Typ
 abbrev pub AddMade : List Stored → Stored → Bool → List Stored → Type 0
 AddMade old stored true new = Added old stored new
 AddMade old stored false new = Contains old stored × (new ≡ old)
+
+-- it holds what it held, and these rows
+abbrev pub HasRows : List Stored → List Stored → List Stored → Type 0
+HasRows before rows after = (s : Stored) → Contains after s ↔ (Contains before s ⊎ Contains rows s)

@@ -49,14 +49,3 @@ fn stopped_assignments(rt: HostRuntime) -> Result<(), Fail> {
     }
     Ok(())
 }
-
-#[test]
-fn listed_names(rt: HostRuntime) -> Result<(), Fail> {
-    let none: &[u64] = &[];
-    let mut names = names(rt.alloc(), none)?;
-    let name = Name::read(rt.alloc(), b"m")?;
-    assert!(rt; names.assign(rt.alloc(), Kind::Metric, &name).is_ok());
-    let listed = names.suggest(rt.alloc(), Kind::Metric, b"", 9);
-    assert_eq!(rt; listed.map(|names| names.len()), Ok(1));
-    Ok(())
-}

@@ -3,7 +3,5 @@
 
 pub mod shared_tags;
 pub mod tag_filters;
-#[cfg(test)]
-mod test_tags;
 
 pub use tag_filters::{group_key, passes};

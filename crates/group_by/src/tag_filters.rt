@@ -69,6 +69,3 @@ fn has_grouping(filters: &[Filter], key: &Name) -> bool
         .iter()
         .any(|filter| filter.group && filter.key == *key)
 }
-
-#[cfg(test)]
-mod tests;

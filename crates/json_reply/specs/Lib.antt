@@ -1,2 +1,3 @@
+pub mod ErrorBodies
 pub mod Replies
 pub mod Texts

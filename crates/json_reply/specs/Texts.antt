@@ -1,5 +1,5 @@
 -- The parts of a reply's text.
-use Rattle.std.specs.Prelude.{ℕ, ◌/◌, Bool, List, [], ◌∷◌, ◌++◌, map, ℤ, decimal, if◌then◌else◌, ◌≡◌}
+use Rattle.std.specs.Prelude.{ℕ, ◌/◌, Bool, List, [], ◌∷◌, ◌++◌, map, ℤ, codes, decimal, if◌then◌else◌, ◌≡◌}
 use Rattle.std.specs.List.{join_with_byte}
 use Rattle.std.specs.Fmt.{signed_decimal}
 use Rattle.std.specs.FinMap.{from_entries, entries}
@@ -43,3 +43,7 @@ abbrev pub Rise : List (List ℕ) → Type 0
 Rise [] = Unit {0}
 Rise (text ∷ []) = Unit {0}
 Rise (text ∷ next ∷ texts) = (bytes_cmp text next ≡ Less) × Rise (next ∷ texts)
+
+-- a JSON array of names
+abbrev pub names_text : List (List ℕ) → List ℕ
+names_text names = codes "[" ++ listed (map quoted names) ++ codes "]"

@@ -53,7 +53,7 @@ fn write_quoted(out: &mut Vec<u8>, text: &[u8]) -> Result<(), AllocError>
 }
 
 /// Appends a comma before each item but the first.
-fn write_comma(out: &mut Vec<u8>, index: usize) -> Result<(), AllocError>
+pub fn write_comma(out: &mut Vec<u8>, index: usize) -> Result<(), AllocError>
     ensures { OnOk result (out.new.items ≡ out.old.items ++ (if index == 0 then [] else 44 ∷ [])) }
 {
     if index > 0 {
@@ -62,7 +62,7 @@ fn write_comma(out: &mut Vec<u8>, index: usize) -> Result<(), AllocError>
     Ok(())
 }
 
-fn write_keys(out: &mut Vec<u8>, keys: &[Name]) -> Result<(), AllocError>
+pub fn write_keys(out: &mut Vec<u8>, keys: &[Name]) -> Result<(), AllocError>
     ensures { OnOk result (out.new.items ≡ out.old.items ++ listed (map quoted keys.now)) }
 {
     for (index, key) in keys.iter().enumerate() {

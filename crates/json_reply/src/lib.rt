@@ -1,6 +1,8 @@
-//! The text of a reply: one JSON array without blanks.
+//! The texts of replies, in JSON without blanks: answers of queries, lists of names, errors.
 #![tactic(auto)]
 
-mod json_text;
+pub mod error_body;
+pub mod json_text;
+pub mod names_text;
 pub mod reply;
 mod time_text;

@@ -42,6 +42,3 @@ pub fn reply_text(alloc: Global, reply: &Reply) -> Result<Vec<u8>, AllocError>
     text.push(b']')?;
     Ok(text)
 }
-
-#[cfg(test)]
-mod tests;

@@ -1,6 +1,6 @@
 -- The lines of all rows.
 use Rattle.std.proofs.Common.{◌≡◌, ℕ, zero, suc, ◌+◌, ◌≤◌, ◌<◌, Bool, true, false, cond, T, List, [], ◌∷◌, ◌++◌, length, map, refl, sym, ap, subst, ◌∙◌, arith, nat_eq}
-use Rattle.std.specs.Prelude.{Option, None, Some, unwrap_or, take, slice_index_or, not, MatchOption, option_map, All, Result, Ok, Err, IfOk, OnErr}
+use Rattle.std.specs.Prelude.{Option, None, Some, unwrap_or, take, slice_index_or, not, MatchOption, option_map}
 use Rattle.std.specs.declared.cmp.Ordering.{Ordering}
 use Rattle.std.specs.declared.cmp.Ordering.TheVariants.{Less, Equal, Greater}
 use Rattle.std.specs.Ordering.{is_eq, is_lt, is_le, ordering_reverse}
@@ -18,14 +18,13 @@ use Rattle.cell_model.specs.declared.events.Content.{Content}
 use Rattle.list_lemmas.specs.BytesOrder.{bytes_cmp}
 use Rattle.cell_model.specs.Store.{place_cmp}
 use Rattle.cell_model.specs.Counts.{line_of, lines_of}
-use Rattle.cell_model.specs.Rising.{LinesRise, place_of_line, Adds}
-use Rattle.std.proofs.lemmas.List.Elements.{All-push}
+use Rattle.cell_model.specs.Rising.{LinesRise, place_of_line}
 use Rattle.list_lemmas.proofs.BoolTests.{T_both, T_left, T_right, T_less}
 use Rattle.cell_model.specs.Listed.{store_of, entry_of_line}
 use Rattle.cell_model.specs.Machine.{counter_row}
 use Rattle.packed_cells.specs.Keyed.{CellMap}
 use Rattle.map_body.specs.TableRows.{Rows, row_in, NoneEmpty, rows_below, rows_from}
-use Rattle.map_body.specs.Whole.{rows_at, tagged, all_rows, placed, flat, store_in, lines_in, NoCounterRow, HasNoFlaw}
+use Rattle.map_body.specs.Whole.{rows_at, tagged, all_rows, placed, flat, store_in, lines_in, NoCounterRow}
 use Rattle.map_body.proofs.Maps.{no_some}
 use Rattle.cell_model.proofs.CallerLemmas.{places_total, exact_places}
 use Rattle.map_body.proofs.Flat.{flat_entries, head_of}
@@ -182,9 +181,3 @@ store_next lines i d rise lt =
 pub head_is : {A B : Type 0} (f : A → B) (o : Option A) (xs rest : List B) → MatchOption o ((xs ≡ []) × (rest ≡ [])) (λ x. xs ≡ f x ∷ rest) → option_map f o ≡ head_of xs
 head_is f None xs rest h = ap head_of (sym h.0)
 head_is f (Some x) xs rest h = ap head_of (sym h)
-
--- a listing keeps that no line has a flaw where one more is added
-pub no_flaw_added : {E : Type 0} (r : Result Bool E) (old new : List ListLine) (line : ListLine) → IfOk r (λ added. Adds old line added new) → OnErr r (new ≡ old) → All HasNoFlaw old → HasNoFlaw line → All HasNoFlaw new
-no_flaw_added (Ok true) old new line adds err all one = subst (All HasNoFlaw) (sym adds.1) (All-push HasNoFlaw old line all one)
-no_flaw_added (Ok false) old new line adds err all one = subst (All HasNoFlaw) (sym adds.1) all
-no_flaw_added (Err e) old new line adds err all one = subst (All HasNoFlaw) (sym err) all

@@ -7,6 +7,3 @@ pub mod store_maps;
 mod table_rows;
 
 pub use store_maps::MapBody;
-
-#[cfg(test)]
-mod tests;

@@ -415,6 +415,3 @@ impl Block {
         Ok(())
     }
 }
-
-#[cfg(test)]
-mod tests;

@@ -119,6 +119,3 @@ impl RowCells {
         true
     }
 }
-
-#[cfg(test)]
-mod tests;

@@ -4,8 +4,6 @@
 pub mod laws;
 pub mod merged_points;
 pub mod scan;
-#[cfg(test)]
-mod tests;
 
 pub use merged_points::row_points;
 pub use scan::Scan;

@@ -100,7 +100,15 @@ impl Bytes {
         ensures made { IfOk result (λ made. made ≡ self.now) }
         ensures short { length self.now ≤ 30 → IsOk result }
     {
-        Bytes::of(alloc, self.list())
+        match &self.kept {
+            Kept::Short { len, block } => Ok(Bytes {
+                kept: Kept::Short {
+                    len: *len,
+                    block: *block,
+                },
+            }),
+            Kept::Long { list } => Bytes::of(alloc, list.as_slice()),
+        }
     }
 
     /// The order of the bytes. Short strings are compared by their blocks, which are zeros behind

@@ -3,7 +3,7 @@ use Rattle.std.proofs.Common.{◌≡◌, ◌≢◌, ◌⊎◌, inl, inr, ℕ, �
 use Rattle.std.specs.Prelude.{All, Option, None, Some, slice_get, unwrap_or, take, cond, option_map, OnOk, OnErr, Result, Ok, Err, IfSome}
 use Rattle.std.proofs.lemmas.List.{append_assoc, append-nil, reverse-append, map-append, get_or-reverse, get_or-append_right, take_more, take_more_set, take_all, length-set, map-set, set-get_or, length-append, length-map, length-reverse}
 use Rattle.std.proofs.lemmas.Option.{slice_get-map, slice_get-get_or, slice_get_within, get_or_from_slice_get}
-use Rattle.std.proofs.lemmas.List.Elements.{All-nil, All-cons, All-weaker}
+use Rattle.std.proofs.lemmas.List.Elements.{All-nil}
 use Rattle.std.proofs.lemmas.Map.Views.{All-values-insert_entry, IfSome-lookup_from_All}
 use Rattle.std.specs.Cmp.{IsTotalOrder, on_total, then_total, nat_cmp_total, alike_right, tied_back}
 use Rattle.std.specs.Cmp.Lexicographic.{lists_total}
@@ -318,23 +318,3 @@ of_dots P spans k none all = in_either P (lookup (is_at (pairs_cmp k)) spans) no
 pub joined_rise : (spans : List Span) (k : List (ℕ × ℕ)) (dots : List (ℕ × ℤ)) → AreSpans spans → IsRising dots → All (λ d. IsAboveAll d.0 (dots_of spans k)) dots → IsRising (dots_of spans k ++ dots)
 joined_rise spans k dots a rising above =
     append_rising (dots_of spans k) dots (of_dots IsRising spans k (λ i j d lt within. absurd (omega (arith, within))) a.rising) rising above
-
-above_later : (time : ℕ) (xs : List (ℕ × ℤ)) → IsAboveAll time xs → IsAboveAll (time + 1) xs
-above_later time [] a = tt
-above_later time (x ∷ xs) a = (omega (arith, a.0), above_later time xs a.1)
-
-above_push : (time : ℕ) (value : ℤ) (xs : List (ℕ × ℤ)) → IsAboveAll time xs → IsAboveAll (time + 1) (xs ++ (time, value) ∷ [])
-above_push time value [] a = (omega arith, tt)
-above_push time value (x ∷ xs) a = (omega (arith, a.0), above_push time value xs a.1)
-
--- a point later than all may be added
-pub may_add : (spans : List Span) (k : List (ℕ × ℕ)) (time : ℕ) (value : ℤ) → All (IsAboveAll time) (values_of spans) → All (λ (d : ℕ × ℤ). IsAboveAll d.0 (dots_of spans k)) ((time, value) ∷ [])
-may_add spans k time value all =
-    All-cons (λ (d : ℕ × ℤ). IsAboveAll d.0 (dots_of spans k)) (time, value) [] (of_dots (IsAboveAll time) spans k tt all) (All-nil (λ (d : ℕ × ℤ). IsAboveAll d.0 (dots_of spans k)))
-
--- the next times are above all then
-pub next_above : (spans : List Span) (k : List (ℕ × ℕ)) (time : ℕ) (value : ℤ) → All (IsAboveAll time) (values_of spans) → All (IsAboveAll (time + 1)) (values_of (added spans k ((time, value) ∷ [])))
-next_above spans k time value all =
-    All-values-insert_entry pairs_cmp k (dots_of spans k ++ (time, value) ∷ []) (IsAboveAll (time + 1)) spans
-    (All-weaker (IsAboveAll time) (IsAboveAll (time + 1)) (above_later time) (values_of spans) all)
-    (above_push time value (dots_of spans k) (of_dots (IsAboveAll time) spans k tt all))

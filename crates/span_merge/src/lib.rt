@@ -4,5 +4,3 @@
 mod places;
 pub mod series;
 pub mod spans;
-#[cfg(test)]
-mod tests;

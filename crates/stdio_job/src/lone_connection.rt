@@ -1,8 +1,7 @@
 //! Serving one connection over a store of its own.
 ghost use Rattle.std.specs.Prelude.{◌≡◌};
 ghost use Rattle.std.specs.Io.KnownBytes.{IsAtEnd};
-ghost use Rattle.tsd_daemon.specs.ServedConns.{Passes};
-ghost use Rattle.tsd_daemon.specs.Talks.{ConnCauses};
+ghost use Rattle.tsd_daemon.specs.ServedConns.{ConnCauses, Passes};
 ghost use Rattle.stdio_job.specs.LoneConnections.{ServesAlone};
 
 use compactor::queue::Queue;

@@ -7,5 +7,3 @@
 pub mod telnet_command;
 pub mod telnet_lines;
 mod telnet_text;
-#[cfg(test)]
-mod tests;

@@ -86,6 +86,16 @@ impl Name {
         self.bytes.list()
     }
 
+    /// A copy of the bytes of the name. It fails only for want of memory, and never where there are up to 30.
+    #[inline]
+    pub fn copy_bytes(&self, alloc: Global) -> Result<Bytes, AllocError>
+        ensures same { IfOk result (λ bytes. bytes ≡ self.now) }
+        ensures short { length self.now ≤ 30 → IsOk result }
+        ensures named { IsName self.now }
+    {
+        self.bytes.again(alloc)
+    }
+
     /// The same name once more. It fails only for want of memory, and never where it has up to 30 bytes.
     pub fn again(&self, alloc: Global) -> Result<Name, AllocError>
         ensures same { IfOk result (λ name. name ≡ self.now) }

@@ -1,5 +1,6 @@
 //! Times in text.
-ghost use Rattle.std.specs.Prelude.{◌≡◌, length};
+ghost use Rattle.std.specs.Prelude.{◌≡◌, length, IfOk};
+ghost use Rattle.tsd_base.specs.Moments.{IsTime};
 ghost use Rattle.tsd_base.specs.Times.{time_of, whole_time, dotted_of, is_dotted};
 
 use crate::digits::read_digits;
@@ -20,7 +21,8 @@ pub struct BadTime;
 /// a dot and three digits are milliseconds of a second up to 4294967295, and not 0.
 #[tactic(auto, using(crate::proofs::TimesLemmas::times))]
 pub fn read_time(text: &[u8]) -> Result<(u64, bool), BadTime>
-    ensures { result ≡ time_of text.now }
+    ensures gives { result ≡ time_of text.now }
+    ensures timed { IfOk result (λ t. IsTime t.0 t.1) }
 {
     if is_dotted(text) {
         return read_dotted(&text[..10], &text[11..]);
@@ -54,7 +56,8 @@ fn whole_time(n: u64) -> Result<(u64, bool), BadTime>
 #[tactic(auto, using(crate::proofs::TimesLemmas::times))]
 fn read_dotted(seconds: &[u8], millis: &[u8]) -> Result<(u64, bool), BadTime>
     requires { length millis.now ≡ 3 }
-    ensures { result ≡ dotted_of seconds.now millis.now }
+    ensures gives { result ≡ dotted_of seconds.now millis.now }
+    ensures timed { IfOk result (λ t. IsTime t.0 t.1) }
 {
     match (read_digits(seconds), read_digits(millis)) {
         (Some(second), Some(milli)) if second <= LAST_SECOND && 0 < second + milli => {

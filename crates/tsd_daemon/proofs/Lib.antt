@@ -5,3 +5,4 @@ mod Pieces
 mod Serving
 mod TalkLemmas
 mod Talking
+mod Calls

@@ -1,60 +1,61 @@
 -- How one call moves a connection.
 use Rattle.std.proofs.Common.{◌≡◌, inl, inr, ℕ, List, [], ◌++◌, refl, sym, subst}
-use Rattle.std.specs.Prelude.{Option, None, Some, Ok}
+use Rattle.std.specs.Prelude.{Option, None, Some}
 use Rattle.tsd_base.specs.Points.{DataPoint}
 use Rattle.cell_laws.proofs.CallerLemmas.{nothing_made}
 use Rattle.cell_model.specs.declared.answers.Stored.{Stored}
 use Rattle.cell_model.specs.History.{first}
 use Rattle.cell_model.specs.Seen.{Seen}
+use Rattle.cell_model.specs.Deeds.{deeds}
+use Rattle.compactor.proofs.CallerLemmas.{rows_none}
 use Rattle.point_put.specs.declared.config.Config.{Config}
-use Rattle.telnet_put.specs.Requests.Request.{Put}
+use Rattle.telnet_put.specs.Requests.{Request}
 use Rattle.tsd_daemon.specs.declared.served.Served.{Served}
 use Rattle.tsd_daemon.specs.declared.served.Served.TheVariants as answer
 use Rattle.tsd_daemon.specs.declared.counts.Counts.{Counts}
 use Rattle.tsd_daemon.specs.declared.counts.Counted.{Counted}
-use Rattle.tsd_daemon.specs.ConnRequests.{ConnRequest, point_in}
+use Rattle.tsd_daemon.specs.ConnRequests.{ConnRequest, end_of, point_asked}
 use Rattle.tsd_daemon.specs.ConnRequests.ConnRequest.{Telnet}
 use Rattle.tsd_daemon.specs.ConnReplies.{counts_with, fixed_reply}
 use Rattle.tsd_daemon.specs.Exchanges.{AnsweredBy}
-use Rattle.tsd_daemon.specs.PointAnswers.{PointReplied}
-use Rattle.tsd_daemon.specs.ServedConns.{end_of}
 use Rattle.tsd_daemon.specs.Talks.{Ends, FixedMoves, Gives, GivesLast, GivesReply, GivesSome, IsNext, Moves, Replied, Stand, Talks, WasBegun, counted_as}
-use Rattle.tsd_daemon.proofs.TalkLemmas.{goes_on, rows_none}
-use Rattle.tsd_daemon.proofs.Talking.{talk_begun, talk_broken, talk_closed, talk_failed, talk_gave, talk_replied, talk_unsent}
+use Rattle.tsd_daemon.proofs.TalkLemmas.{BreaksSo}
+use Rattle.tsd_daemon.proofs.Talking.{Requests, talk_begun, talk_broken, talk_closed, talk_failed, talk_gave, talk_replied, talk_unsent}
 
-abbrev Requests : Type 0
-Requests = List ℕ → List ConnRequest
+-- ---- one request
 
--- ---- the put of a point
-
-abbrev put_of : DataPoint → ConnRequest
-put_of point = Telnet (Put (Ok point))
-
-point_replied : (c : Config) (counts : Counts) (point : DataPoint) (old new : Seen) (before after : List Stored) (reply : List ℕ) (how : Counted) → PointReplied c point old before reply how new after
-    → Replied c counts (put_of point) (Some point) old before reply how new after
-point_replied c counts point old new before after reply how r = record { own = r.own; stored = r.stored; made = r.made; answered = λ h l f. (r.outcome, r.asked h l f, r.told); rows = r.rows; how_is = r.how_is }
-
-pub put_told : (c : Config) (old : Stand) (point : DataPoint) (seen : Seen) (held : Option (List ℕ)) (queue : List Stored) (waiting : List ℕ) (counts : Counts) (reply : List ℕ) (how : Counted) (come come' : Requests)
-    → PointReplied c point old.seen old.queue reply how seen queue → Gives old.held held (old.waiting ++ reply) waiting → counts ≡ counts_with old.counts how → IsNext (put_of point) come come'
-    → Moves c old come (record { seen = seen; held = held; queue = queue; waiting = waiting; counts = counts }) come' None
-put_told c old point seen held queue waiting counts reply how come come' r g is next from t le k =
+-- it was answered, and its reply told, at once or later; or the sink failed
+pub request_replied : (c : Config) (old : Stand) (request : ConnRequest) (seen : Seen) (held : Option (List ℕ)) (queue : List Stored) (waiting : List ℕ) (counts : Counts) (reply : List ℕ) (how : Counted) (result : Option Served) (come come' : Requests)
+    → Replied c old.counts request old.seen old.queue reply how seen queue → GivesReply old.held held (old.waiting ++ reply) waiting result → counts ≡ counts_with old.counts how → end_of request ≡ None → IsNext request come come'
+    → Moves c old come (record { seen = seen; held = held; queue = queue; waiting = waiting; counts = counts }) come' result
+request_replied c old request seen held queue waiting counts reply how None come come' r g is still next from t le k =
     subst (λ (n : Counts). Talks c from t (record { seen = seen; held = held; queue = queue; waiting = waiting; counts = n }) come') (sym is)
-    (talk_replied c from t old seen held queue waiting come come' (put_of point) reply how k next (point_replied c old.counts point old.seen seen old.queue queue reply how r) g refl)
+    (talk_replied c from t old seen held queue waiting come come' request reply how k next r g still)
+request_replied c old request seen held queue waiting counts reply how (Some answer.WriteFault) come come' r g is still next from t le k = talk_unsent c from t old seen held queue come come' request reply how le k next r g
+request_replied c old request seen held queue waiting counts reply how (Some answer.End) come come' r g is still next from t le k = absurd g
+request_replied c old request seen held queue waiting counts reply how (Some answer.Exit) come come' r g is still next from t le k = absurd g
+request_replied c old request seen held queue waiting counts reply how (Some answer.Die) come come' r g is still next from t le k = absurd g
+request_replied c old request seen held queue waiting counts reply how (Some answer.Closed) come come' r g is still next from t le k = absurd g
+request_replied c old request seen held queue waiting counts reply how (Some answer.ReadFault) come come' r g is still next from t le k = absurd g
+request_replied c old request seen held queue waiting counts reply how (Some answer.ClockFault) come come' r g is still next from t le k = absurd g
+request_replied c old request seen held queue waiting counts reply how (Some answer.Stopped) come come' r g is still next from t le k = absurd g
+request_replied c old request seen held queue waiting counts reply how (Some answer.SessionFull) come come' r g is still next from t le k = absurd g
+request_replied c old request seen held queue waiting counts reply how (Some answer.OutOfMemory) come come' r g is still next from t le k = absurd g
 
-pub put_unsent : (c : Config) (old : Stand) (point : DataPoint) (seen : Seen) (held : Option (List ℕ)) (queue : List Stored) (waiting : List ℕ) (counts : Counts) (reply : List ℕ) (how : Counted) (come come' : Requests)
-    → PointReplied c point old.seen old.queue reply how seen queue → GivesSome old.held held (old.waiting ++ reply) → IsNext (put_of point) come come'
-    → Moves c old come (record { seen = seen; held = held; queue = queue; waiting = waiting; counts = counts }) come' (Some answer.WriteFault)
-put_unsent c old point seen held queue waiting counts reply how come come' r g next from t le k =
-    talk_unsent c from t old seen held queue come come' (put_of point) reply how le k next (point_replied c old.counts point old.seen seen old.queue queue reply how r) g
+-- it was answered, and closes
+pub request_last : (c : Config) (old : Stand) (request : ConnRequest) (seen : Seen) (held : Option (List ℕ)) (queue : List Stored) (waiting : List ℕ) (counts : Counts) (reply : List ℕ) (how : Counted) (end result : Served) (come come' : Requests)
+    → Replied c old.counts request old.seen old.queue reply how seen queue → GivesLast old.held held (old.waiting ++ reply) end result → end_of request ≡ Some end → IsNext request come come'
+    → Moves c old come (record { seen = seen; held = held; queue = queue; waiting = waiting; counts = counts }) come' (Some result)
+request_last c old request seen held queue waiting counts reply how end result come come' r (inl (g, same)) ends next from t le k =
+    subst (λ (x : Served). Ends c from t.taken t.left x seen held queue) (sym same) (talk_closed c from t old seen held queue come come' request reply how end le k next r g ends)
+request_last c old request seen held queue waiting counts reply how end result come come' r (inr (g, same)) ends next from t le k =
+    subst (λ (x : Served). Ends c from t.taken t.left x seen held queue) (sym same) (talk_unsent c from t old seen held queue come come' request reply how le k next r g)
 
-pub put_begun : (c : Config) (old : Stand) (point : DataPoint) (seen : Seen) (queue : List Stored) (come come' : Requests)
-    → WasBegun c (Some point) old.seen seen → queue ≡ old.queue → old.waiting ≡ [] → IsNext (put_of point) come come'
-    → Moves c old come (record { seen = seen; held = old.held; queue = queue; waiting = old.waiting; counts = old.counts }) come' (Some answer.OutOfMemory)
-    × Moves c old come (record { seen = seen; held = old.held; queue = queue; waiting = old.waiting; counts = old.counts }) come' (Some answer.Stopped)
-put_begun c old point seen queue come come' b same none next = (
-  λ from t le k. subst (λ (q : List Stored). Ends c from t.taken t.left answer.OutOfMemory seen old.held q) (sym same) (talk_begun c from t old seen come come' (put_of point) le k next b none).0,
-  λ from t le k. subst (λ (q : List Stored). Ends c from t.taken t.left answer.Stopped seen old.held q) (sym same) (talk_begun c from t old seen come come' (put_of point) le k next b none).1,
-)
+-- it was begun, where no reply waits
+pub request_begun : (c : Config) (old : Stand) (request : ConnRequest) (seen : Seen) (queue : List Stored) (end : Served) (come come' : Requests)
+    → WasBegun c request old.seen old.queue seen queue → old.waiting ≡ [] → BreaksSo end → IsNext request come come'
+    → Moves c old come (record { seen = seen; held = old.held; queue = queue; waiting = old.waiting; counts = old.counts }) come' (Some end)
+request_begun c old request seen queue end come come' b none so next from t le k = talk_begun c from t old seen queue come come' request end le k next b none so
 
 -- what waited was given first
 pub gave_first : (c : Config) (old : Stand) (held : Option (List ℕ)) (waiting : List ℕ) (new : Stand) (come come' : Requests) (result : Option Served)
@@ -66,15 +67,18 @@ pub first_failed : (c : Config) (old : Stand) (held : Option (List ℕ)) (waitin
     → Moves c old come (record { seen = old.seen; held = held; queue = old.queue; waiting = waiting; counts = old.counts }) come' (Some answer.WriteFault)
 first_failed c old held waiting come come' g from t le k = talk_failed c from t old held come le k g
 
+-- one after the other
+pub moves_on : (c : Config) (old mid new : Stand) (come come' come'' : Requests) (result : Option Served) → Moves c old come mid come' None → Moves c mid come' new come'' result → Moves c old come new come'' result
+moves_on c old mid new come come' come'' result a b from t le k = b from t le (a from t le k)
+
 -- ---- requests that ask for no step
 
-fixed_replied : (c : Config) (counts : Counts) (request : ConnRequest) (seen : Seen) (queue : List Stored) (reply : List ℕ) → point_in request ≡ None → reply ≡ fixed_reply counts request
-    → Replied c counts request (point_in request) seen queue reply (counted_as request []) seen queue
-fixed_replied c counts request seen queue reply none is = record {
-  own = [];
+nothing_done : (seen : Seen) (c : Config) (counts : Counts) (request : Request) (reply : List ℕ) → point_asked request ≡ None → reply ≡ fixed_reply counts request → (queue : List Stored)
+    → Replied c counts (Telnet request) seen queue reply (counted_as (Telnet request) []) seen queue
+nothing_done seen c counts request reply none is queue = record {
   stored = [];
-  made = nothing_made seen;
-  answered = λ h l f. subst (λ (point : Option DataPoint). AnsweredBy c (first seen.length h) [] counts request point reply []) (sym none) (refl, is, refl);
+  since = (nothing_made seen).since;
+  answered = λ h l f. subst (λ (point : Option DataPoint). AnsweredBy c (first seen.length h) (deeds h seen.caller seen.length seen.length) counts request point reply []) (sym none) ((nothing_made seen).made h f, is, refl);
   rows = rows_none queue;
   how_is = refl;
 }
@@ -84,32 +88,14 @@ pub fixed_broken : (request : ConnRequest) (held held' : Option (List ℕ)) (wai
 fixed_broken request held held' waiting waiting' counts counts' result g c seen queue come come' next from t le k =
     talk_broken c from t (record { seen = seen; held = held; queue = queue; waiting = waiting; counts = counts }) held' result come le k g
 
-pub fixed_last : (request : ConnRequest) (held held' : Option (List ℕ)) (waiting waiting' : List ℕ) (counts counts' : Counts) (reply : List ℕ) (end result : Served) → point_in request ≡ None → reply ≡ fixed_reply counts request → end_of request ≡ Some end
-    → GivesLast held held' (waiting ++ reply) end result → FixedMoves request held waiting counts (Some result) held' waiting' counts'
-fixed_last request held held' waiting waiting' counts counts' reply end result none is ends (inl (g, same)) c seen queue come come' next from t le k =
-    subst (λ (r : Served). Ends c from t.taken t.left r seen held' queue) (sym same)
-    (talk_closed c from t (record { seen = seen; held = held; queue = queue; waiting = waiting; counts = counts }) seen held' queue come come' request reply (counted_as request []) end le k next (fixed_replied c counts request seen queue reply none is) g ends)
-fixed_last request held held' waiting waiting' counts counts' reply end result none is ends (inr (g, same)) c seen queue come come' next from t le k =
-    subst (λ (r : Served). Ends c from t.taken t.left r seen held' queue) (sym same)
-    (talk_unsent c from t (record { seen = seen; held = held; queue = queue; waiting = waiting; counts = counts }) seen held' queue come come' request reply (counted_as request []) le k next (fixed_replied c counts request seen queue reply none is) g)
+pub fixed_last : (request : Request) (held held' : Option (List ℕ)) (waiting waiting' : List ℕ) (counts counts' : Counts) (reply : List ℕ) (end result : Served) → point_asked request ≡ None → reply ≡ fixed_reply counts request → end_of (Telnet request) ≡ Some end
+    → GivesLast held held' (waiting ++ reply) end result → FixedMoves (Telnet request) held waiting counts (Some result) held' waiting' counts'
+fixed_last request held held' waiting waiting' counts counts' reply end result none is ends g c seen queue come come' next =
+    request_last c (record { seen = seen; held = held; queue = queue; waiting = waiting; counts = counts }) (Telnet request) seen held' queue waiting' counts' reply (counted_as (Telnet request) []) end result come come'
+    (nothing_done seen c counts request reply none is queue) g ends next
 
-pub fixed_told : (request : ConnRequest) (held held' : Option (List ℕ)) (waiting waiting' : List ℕ) (counts counts' : Counts) (reply : List ℕ) (result : Option Served) → point_in request ≡ None → reply ≡ fixed_reply counts request → end_of request ≡ None
-    → GivesReply held held' (waiting ++ reply) waiting' result → counts' ≡ counts_with counts (counted_as request []) → FixedMoves request held waiting counts result held' waiting' counts'
-fixed_told request held held' waiting waiting' counts counts' reply None none is still g more c seen queue come come' next from t le k =
-    subst (λ (n : Counts). Talks c from t (record { seen = seen; held = held'; queue = queue; waiting = waiting'; counts = n }) come') (sym more)
-    (talk_replied c from t (record { seen = seen; held = held; queue = queue; waiting = waiting; counts = counts }) seen held' queue waiting' come come' request reply (counted_as request []) k next (fixed_replied c counts request seen queue reply none is) g (goes_on request still))
-fixed_told request held held' waiting waiting' counts counts' reply (Some answer.WriteFault) none is still g more c seen queue come come' next from t le k =
-    talk_unsent c from t (record { seen = seen; held = held; queue = queue; waiting = waiting; counts = counts }) seen held' queue come come' request reply (counted_as request []) le k next (fixed_replied c counts request seen queue reply none is) g
-fixed_told request held held' waiting waiting' counts counts' reply (Some answer.End) none is still g more c seen queue come come' next from t le k = absurd g
-fixed_told request held held' waiting waiting' counts counts' reply (Some answer.Exit) none is still g more c seen queue come come' next from t le k = absurd g
-fixed_told request held held' waiting waiting' counts counts' reply (Some answer.Die) none is still g more c seen queue come come' next from t le k = absurd g
-fixed_told request held held' waiting waiting' counts counts' reply (Some answer.Closed) none is still g more c seen queue come come' next from t le k = absurd g
-fixed_told request held held' waiting waiting' counts counts' reply (Some answer.ReadFault) none is still g more c seen queue come come' next from t le k = absurd g
-fixed_told request held held' waiting waiting' counts counts' reply (Some answer.ClockFault) none is still g more c seen queue come come' next from t le k = absurd g
-fixed_told request held held' waiting waiting' counts counts' reply (Some answer.Stopped) none is still g more c seen queue come come' next from t le k = absurd g
-fixed_told request held held' waiting waiting' counts counts' reply (Some answer.SessionFull) none is still g more c seen queue come come' next from t le k = absurd g
-fixed_told request held held' waiting waiting' counts counts' reply (Some answer.OutOfMemory) none is still g more c seen queue come come' next from t le k = absurd g
-
--- one after the other
-pub moves_on : (c : Config) (old mid new : Stand) (come come' come'' : Requests) (result : Option Served) → Moves c old come mid come' None → Moves c mid come' new come'' result → Moves c old come new come'' result
-moves_on c old mid new come come' come'' result a b from t le k = b from t le (a from t le k)
+pub fixed_told : (request : Request) (held held' : Option (List ℕ)) (waiting waiting' : List ℕ) (counts counts' : Counts) (reply : List ℕ) (result : Option Served) → point_asked request ≡ None → reply ≡ fixed_reply counts request → end_of (Telnet request) ≡ None
+    → GivesReply held held' (waiting ++ reply) waiting' result → counts' ≡ counts_with counts (counted_as (Telnet request) []) → FixedMoves (Telnet request) held waiting counts result held' waiting' counts'
+fixed_told request held held' waiting waiting' counts counts' reply result none is still g more c seen queue come come' next =
+    request_replied c (record { seen = seen; held = held; queue = queue; waiting = waiting; counts = counts }) (Telnet request) seen held' queue waiting' counts' reply (counted_as (Telnet request) []) result come come'
+    (nothing_done seen c counts request reply none is queue) g more still next

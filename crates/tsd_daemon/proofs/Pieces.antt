@@ -11,7 +11,8 @@ use Rattle.tsd_daemon.specs.declared.served.Served.TheVariants as answer
 use Rattle.tsd_daemon.specs.ConnPieces.{PieceTaken, TakesNext}
 use Rattle.tsd_daemon.specs.ConnRequests.{ConnRequest}
 use Rattle.tsd_daemon.specs.ConnRequests.ConnRequest.{Telnet}
-use Rattle.tsd_daemon.specs.Talks.{Causes, ConnCauses, Ends, Gives, HasConnCause, HasEndCause, IsNext, PieceMoves, Stand, Start, Talks, telnet_to_come}
+use Rattle.tsd_daemon.specs.ServedConns.{ConnCauses, HasConnCause}
+use Rattle.tsd_daemon.specs.Talks.{Causes, Ends, Gives, HasEndCause, IsNext, PieceMoves, Stand, Start, Talks, telnet_to_come}
 use Rattle.tsd_daemon.proofs.Talking.{Quiet, talk_failed, talk_gave, talk_quiet, talk_took}
 
 -- ---- causes
@@ -30,7 +31,7 @@ later_cause a b d s s' s'' (Some answer.Exit) le sle h = tt
 later_cause a b d s s' s'' (Some answer.Die) le sle h = tt
 later_cause a b d s s' s'' (Some answer.OutOfMemory) le sle h = tt
 later_cause a b d s s' s'' (Some answer.End) le sle h = absurd h
-later_cause a b d s s' s'' (Some answer.Closed) le sle h = absurd h
+later_cause a b d s s' s'' (Some answer.Closed) le sle h = tt
 later_cause a b d s s' s'' (Some answer.ReadFault) le sle h = absurd h
 later_cause a b d s s' s'' (Some answer.ClockFault) le sle h = absurd h
 later_cause a b d s s' s'' (Some answer.SessionFull) le sle h = absurd h

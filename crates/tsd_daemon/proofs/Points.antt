@@ -1,63 +1,72 @@
 -- What the answering of a point says.
-use Rattle.std.proofs.Common.{◌≡◌, ◌⊎◌, inl, inr, ℕ, true, false, List, [], ◌∷◌, refl, sym, subst}
-use Rattle.std.specs.Prelude.{Bool, Some, Result, Ok, Err, IfOk, IfErr, Contains}
-use Rattle.list_lemmas.proofs.ListMembers.{here, not_in, split}
+use Rattle.std.proofs.Common.{◌≡◌, ℕ, List, [], ◌∷◌, refl, subst, sym}
+use Rattle.std.specs.Prelude.{Result, Ok, Err, IfOk}
 use Rattle.tsd_base.specs.Points.{DataPoint}
 use Rattle.cell_model.specs.declared.answers.RowsFault.{RowsFault}
-use Rattle.cell_model.specs.declared.answers.RowsFault.TheVariants as fault
 use Rattle.cell_model.specs.declared.answers.Stored.{Stored}
-use Rattle.cell_model.specs.Seen.{Seen, RoseIfStopped}
-use Rattle.compactor.specs.Queues.{AddMade}
+use Rattle.cell_model.specs.History.{first}
+use Rattle.cell_model.specs.Seen.{Seen}
+use Rattle.cell_model.specs.Deeds.{deeds}
+use Rattle.compactor.specs.Queues.{HasRows}
+use Rattle.compactor.proofs.CallerLemmas.{rows_none}
 use Rattle.point_put.specs.declared.config.Config.{Config}
 use Rattle.point_put.specs.declared.fault.PutFault.{PutFault}
-use Rattle.point_put.specs.PutPoint.{PutSays}
+use Rattle.point_put.specs.declared.fault.PutFault.TheVariants.{Unknown, Exhausted, OutOfMemory, Stopped}
+use Rattle.point_put.specs.PutPoint.{PointAsked, PutSays}
+use Rattle.queued_put.specs.QueuedPuts.{FailsQueued, PutsQueued}
+use Rattle.queued_put.proofs.CallerLemmas.{may_have}
+use Rattle.tsd_daemon.specs.declared.counts.Counts.{Counts}
+use Rattle.tsd_daemon.specs.declared.counts.Counted.{Counted}
 use Rattle.tsd_daemon.specs.declared.counts.Counted.TheVariants as counted
 use Rattle.tsd_daemon.specs.declared.point_answer.Answer.{Answer}
-use Rattle.tsd_daemon.specs.PointAnswers.{IsRefusal, PointReplied}
-use Rattle.tsd_daemon.specs.ServedConns.{HasRows}
-use Rattle.tsd_daemon.specs.Talks.{WasBegun}
-use Rattle.tsd_daemon.proofs.TalkLemmas.{rows_none}
+use Rattle.tsd_daemon.specs.ConnReplies.{IsTold}
+use Rattle.tsd_daemon.specs.PointAnswers.{IsRefusal, put_of}
+use Rattle.tsd_daemon.specs.Talks.{Replied, WasBegun, counted_put}
 
-pub added_row : (old : List Stored) (stored : Stored) (added : Bool) (new : List Stored) → AddMade old stored added new → HasRows old (stored ∷ []) new
-added_row old stored true new a s = (λ has. out ((a.each s).0 has), λ had. (a.each s).1 (into had))
-  where
-    out : Contains old s ⊎ (s ≡ stored) → Contains old s ⊎ Contains (stored ∷ []) s
-    out (inl had) = inl had
-    out (inr same) = inr (subst (λ (x : Stored). Contains (x ∷ []) s) same (here s []))
+-- a point was asked with this outcome, which is told so
+point_replied : (c : Config) (counts : Counts) (point : DataPoint) (old new : Seen) (before after : List Stored) (outcome : Result Stored PutFault) (reply : List ℕ) (stored : List Stored) → PutSays c point old outcome new
+    → IsTold outcome reply stored → HasRows before stored after → Replied c counts (put_of point) old before reply (counted_put stored) new after
+point_replied c counts point old new before after outcome reply stored (own, made, asked) told rows = record {
+  stored = stored;
+  since = made.since;
+  answered = λ h l f. (outcome, subst (λ own. PointAsked c point (first new.length h) own outcome) (sym (made.made h f)) (asked h l f), told);
+  rows = rows;
+  how_is = refl;
+}
 
-    one : (stored ≡ s) ⊎ Contains [] s → Contains old s ⊎ (s ≡ stored)
-    one (inl same) = inr (sym same)
-    one (inr none) = absurd (not_in s none)
+pub accepted_replied : (c : Config) (counts : Counts) (point : DataPoint) (old new : Seen) (before after : List Stored) (answer : Answer) → PutsQueued c point old before new after → answer.reply.items ≡ [] → answer.counted ≡ counted.Accepted
+    → Replied c counts (put_of point) old before answer.reply.items answer.counted new after
+accepted_replied c counts point old new before after answer p quiet how =
+    subst (λ (how : Counted). Replied c counts (put_of point) old before answer.reply.items how new after) (sym how) (point_replied c counts point old new before after (Ok p.stored) answer.reply.items (p.stored ∷ []) p.says (quiet, refl) p.rows)
 
-    into : Contains old s ⊎ Contains (stored ∷ []) s → Contains old s ⊎ (s ≡ stored)
-    into (inl had) = inl had
-    into (inr row) = one (split stored s [] row)
-added_row old stored false new a s = (λ has. inl (subst (λ (q : List Stored). Contains q s) a.1 has), into)
-  where
-    one : (stored ≡ s) ⊎ Contains [] s → Contains new s
-    one (inl same) = subst (λ (x : Stored). Contains new x) same (subst (λ (q : List Stored). Contains q stored) (sym a.1) a.0)
-    one (inr none) = absurd (not_in s none)
+refusal_replied : (c : Config) (counts : Counts) (point : DataPoint) (old new : Seen) (queue : List Stored) (fault : PutFault) (reply : List ℕ) → FailsQueued c point old fault new → IsRefusal fault reply
+    → Replied c counts (put_of point) old queue reply counted.Refused new queue
+refusal_replied c counts point old new queue (Unknown kind name) reply says told = point_replied c counts point old new queue queue (Err (Unknown kind name)) reply [] says told (rows_none queue)
+refusal_replied c counts point old new queue (Exhausted kind) reply says told = point_replied c counts point old new queue queue (Err (Exhausted kind)) reply [] says told (rows_none queue)
+refusal_replied c counts point old new queue OutOfMemory reply says told = absurd told
+refusal_replied c counts point old new queue Stopped reply says told = absurd told
 
-    into : Contains old s ⊎ Contains (stored ∷ []) s → Contains new s
-    into (inl had) = subst (λ (q : List Stored). Contains q s) (sym a.1) had
-    into (inr row) = one (split stored s [] row)
-
--- whatever a put answered, it was begun
-pub says_begun : (c : Config) (point : DataPoint) (old new : Seen) (r : Result Stored PutFault) → PutSays c point old r new → WasBegun c (Some point) old new
-says_begun c point old new r s = record { own = s.0; made = s.1; begun = λ h l f. (r, s.2 h l f) }
-
-pub accepted_replied : (c : Config) (point : DataPoint) (old new : Seen) (before after : List Stored) (stored : Stored) (r : Result Answer RowsFault) → PutSays c point old (Ok stored) new
-    → IfOk r (λ answer. answer.reply.items ≡ []) → IfOk r (λ answer. answer.counted ≡ counted.Accepted) → IfOk r (λ answer. HasRows before (stored ∷ []) after)
-    → IfOk r (λ answer. PointReplied c point old before answer.reply.items answer.counted new after)
-accepted_replied c point old new before after stored (Ok answer) s reply how rows = record { own = s.0; outcome = Ok stored; stored = stored ∷ []; made = s.1; asked = s.2; told = (reply, refl); rows = rows; how_is = how }
-accepted_replied c point old new before after stored (Err e) s reply how rows = tt
-
-pub refused_replied : (c : Config) (point : DataPoint) (old new : Seen) (queue : List Stored) (fault : PutFault) (r : Result Answer RowsFault) → PutSays c point old (Err fault) new
+pub refused_replied : (c : Config) (point : DataPoint) (old new : Seen) (before after : List Stored) (fault : PutFault) (r : Result Answer RowsFault) → FailsQueued c point old fault new → after ≡ before
     → IfOk r (λ answer. IsRefusal fault answer.reply.items) → IfOk r (λ answer. answer.counted ≡ counted.Refused)
-    → IfOk r (λ answer. PointReplied c point old queue answer.reply.items answer.counted new queue)
-refused_replied c point old new queue fault (Ok answer) s told how = record { own = s.0; outcome = Err fault; stored = []; made = s.1; asked = s.2; told = told; rows = rows_none queue; how_is = how }
-refused_replied c point old new queue fault (Err e) s told how = tt
+    → IfOk r (λ answer. (counts : Counts) → Replied c counts (put_of point) old before answer.reply.items answer.counted new after)
+refused_replied c point old new before after fault (Err e) says same told how = tt
+refused_replied c point old new before after fault (Ok answer) says same told how = λ counts.
+    subst (λ (how : Counted). Replied c counts (put_of point) old before answer.reply.items how new after) (sym how)
+    (subst (λ (queue : List Stored). Replied c counts (put_of point) old before answer.reply.items counted.Refused new queue) (sym same) (refusal_replied c counts point old new before fault answer.reply.items says told))
 
-pub memory_alone : {T : Type 0} (stops stops' : ℕ) (r : Result T RowsFault) → IfErr r (λ e. e ≡ fault.OutOfMemory) → IfErr r (RoseIfStopped stops stops')
-memory_alone stops stops' (Ok x) e = tt
-memory_alone stops stops' (Err f) e = subst (RoseIfStopped stops stops') (sym e) tt
+-- whatever came of it, it was begun
+pub failed_begun : (c : Config) (point : DataPoint) (old new : Seen) (before after : List Stored) (fault : PutFault) → FailsQueued c point old fault new → after ≡ before → WasBegun c (put_of point) old before new after
+failed_begun c point old new before after fault says same = at fault says
+  where
+    begun : (outcome : Result Stored PutFault) → PutSays c point old outcome new → WasBegun c (put_of point) old before new after
+    begun outcome (own, made, asked) = record {
+      since = made.since;
+      begun = λ h l f. (outcome, subst (λ own. PointAsked c point (first new.length h) own outcome) (sym (made.made h f)) (asked h l f));
+      rows = λ h l f. may_have before [] after (deeds h old.caller old.length new.length) (subst (λ (queue : List Stored). HasRows before [] queue) (sym same) (rows_none before));
+    }
+
+    at : (fault : PutFault) → FailsQueued c point old fault new → WasBegun c (put_of point) old before new after
+    at (Unknown kind name) says = begun (Err (Unknown kind name)) says
+    at (Exhausted kind) says = begun (Err (Exhausted kind)) says
+    at OutOfMemory (outcome, says) = begun outcome says
+    at Stopped says = begun (Err Stopped) says

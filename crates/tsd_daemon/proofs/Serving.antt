@@ -1,21 +1,17 @@
 -- A whole connection, from its first piece to its end.
-use Rattle.std.proofs.Common.{◌≡◌, ℕ, ◌^◌, ◌≤◌, ◌<◌, Bool, true, false, List, [], ◌∷◌, ◌++◌, map, length, refl, sym, ap, subst, arith}
+use Rattle.std.proofs.Common.{◌≡◌, ℕ, ◌^◌, ◌≤◌, ◌<◌, Bool, List, [], ◌∷◌, ◌++◌, length, refl, sym, ap, subst, arith}
 use Rattle.std.specs.Prelude.{Option, Some, Ok, Err, if◌then◌else◌}
 use Rattle.cell_model.specs.declared.answers.Stored.{Stored}
 use Rattle.cell_model.specs.Seen.{Seen}
-use Rattle.telnet_put.specs.Requests.{requests_of}
 use Rattle.point_put.specs.declared.config.Config.{Config}
 use Rattle.tsd_daemon.specs.declared.served.Served.{Served}
 use Rattle.tsd_daemon.specs.declared.served.Served.TheVariants as answer
-use Rattle.tsd_daemon.specs.declared.counts.Counts.{Counts}
 use Rattle.tsd_daemon.specs.ConnPieces.{PieceTaken, TakesNext, no_piece}
-use Rattle.tsd_daemon.specs.ConnReplies.{fixed_reply, no_counts, not_built}
-use Rattle.tsd_daemon.specs.ConnRequests.{begins_unbuilt, conn_requests}
-use Rattle.tsd_daemon.specs.ConnRequests.ConnRequest.{Telnet, Unbuilt}
-use Rattle.tsd_daemon.specs.ServedConns.{Passes, QueuesBytes, ServesBytes}
-use Rattle.tsd_daemon.specs.Talks.{ConnCauses, Ends, GivesLast, HasConnCause, HasEndCause, Stand, Start, Talks}
+use Rattle.tsd_daemon.specs.ConnReplies.{no_counts}
+use Rattle.tsd_daemon.specs.ConnRequests.{begins_http, conn_requests, http_asks, telnet_asks}
+use Rattle.tsd_daemon.specs.ServedConns.{ConnCauses, HasConnCause, Passes, QueuesBytes, ServesBytes}
+use Rattle.tsd_daemon.specs.Talks.{Ends, HasEndCause, Stand, Start, Talks}
 use Rattle.tsd_daemon.proofs.Giving.{gave_none}
-use Rattle.tsd_daemon.proofs.Moving.{fixed_last}
 use Rattle.tsd_daemon.proofs.Pieces.{piece_moved, talk_no_piece, talk_piece}
 use Rattle.tsd_daemon.proofs.Talking.{talk_come, talk_memory, talk_start}
 
@@ -60,29 +56,19 @@ first_piece : (c : Config) (seen : Seen) (taken left taken' left' held : Option 
 first_piece c seen taken left taken' left' held queue input new none t =
     talk_piece c (start_of seen taken left held queue) taken left taken' left' (first_stand seen held queue) held input new conn_requests (started c seen taken left held queue input none) (piece_moved taken taken' left left' held held [] input new (Ok tt) (gave_none held []) t)
 
-chosen : (piece more : List ℕ) (b : Bool) → 0 < length piece → begins_unbuilt piece ≡ b → conn_requests (piece ++ more) ≡ (if b then Unbuilt ∷ [] else map Telnet (requests_of (piece ++ more)))
+chosen : (piece more : List ℕ) (b : Bool) → 0 < length piece → begins_http piece ≡ b → conn_requests (piece ++ more) ≡ (if b then http_asks (piece ++ more) else telnet_asks (piece ++ more))
 chosen [] more b some e = absurd (omega (arith, some))
-chosen (byte ∷ piece) more b some e = ap (λ (t : Bool). if t then Unbuilt ∷ [] else map Telnet (requests_of ((byte ∷ piece) ++ more))) e
+chosen (byte ∷ piece) more b some e = ap (λ (t : Bool). if t then http_asks ((byte ∷ piece) ++ more) else telnet_asks ((byte ∷ piece) ++ more)) e
 
 some_bytes : (new : PieceTaken) (more : List ℕ) → (new.piece ≡ more) × (0 < length more) → 0 < length new.piece
 some_bytes new more (is, some) = subst (λ (p : List ℕ). 0 < length p) (sym is) some
 
-told_unbuilt : (counts : Counts) → not_built ≡ fixed_reply counts Unbuilt
-unfolding fixed_reply
-told_unbuilt counts = refl
-
-pub unbuilt_refused : (c : Config) (seen : Seen) (taken left taken' left' held held' : Option (List ℕ)) (queue : List Stored) (input new : PieceTaken) (result : Served) → input ≡ no_piece → TakesNext taken taken' left left' input (Ok tt) new
-    → begins_unbuilt new.piece ≡ true → GivesLast held held' not_built answer.Closed result → Ends c (start_of seen taken left held queue) taken' left' result seen held' queue
-unbuilt_refused c seen taken left taken' left' held held' queue input new result none t begins g =
-    fixed_last Unbuilt held held' [] [] no_counts no_counts not_built answer.Closed result refl (told_unbuilt no_counts) refl g c seen queue (λ more. conn_requests (new.piece ++ more)) (λ more. [])
-    (record { next = λ more. chosen new.piece more true (some_bytes new t.more t.next) begins; last = λ closes more. refl })
-    (start_of seen taken left held queue) (record { taken = taken'; left = left'; size = new.taken }) t.most (first_piece c seen taken left taken' left' held queue input new none t)
-
-pub telnet_begins : (c : Config) (seen : Seen) (taken left taken' left' held : Option (List ℕ)) (queue : List Stored) (input new : PieceTaken) → input ≡ no_piece → TakesNext taken taken' left left' input (Ok tt) new
-    → begins_unbuilt new.piece ≡ false → Talks c (start_of seen taken left held queue) (record { taken = taken'; left = left'; size = new.taken }) (first_stand seen held queue) (λ more. map Telnet (requests_of (new.piece ++ more)))
-telnet_begins c seen taken left taken' left' held queue input new none t begins =
-    talk_come c (start_of seen taken left held queue) _ _ (λ more. conn_requests (new.piece ++ more)) (λ more. map Telnet (requests_of (new.piece ++ more))) (first_piece c seen taken left taken' left' held queue input new none t)
-    (λ more. sym (chosen new.piece more false (some_bytes new t.more t.next) begins))
+-- the first byte decides what is asked
+pub begins : (c : Config) (seen : Seen) (taken left taken' left' held : Option (List ℕ)) (queue : List Stored) (input new : PieceTaken) (b : Bool) → input ≡ no_piece → TakesNext taken taken' left left' input (Ok tt) new → begins_http new.piece ≡ b
+    → Talks c (start_of seen taken left held queue) (record { taken = taken'; left = left'; size = new.taken }) (first_stand seen held queue) (λ more. if b then http_asks (new.piece ++ more) else telnet_asks (new.piece ++ more))
+begins c seen taken left taken' left' held queue input new b none t is =
+    talk_come c (start_of seen taken left held queue) _ _ (λ more. conn_requests (new.piece ++ more)) (λ more. if b then http_asks (new.piece ++ more) else telnet_asks (new.piece ++ more)) (first_piece c seen taken left taken' left' held queue input new none t)
+    (λ more. sym (chosen new.piece more b (some_bytes new t.more t.next) is))
 
 -- ---- causes
 

@@ -1,25 +1,27 @@
 -- Exchanges that were done, and one more.
-use Rattle.std.proofs.Common.{◌≡◌, ◌⊎◌, inl, inr, ℕ, ◌+◌, ◌^◌, ◌≤◌, Bool, true, false, ◌||◌, List, [], ◌∷◌, ◌++◌, length, refl, sym, ap, subst, ◌∙◌, append_assoc, append-nil, arith}
-use Rattle.std.specs.Prelude.{None, Some, Contains, filter, if◌then◌else◌}
+use Rattle.std.proofs.Common.{◌≡◌, ℕ, ◌+◌, ◌^◌, ◌≤◌, Bool, true, false, ◌||◌, List, [], ◌∷◌, ◌++◌, length, refl, sym, ap, subst, ◌∙◌, append_assoc, append-nil, arith}
+use Rattle.std.specs.Prelude.{None, Some, filter, if◌then◌else◌}
 use Rattle.std.specs.List.{list_any}
-use Rattle.std.proofs.lemmas.List.Elements.{Contains-append_left, Contains-append_right, Contains-append_cases}
 use Rattle.list_lemmas.proofs.ListCuts.{filter_join}
 use Rattle.list_lemmas.proofs.ListParts.{length_push}
-use Rattle.list_lemmas.proofs.ListMembers.{not_in}
 use Rattle.list_lemmas.proofs.BoolTests.{not_Some, same_Some}
 use Rattle.cell_model.specs.declared.answers.Stored.{Stored}
 use Rattle.cell_model.specs.declared.events.Placed.{Placed}
 use Rattle.cell_model.specs.History.{History}
+use Rattle.cell_model.specs.Deeds.{deeds}
+use Rattle.compactor.specs.Queues.{HasRows}
 use Rattle.point_put.specs.declared.config.Config.{Config}
+use Rattle.queued_put.specs.PutRows.{MayHaveRows}
 use Rattle.telnet_put.specs.Requests.Request.{Put, Version, Help, Stats, DropCaches, Exit, Die, TooLong, Other}
+use Rattle.http_exchange.specs.declared.http_call.Call.{Call}
 use Rattle.tsd_daemon.specs.declared.counts.Counts.{Counts}
 use Rattle.tsd_daemon.specs.declared.served.Served.{Served}
 use Rattle.tsd_daemon.specs.declared.served.Served.TheVariants as answer
-use Rattle.tsd_daemon.specs.ConnRequests.{ConnRequest, closes_conn}
-use Rattle.tsd_daemon.specs.ConnRequests.ConnRequest.{Telnet, Unbuilt}
+use Rattle.tsd_daemon.specs.ConnRequests.{ConnRequest, closes_conn, end_of}
+use Rattle.tsd_daemon.specs.ConnRequests.ConnRequest.{Telnet, Http}
 use Rattle.tsd_daemon.specs.ConnReplies.{counts_with, one_more}
 use Rattle.tsd_daemon.specs.Exchanges.{Exchange, counted, counts_of, is_accepted, is_put, is_refused, replies_in, requests_in, rows_in}
-use Rattle.tsd_daemon.specs.ServedConns.{Closes, Fills, HasRows, MayHaveRows, QueueTable, Table, end_of}
+use Rattle.tsd_daemon.specs.ServedConns.{BreaksOff, Closes, Fills, QueueTable, Table}
 use Rattle.tsd_daemon.specs.Talks.{counted_if}
 
 -- ---- lists of exchanges
@@ -89,58 +91,26 @@ counts_push done x = at (is_put x.request) x.stored (count_push accepted done x)
     at true [] a r = same_counts _ _ _ _ _ _ all (counted_same _ _ (a false refl)) (counted_more _ _ (r true refl))
     at false stored a r = same_counts _ _ _ _ _ _ all (counted_same _ _ (a false refl)) (counted_same _ _ (r false refl))
 
--- ---- rows of the queue
-
-pub rows_none : (before : List Stored) → HasRows before [] before
-rows_none before s = (λ has. inl has, λ had. at had)
-  where
-    at : Contains before s ⊎ Contains [] s → Contains before s
-    at (inl had) = had
-    at (inr none) = absurd (not_in s none)
-
-pub rows_joined : (before mid after rows more : List Stored) → HasRows before rows mid → HasRows mid more after → HasRows before (rows ++ more) after
-rows_joined before mid after rows more one two s = (λ has. out ((two s).0 has), λ had. (two s).1 (into had))
-  where
-    out' : Contains before s ⊎ Contains rows s → Contains before s ⊎ Contains (rows ++ more) s
-    out' (inl had) = inl had
-    out' (inr row) = inr (Contains-append_left rows more s row)
-
-    out : Contains mid s ⊎ Contains more s → Contains before s ⊎ Contains (rows ++ more) s
-    out (inl had) = out' ((one s).0 had)
-    out (inr row) = inr (Contains-append_right rows more s row)
-
-    into' : Contains rows s ⊎ Contains more s → Contains mid s ⊎ Contains more s
-    into' (inl row) = inl ((one s).1 (inr row))
-    into' (inr row) = inr row
-
-    into : Contains before s ⊎ Contains (rows ++ more) s → Contains mid s ⊎ Contains more s
-    into (inl had) = inl ((one s).1 (inl had))
-    into (inr row) = into' (Contains-append_cases rows more s row)
-
-pub may_have : (before rows after : List Stored) (later : List Placed) → HasRows before rows after → MayHaveRows before rows later after
-may_have before rows after later has = record { kept = λ s had. (has s).1 had; most = λ s there. inl ((has s).0 there) }
-
 -- ---- requests that end a connection
 
 pub record ClosesSo (request : ConnRequest) (end : Served) : Type 0 where
-  pub table : (c : Config) (h : History) (done : List Exchange) (input output : List ℕ) (later : List Placed) → Closes request done input output later → Table end c h done input output later
+  pub table : (c : Config) (h : History) (caller n n2 : ℕ) (done : List Exchange) (input output : List ℕ) → Closes end done input output (deeds h caller n n2) → Table end c h caller n n2 done input output
   pub queue : (before rows : List Stored) (later : List Placed) (after : List Stored) → HasRows before rows after → QueueTable end before rows later after
   pub fills : (count : ℕ) → count ≤ 2 ^ 40 → Fills end count
   pub closes : closes_conn request ≡ true
 
 exits : ClosesSo (Telnet Exit) answer.Exit
-exits = record { table = λ c h done input output later t. t; queue = λ before rows later after q. q; fills = λ count le. le; closes = refl }
+exits = record { table = λ c h caller n n2 done input output t. t; queue = λ before rows later after q. q; fills = λ count le. le; closes = refl }
 
 dies : ClosesSo (Telnet Die) answer.Die
-dies = record { table = λ c h done input output later t. t; queue = λ before rows later after q. q; fills = λ count le. le; closes = refl }
+dies = record { table = λ c h caller n n2 done input output t. t; queue = λ before rows later after q. q; fills = λ count le. le; closes = refl }
 
-pub unbuilt_closes : ClosesSo Unbuilt answer.Closed
-unbuilt_closes = record { table = λ c h done input output later t. t; queue = λ before rows later after q. q; fills = λ count le. le; closes = refl }
+call_closes : (call : Call) → call.closing ≡ true → ClosesSo (Http call) answer.Closed
+call_closes call is = record { table = λ c h caller n n2 done input output t. t; queue = λ before rows later after q. q; fills = λ count le. le; closes = is }
 
 pub closes_so : (request : ConnRequest) (end : Served) → end_of request ≡ Some end → ClosesSo request end
 closes_so (Telnet Exit) end e = subst (λ r. ClosesSo (Telnet Exit) r) (same_Some _ _ e) exits
 closes_so (Telnet Die) end e = subst (λ r. ClosesSo (Telnet Die) r) (same_Some _ _ e) dies
-closes_so Unbuilt end e = subst (λ r. ClosesSo Unbuilt r) (same_Some _ _ e) unbuilt_closes
 closes_so (Telnet (Put p)) end e = absurd (not_Some end (sym e))
 closes_so (Telnet Version) end e = absurd (not_Some end (sym e))
 closes_so (Telnet Help) end e = absurd (not_Some end (sym e))
@@ -148,11 +118,15 @@ closes_so (Telnet Stats) end e = absurd (not_Some end (sym e))
 closes_so (Telnet DropCaches) end e = absurd (not_Some end (sym e))
 closes_so (Telnet TooLong) end e = absurd (not_Some end (sym e))
 closes_so (Telnet Other) end e = absurd (not_Some end (sym e))
+closes_so (Http call) end e = at call.closing refl e
+  where
+    at : (t : Bool) → call.closing ≡ t → (if t then Some answer.Closed else None) ≡ Some end → ClosesSo (Http call) end
+    at true is e = subst (λ r. ClosesSo (Http call) r) (same_Some _ _ e) (call_closes call is)
+    at false is e = absurd (not_Some end (sym e))
 
 pub goes_on : (request : ConnRequest) → end_of request ≡ None → closes_conn request ≡ false
 goes_on (Telnet Exit) e = absurd (not_Some _ e)
 goes_on (Telnet Die) e = absurd (not_Some _ e)
-goes_on Unbuilt e = absurd (not_Some _ e)
 goes_on (Telnet (Put p)) e = refl
 goes_on (Telnet Version) e = refl
 goes_on (Telnet Help) e = refl
@@ -160,3 +134,21 @@ goes_on (Telnet Stats) e = refl
 goes_on (Telnet DropCaches) e = refl
 goes_on (Telnet TooLong) e = refl
 goes_on (Telnet Other) e = refl
+goes_on (Http call) e = at call.closing e
+  where
+    at : (t : Bool) → (if t then Some answer.Closed else None) ≡ None → t ≡ false
+    at true e = absurd (not_Some _ e)
+    at false e = refl
+
+-- ---- answers behind which a request may have been begun
+
+pub record BreaksSo (end : Served) : Type 0 where
+  pub table : (c : Config) (h : History) (caller n n2 : ℕ) (done : List Exchange) (input output : List ℕ) → BreaksOff c h caller n n2 done input output → Table end c h caller n n2 done input output
+  pub queue : (before rows : List Stored) (later : List Placed) (after : List Stored) → MayHaveRows before rows later after → QueueTable end before rows later after
+  pub fills : (count : ℕ) → count ≤ 2 ^ 40 → Fills end count
+
+pub memory_breaks : BreaksSo answer.OutOfMemory
+memory_breaks = record { table = λ c h caller n n2 done input output t. t; queue = λ before rows later after q. q; fills = λ count le. le }
+
+pub stop_breaks : BreaksSo answer.Stopped
+stop_breaks = record { table = λ c h caller n n2 done input output t. t; queue = λ before rows later after q. q; fills = λ count le. le }

@@ -1,79 +1,109 @@
 -- How a connection goes on by one request, by bytes that are given and by bytes that are taken, and how it ends.
-use Rattle.std.proofs.Common.{◌≡◌, inl, inr, ℕ, ◌+◌, ◌^◌, ◌≤◌, ◌<◌, false, List, [], ◌∷◌, ◌++◌, length, length-append, refl, sym, ap, subst, ◌∙◌, append_assoc, append-nil, arith}
+use Rattle.std.proofs.Common.{◌≡◌, inl, inr, ℕ, ◌+◌, ◌^◌, ◌≤◌, ◌<◌, List, [], ◌∷◌, ◌++◌, length, length-append, refl, sym, ap, subst, ◌∙◌, append_assoc, append-nil, arith}
 use Rattle.std.specs.Prelude.{Option, None, Some, Err}
 use Rattle.std.specs.Io.KnownBytes.{Appends, Consumes}
 use Rattle.std.proofs.KnownBytes.{Appends-nil, Appends-trans, Consumes-nil, Consumes-trans}
 use Rattle.tsd_base.specs.Points.{DataPoint}
-use Rattle.cell_laws.proofs.CallerLemmas.{made_joined, nothing_made}
+use Rattle.tsd_base.specs.declared.kinds.Kind.{Kind}
+use Rattle.cell_laws.proofs.CallerLemmas.{nothing_made, since_joined}
 use Rattle.cell_model.specs.declared.answers.Stored.{Stored}
 use Rattle.cell_model.specs.declared.events.Placed.{Placed}
 use Rattle.cell_model.specs.History.{History, first}
 use Rattle.cell_model.specs.Layout.{names_of}
-use Rattle.cell_model.specs.Lawful.{IsLawful}
-use Rattle.cell_model.specs.Seen.{Seen, Fits, InEach}
+use Rattle.cell_model.specs.Seen.{Seen, InEach}
 use Rattle.cell_model.specs.Deeds.{deeds, Since}
-use Rattle.tsd_base.specs.declared.kinds.Kind.{Kind}
+use Rattle.compactor.specs.Queues.{HasRows}
+use Rattle.compactor.proofs.CallerLemmas.{rows_joined, rows_none}
 use Rattle.point_put.specs.declared.config.Config.{Config}
 use Rattle.point_put.specs.declared.fault.PutFault.TheVariants as put_fault
 use Rattle.point_put.specs.Entries.{ForName, ForNames}
 use Rattle.point_put.specs.Entries.ForNames.{nil, more}
+use Rattle.queued_put.specs.PutRows.{MayHaveRows}
+use Rattle.queued_put.proofs.CallerLemmas.{may_follow, may_have}
+use Rattle.http_api.proofs.CallerLemmas.{call_unbegun}
 use Rattle.tsd_daemon.specs.declared.served.Served.{Served}
 use Rattle.tsd_daemon.specs.declared.served.Served.TheVariants as answer
 use Rattle.tsd_daemon.specs.declared.counts.Counts.{Counts}
 use Rattle.tsd_daemon.specs.declared.counts.Counted.{Counted}
-use Rattle.tsd_daemon.specs.ConnRequests.{ConnRequest, closes_conn, conn_requests, point_in}
+use Rattle.tsd_daemon.specs.ConnRequests.{ConnRequest, conn_requests, end_of, point_asked}
+use Rattle.tsd_daemon.specs.ConnRequests.ConnRequest.{Telnet, Http}
 use Rattle.tsd_daemon.specs.ConnReplies.{counts_with, no_counts}
-use Rattle.tsd_daemon.specs.Exchanges.{AnsweredBy, BegunBy, Exchange, Ran, counts_of, replies_in, requests_in, rows_in}
+use Rattle.tsd_daemon.specs.Exchanges.{AnsweredBetween, BegunBetween, BegunBy, Exchange, Ran, counts_of, requests_in, rows_in}
 use Rattle.tsd_daemon.specs.Exchanges.Ran.{start, then_asked}
-use Rattle.tsd_daemon.specs.ServedConns.{AllAnswered, FirstBegun, HasRows, end_of}
-use Rattle.tsd_daemon.specs.Talks.{Ends, Gives, GivesLast, GivesSome, IsNext, Replied, Stand, Start, Taken, Talks, WasBegun}
-use Rattle.tsd_daemon.proofs.TalkLemmas.{closes_so, counts_push, may_have, open_push, replies_push, requests_next, requests_push, rows_joined, rows_none, rows_push}
+use Rattle.tsd_daemon.specs.ServedConns.{AllAnswered, Fills, FirstBegun, QueueTable, Table}
+use Rattle.tsd_daemon.specs.Talks.{Ends, Gives, GivesLast, GivesSome, IsNext, Replied, Stand, Start, Taken, Talks, Told, WasBegun}
+use Rattle.tsd_daemon.proofs.TalkLemmas.{BreaksSo, closes_so, counts_push, goes_on, open_push, replies_push, requests_next, requests_push, rows_push}
+
+abbrev pub Requests : Type 0
+Requests = List ℕ → List ConnRequest
 
 abbrev exchange : ConnRequest → List ℕ → List Stored → Exchange
 exchange request reply stored = record { request = request; reply = reply; stored = stored }
 
--- the caller made nothing between a length and itself
-nothing_at : (h : History) (s from : Seen) → s.caller ≡ from.caller → Fits s h → deeds h from.caller s.length s.length ≡ []
-nothing_at h s from who f = ap (λ n. deeds h n s.length s.length) (sym who) ∙ (nothing_made s).made h f
-
 -- ---- one request more
 
-ran_more : (c : Config) (from mid : Seen) (new : Seen) (done : List Exchange) (counts : Counts) (request : ConnRequest) (before : List Stored) (reply : List ℕ) (how : Counted) (after : List Stored)
+ran_more : (c : Config) (from mid new : Seen) (done : List Exchange) (counts : Counts) (request : ConnRequest) (before : List Stored) (reply : List ℕ) (how : Counted) (after : List Stored)
     → mid.caller ≡ from.caller → counts ≡ counts_of done → InEach mid (λ h. Ran c h from.caller from.length done mid.length)
-    → (r : Replied c counts request (point_in request) mid before reply how new after) → InEach new (λ h. Ran c h from.caller from.length (done ++ exchange request reply r.stored ∷ []) new.length)
+    → (r : Replied c counts request mid before reply how new after) → InEach new (λ h. Ran c h from.caller from.length (done ++ exchange request reply r.stored ∷ []) new.length)
 ran_more c from mid new done counts request before reply how after who is ran r h l f =
-    let mine : deeds h from.caller mid.length new.length ≡ r.own = ap (λ n. deeds h n mid.length new.length) (sym who) ∙ r.made.made h f in
-    let by : AnsweredBy c (first new.length h) r.own (counts_of done) request (point_in request) reply r.stored
-    = subst (λ (k : Counts). AnsweredBy c (first new.length h) r.own k request (point_in request) reply r.stored) is (r.answered h l f) in
-    then_asked (exchange request reply r.stored) (ran h l (r.made.since.extends.fits h f)) r.made.since.extends.length
-    (subst (λ (own : List Placed). AnsweredBy c (first new.length h) own (counts_of done) request (point_in request) reply r.stored) (sym mine) by)
+    let mine : AnsweredBetween c h from.caller mid.length new.length counts request reply r.stored = subst (λ (n : ℕ). AnsweredBetween c h n mid.length new.length counts request reply r.stored) who (r.answered h l f) in
+    then_asked (exchange request reply r.stored) (ran h l (r.since.extends.fits h f)) r.since.extends.length (subst (λ (k : Counts). AnsweredBetween c h from.caller mid.length new.length k request reply r.stored) is mine)
 
-replies_more : (done : List Exchange) (x : Exchange) (output waiting given rest : List ℕ) → output ++ waiting ≡ replies_in done → given ++ rest ≡ waiting ++ x.reply → (output ++ given) ++ rest ≡ replies_in (done ++ x ∷ [])
-replies_more done x output waiting given rest is split =
-    append_assoc output given rest ∙ ap (λ t. output ++ t) split ∙ sym (append_assoc output waiting x.reply) ∙ ap (λ t. t ++ x.reply) is ∙ sym (replies_push done x)
-
-pub talk_replied : (c : Config) (from : Start) (t : Taken) (old : Stand) (seen : Seen) (held : Option (List ℕ)) (queue : List Stored) (waiting : List ℕ) (come come' : List ℕ → List ConnRequest) (request : ConnRequest) (reply : List ℕ) (how : Counted)
-    → Talks c from t old come → IsNext request come come' → Replied c old.counts request (point_in request) old.seen old.queue reply how seen queue → Gives old.held held (old.waiting ++ reply) waiting → closes_conn request ≡ false
-    → Talks c from t (record { seen = seen; held = held; queue = queue; waiting = waiting; counts = counts_with old.counts how }) come'
-talk_replied c from t old seen held queue waiting come come' request reply how k next r g still =
+-- its reply waits
+told_answered : (c : Config) (from : Start) (t : Taken) (done : List Exchange) (old : Stand) (seen : Seen) (queue : List Stored) (come come' : Requests) (request : ConnRequest) (reply : List ℕ) (how : Counted)
+    → Told c from t done old come → IsNext request come come' → (r : Replied c old.counts request old.seen old.queue reply how seen queue)
+    → Told c from t (done ++ exchange request reply r.stored ∷ []) (record { seen = seen; held = old.held; queue = queue; waiting = old.waiting ++ reply; counts = counts_with old.counts how }) come'
+told_answered c from t done old seen queue come come' request reply how k next r =
     let x = exchange request reply r.stored in
     record {
       input = k.input;
-      output = k.output ++ g.given;
+      output = k.output;
       takes = k.takes;
       leaves = k.leaves;
-      gives = Appends-trans from.held old.held held k.output g.given k.gives g.appends;
+      gives = k.gives;
       size = k.size;
-      own = k.own ++ r.own;
-      made = made_joined from.seen old.seen seen k.own r.own k.made r.made;
-      done = k.done ++ x ∷ [];
-      ran = ran_more c from.seen old.seen seen k.done old.counts request old.queue reply how queue k.made.since.caller k.counted k.ran r;
-      replies = replies_more k.done x k.output old.waiting g.given waiting k.replies g.split;
-      requests = λ more. requests_next k.done x _ (come more) (come' more) (k.requests more) (next.next more);
-      open_still = open_push k.done x k.open_still still;
-      queued = subst (λ (rows : List Stored). HasRows from.queue rows queue) (sym (rows_push k.done x)) (rows_joined from.queue old.queue queue (rows_in k.done) r.stored k.queued r.rows);
-      counted = ap (λ (n : Counts). counts_with n how) k.counted ∙ ap (λ h. counts_with (counts_of k.done) h) r.how_is ∙ sym (counts_push k.done x);
+      since = since_joined from.seen old.seen seen k.since r.since;
+      ran = ran_more c from.seen old.seen seen done old.counts request old.queue reply how queue k.since.caller k.counted k.ran r;
+      replies = sym (append_assoc k.output old.waiting reply) ∙ ap (λ w. w ++ reply) k.replies ∙ sym (replies_push done x);
+      requests = λ more. requests_next done x _ (come more) (come' more) (k.requests more) (next.next more);
+      queued = subst (λ (rows : List Stored). HasRows from.queue rows queue) (sym (rows_push done x)) (rows_joined from.queue old.queue queue (rows_in done) r.stored k.queued r.rows);
+      counted = ap (λ (n : Counts). counts_with n how) k.counted ∙ ap (λ h. counts_with (counts_of done) h) r.how_is ∙ sym (counts_push done x);
     }
+
+-- ---- bytes that are given
+
+told_gave : (c : Config) (from : Start) (t : Taken) (done : List Exchange) (old : Stand) (held : Option (List ℕ)) (waiting : List ℕ) (come : Requests) → Told c from t done old come → Gives old.held held old.waiting waiting
+    → Told c from t done (record { seen = old.seen; held = held; queue = old.queue; waiting = waiting; counts = old.counts }) come
+told_gave c from t done old held waiting come k g = record {
+  input = k.input;
+  output = k.output ++ g.given;
+  takes = k.takes;
+  leaves = k.leaves;
+  gives = Appends-trans from.held old.held held k.output g.given k.gives g.appends;
+  size = k.size;
+  since = k.since;
+  ran = k.ran;
+  replies = append_assoc k.output g.given waiting ∙ ap (λ t. k.output ++ t) g.split ∙ k.replies;
+  requests = k.requests;
+  queued = k.queued;
+  counted = k.counted;
+}
+
+-- what waited was given
+pub talk_gave : (c : Config) (from : Start) (t : Taken) (old : Stand) (held : Option (List ℕ)) (come : Requests) → Talks c from t old come → Gives old.held held old.waiting []
+    → Talks c from t (record { seen = old.seen; held = held; queue = old.queue; waiting = []; counts = old.counts }) come
+talk_gave c from t old held come k g = record { done = k.done; told = told_gave c from t k.done old held [] come k.told g; open_still = k.open_still }
+
+pub talk_replied : (c : Config) (from : Start) (t : Taken) (old : Stand) (seen : Seen) (held : Option (List ℕ)) (queue : List Stored) (waiting : List ℕ) (come come' : Requests) (request : ConnRequest) (reply : List ℕ) (how : Counted)
+    → Talks c from t old come → IsNext request come come' → Replied c old.counts request old.seen old.queue reply how seen queue → Gives old.held held (old.waiting ++ reply) waiting → end_of request ≡ None
+    → Talks c from t (record { seen = seen; held = held; queue = queue; waiting = waiting; counts = counts_with old.counts how }) come'
+talk_replied c from t old seen held queue waiting come come' request reply how k next r g still = record {
+  done = k.done ++ exchange request reply r.stored ∷ [];
+  told = told_gave c from t _ _ held waiting come' (told_answered c from t k.done old seen queue come come' request reply how k.told next r) g;
+  open_still = open_push k.done (exchange request reply r.stored) k.open_still (goes_on request still);
+}
+
+-- ---- ends
 
 -- the requests of what was taken, where no more comes
 all_of : (input : List ℕ) (asked come : List ConnRequest) → conn_requests (input ++ []) ≡ asked ++ come → conn_requests input ≡ asked ++ come
@@ -85,182 +115,84 @@ only_of input asked come is none = all_of input asked come is ∙ ap (λ t. aske
 most_of : (n size : ℕ) → n ≡ size → size ≤ 2 ^ 40 → n ≤ 2 ^ 40
 most_of n size is le = omega (arith, is, le)
 
+-- after these exchanges the connection ended so
+told_ends : (c : Config) (from : Start) (t : Taken) (done : List Exchange) (now : Stand) (come : Requests) (result : Served) (seen : Seen) (queue : List Stored) → (k : Told c from t done now come) → Since now.seen seen
+    → InEach seen (λ h. Table result c h from.seen.caller now.seen.length seen.length done k.input k.output) → InEach seen (λ h. QueueTable result from.queue (rows_in done) (deeds h from.seen.caller now.seen.length seen.length) queue)
+    → Fills result (length k.input) → Ends c from t.taken t.left result seen now.held queue
+told_ends c from t done now come result seen queue k since table queued fills = record {
+  input = k.input;
+  output = k.output;
+  takes = k.takes;
+  leaves = k.leaves;
+  gives = k.gives;
+  since = since_joined from.seen now.seen seen k.since since;
+  served = λ h l f. record {
+    served = record { done = done; last = now.seen.length; in_range = since.extends.length; ran = k.ran h l (since.extends.fits h f); table = table h l f };
+    queued = queued h l f;
+  };
+  fills = fills;
+}
+
+-- and no entry was made behind them
+told_rests : (c : Config) (from : Start) (t : Taken) (done : List Exchange) (now : Stand) (come : Requests) (result : Served) → (k : Told c from t done now come)
+    → ((h : History) → deeds h from.seen.caller now.seen.length now.seen.length ≡ [] → Table result c h from.seen.caller now.seen.length now.seen.length done k.input k.output)
+    → ((later : List Placed) → QueueTable result from.queue (rows_in done) later now.queue) → Fills result (length k.input) → Ends c from t.taken t.left result now.seen now.held now.queue
+told_rests c from t done now come result k table queued fills =
+    told_ends c from t done now come result now.seen now.queue k (nothing_made now.seen).since
+    (λ h l f. table h (ap (λ n. deeds h n now.seen.length now.seen.length) (sym k.since.caller) ∙ (nothing_made now.seen).made h f)) (λ h l f. queued _) fills
+
+-- the sink failed while what waited was given
+told_unsent : (c : Config) (from : Start) (t : Taken) (done : List Exchange) (old : Stand) (held : Option (List ℕ)) (come : Requests) → t.size ≤ 2 ^ 40 → Told c from t done old come → GivesSome old.held held old.waiting
+    → Ends c from t.taken t.left answer.WriteFault old.seen held old.queue
+told_unsent c from t done old held come le k (rest, g) =
+    let m = told_gave c from t done old held rest come k g in
+    told_rests c from t done _ come answer.WriteFault m (λ h none. record { rest = come []; requests = all_of m.input _ (come []) (m.requests []); unsent = rest; replies = m.replies; no_later = none })
+    (λ later. m.queued) (most_of (length m.input) t.size m.size le)
+
+pub talk_failed : (c : Config) (from : Start) (t : Taken) (old : Stand) (held : Option (List ℕ)) (come : Requests) → t.size ≤ 2 ^ 40 → Talks c from t old come → GivesSome old.held held old.waiting
+    → Ends c from t.taken t.left answer.WriteFault old.seen held old.queue
+talk_failed c from t old held come le k g = told_unsent c from t k.done old held come le k.told g
+
 -- the reply to a request that was answered couldn't be given whole
-pub talk_unsent : (c : Config) (from : Start) (t : Taken) (old : Stand) (seen : Seen) (held : Option (List ℕ)) (queue : List Stored) (come come' : List ℕ → List ConnRequest) (request : ConnRequest) (reply : List ℕ) (how : Counted)
-    → t.size ≤ 2 ^ 40 → Talks c from t old come → IsNext request come come' → Replied c old.counts request (point_in request) old.seen old.queue reply how seen queue → GivesSome old.held held (old.waiting ++ reply)
+pub talk_unsent : (c : Config) (from : Start) (t : Taken) (old : Stand) (seen : Seen) (held : Option (List ℕ)) (queue : List Stored) (come come' : Requests) (request : ConnRequest) (reply : List ℕ) (how : Counted)
+    → t.size ≤ 2 ^ 40 → Talks c from t old come → IsNext request come come' → Replied c old.counts request old.seen old.queue reply how seen queue → GivesSome old.held held (old.waiting ++ reply)
     → Ends c from t.taken t.left answer.WriteFault seen held queue
-talk_unsent c from t old seen held queue come come' request reply how le k next r (rest, g) =
-    let x = exchange request reply r.stored in
-    record {
-      input = k.input;
-      output = k.output ++ g.given;
-      takes = k.takes;
-      leaves = k.leaves;
-      gives = Appends-trans from.held old.held held k.output g.given k.gives g.appends;
-      since = (made_joined from.seen old.seen seen k.own r.own k.made r.made).since;
-      served = λ h l f. record {
-        served = record {
-          done = k.done ++ x ∷ [];
-          last = seen.length;
-          in_range = omega arith;
-          ran = ran_more c from.seen old.seen seen k.done old.counts request old.queue reply how queue k.made.since.caller k.counted k.ran r h l f;
-          table = record {
-            rest = come' [];
-            requests = all_of k.input _ (come' []) (requests_next k.done x _ (come []) (come' []) (k.requests []) (next.next []));
-            unsent = rest;
-            replies = replies_more k.done x k.output old.waiting g.given rest k.replies g.split;
-            no_later = nothing_at h seen from.seen (r.made.since.caller ∙ k.made.since.caller) f;
-          };
-        };
-        queued = subst (λ (rows : List Stored). HasRows from.queue rows queue) (sym (rows_push k.done x)) (rows_joined from.queue old.queue queue (rows_in k.done) r.stored k.queued r.rows);
-      };
-      fills = most_of (length k.input) t.size k.size le;
-    }
+talk_unsent c from t old seen held queue come come' request reply how le k next r g =
+    told_unsent c from t _ _ held come' le (told_answered c from t k.done old seen queue come come' request reply how k.told next r) g
 
 -- a request that closes was answered, and all replies were given
-pub talk_closed : (c : Config) (from : Start) (t : Taken) (old : Stand) (seen : Seen) (held : Option (List ℕ)) (queue : List Stored) (come come' : List ℕ → List ConnRequest) (request : ConnRequest) (reply : List ℕ) (how : Counted) (end : Served)
-    → t.size ≤ 2 ^ 40 → Talks c from t old come → IsNext request come come' → Replied c old.counts request (point_in request) old.seen old.queue reply how seen queue → Gives old.held held (old.waiting ++ reply) [] → end_of request ≡ Some end
+pub talk_closed : (c : Config) (from : Start) (t : Taken) (old : Stand) (seen : Seen) (held : Option (List ℕ)) (queue : List Stored) (come come' : Requests) (request : ConnRequest) (reply : List ℕ) (how : Counted) (end : Served)
+    → t.size ≤ 2 ^ 40 → Talks c from t old come → IsNext request come come' → Replied c old.counts request old.seen old.queue reply how seen queue → Gives old.held held (old.waiting ++ reply) [] → end_of request ≡ Some end
     → Ends c from t.taken t.left end seen held queue
 talk_closed c from t old seen held queue come come' request reply how end le k next r g ends =
-    let x = exchange request reply r.stored in
     let so = closes_so request end ends in
-    record {
-      input = k.input;
-      output = k.output ++ g.given;
-      takes = k.takes;
-      leaves = k.leaves;
-      gives = Appends-trans from.held old.held held k.output g.given k.gives g.appends;
-      since = (made_joined from.seen old.seen seen k.own r.own k.made r.made).since;
-      served = λ h l f. record {
-        served = record {
-          done = k.done ++ x ∷ [];
-          last = seen.length;
-          in_range = omega arith;
-          ran = ran_more c from.seen old.seen seen k.done old.counts request old.queue reply how queue k.made.since.caller k.counted k.ran r h l f;
-          table = so.table c (first seen.length h) (k.done ++ x ∷ []) k.input (k.output ++ g.given) (deeds h from.seen.caller seen.length seen.length) (record {
-            all = record {
-              requests = only_of k.input _ (come' []) (requests_next k.done x _ (come []) (come' []) (k.requests []) (next.next [])) (next.last so.closes []);
-              replies = sym (append-nil (k.output ++ g.given)) ∙ replies_more k.done x k.output old.waiting g.given [] k.replies g.split;
-              no_later = nothing_at h seen from.seen (r.made.since.caller ∙ k.made.since.caller) f;
-            };
-            before = requests_in k.done;
-            ends = requests_push k.done x;
-          });
-        };
-        queued = so.queue from.queue (rows_in (k.done ++ x ∷ [])) (deeds h from.seen.caller seen.length seen.length) queue
-            (subst (λ (rows : List Stored). HasRows from.queue rows queue) (sym (rows_push k.done x)) (rows_joined from.queue old.queue queue (rows_in k.done) r.stored k.queued r.rows));
-      };
-      fills = so.fills (length k.input) (most_of (length k.input) t.size k.size le);
-    }
+    let m = told_gave c from t _ _ held [] come' (told_answered c from t k.done old seen queue come come' request reply how k.told next r) g in
+    told_rests c from t _ _ come' end m (λ h none. so.table c h from.seen.caller seen.length seen.length _ m.input m.output (record {
+      all = record { requests = only_of m.input _ (come' []) (m.requests []) (next.last so.closes []); replies = sym (append-nil m.output) ∙ m.replies; no_later = none };
+      before = requests_in k.done;
+      last = request;
+      ends = requests_push k.done (exchange request reply r.stored);
+      with_it = ends;
+    })) (λ later. so.queue from.queue _ later queue m.queued) (so.fills (length m.input) (most_of (length m.input) t.size m.size le))
+
+-- no reply waits
+all_given : (output waiting replies : List ℕ) → output ++ waiting ≡ replies → waiting ≡ [] → output ≡ replies
+all_given output waiting replies is none = sym (append-nil output) ∙ ap (λ t. output ++ t) (sym none) ∙ is
 
 -- a request was begun and isn't answered, where no reply waits
-pub talk_begun : (c : Config) (from : Start) (t : Taken) (old : Stand) (seen : Seen) (come come' : List ℕ → List ConnRequest) (request : ConnRequest)
-    → t.size ≤ 2 ^ 40 → Talks c from t old come → IsNext request come come' → WasBegun c (point_in request) old.seen seen → old.waiting ≡ []
-    → Ends c from t.taken t.left answer.OutOfMemory seen old.held old.queue × Ends c from t.taken t.left answer.Stopped seen old.held old.queue
-talk_begun c from t old seen come come' request le k next b none = (
-  record {
-    input = k.input;
-    output = k.output;
-    takes = k.takes;
-    leaves = k.leaves;
-    gives = k.gives;
-    since = since;
-    served = λ h l f. record {
-      served = record {
-        done = k.done;
-        last = old.seen.length;
-        in_range = b.made.since.extends.length;
-        ran = k.ran h l (b.made.since.extends.fits h f);
-        table = record { rest = request ∷ come' []; requests = requests; replies = replies; begun = begun h l f };
-      };
-      queued = may_have from.queue (rows_in k.done) old.queue _ k.queued;
-    };
-    fills = most_of (length k.input) t.size k.size le;
-  },
-  record {
-    input = k.input;
-    output = k.output;
-    takes = k.takes;
-    leaves = k.leaves;
-    gives = k.gives;
-    since = since;
-    served = λ h l f. record {
-      served = record {
-        done = k.done;
-        last = old.seen.length;
-        in_range = b.made.since.extends.length;
-        ran = k.ran h l (b.made.since.extends.fits h f);
-        table = record { rest = request ∷ come' []; requests = requests; replies = replies; begun = begun h l f };
-      };
-      queued = may_have from.queue (rows_in k.done) old.queue _ k.queued;
-    };
-    fills = most_of (length k.input) t.size k.size le;
-  },
-)
-  where
-    since : Since from.seen seen
-    since = (made_joined from.seen old.seen seen k.own b.own k.made b.made).since
-
-    requests : conn_requests k.input ≡ requests_in k.done ++ request ∷ come' []
-    requests = all_of k.input (requests_in k.done) (request ∷ come' []) (k.requests [] ∙ ap (λ t. requests_in k.done ++ t) (next.next []))
-
-    replies : k.output ≡ replies_in k.done
-    replies = sym (append-nil k.output) ∙ ap (λ t. k.output ++ t) (sym none) ∙ k.replies
-
-    begun : (h : History) → IsLawful h → Fits seen h → BegunBy c (first seen.length h) (deeds h from.seen.caller old.seen.length seen.length) (point_in request)
-    begun h l f = subst (λ (own : List Placed). BegunBy c (first seen.length h) own (point_in request)) (sym (ap (λ n. deeds h n old.seen.length seen.length) (sym k.made.since.caller) ∙ b.made.made h f)) (b.begun h l f)
-
--- ---- bytes that are given
-
--- what waited was given
-pub talk_gave : (c : Config) (from : Start) (t : Taken) (old : Stand) (held : Option (List ℕ)) (come : List ℕ → List ConnRequest) → Talks c from t old come → Gives old.held held old.waiting []
-    → Talks c from t (record { seen = old.seen; held = held; queue = old.queue; waiting = []; counts = old.counts }) come
-talk_gave c from t old held come k g = record {
-  input = k.input;
-  output = k.output ++ g.given;
-  takes = k.takes;
-  leaves = k.leaves;
-  gives = Appends-trans from.held old.held held k.output g.given k.gives g.appends;
-  size = k.size;
-  own = k.own;
-  made = k.made;
-  done = k.done;
-  ran = k.ran;
-  replies = append_assoc k.output g.given [] ∙ ap (λ t. k.output ++ t) g.split ∙ k.replies;
-  requests = k.requests;
-  open_still = k.open_still;
-  queued = k.queued;
-  counted = k.counted;
-}
-
--- the sink failed while it was given
-pub talk_failed : (c : Config) (from : Start) (t : Taken) (old : Stand) (held : Option (List ℕ)) (come : List ℕ → List ConnRequest) → t.size ≤ 2 ^ 40 → Talks c from t old come → GivesSome old.held held old.waiting
-    → Ends c from t.taken t.left answer.WriteFault old.seen held old.queue
-talk_failed c from t old held come le k (rest, g) = record {
-  input = k.input;
-  output = k.output ++ g.given;
-  takes = k.takes;
-  leaves = k.leaves;
-  gives = Appends-trans from.held old.held held k.output g.given k.gives g.appends;
-  since = k.made.since;
-  served = λ h l f. record {
-    served = record {
-      done = k.done;
-      last = old.seen.length;
-      in_range = omega arith;
-      ran = k.ran h l f;
-      table = record {
-        rest = come [];
-        requests = all_of k.input _ (come []) (k.requests []);
-        unsent = rest;
-        replies = append_assoc k.output g.given rest ∙ ap (λ t. k.output ++ t) g.split ∙ k.replies;
-        no_later = nothing_at h old.seen from.seen k.made.since.caller f;
-      };
-    };
-    queued = k.queued;
-  };
-  fills = most_of (length k.input) t.size k.size le;
-}
+pub talk_begun : (c : Config) (from : Start) (t : Taken) (old : Stand) (seen : Seen) (queue : List Stored) (come come' : Requests) (request : ConnRequest) (end : Served)
+    → t.size ≤ 2 ^ 40 → Talks c from t old come → IsNext request come come' → WasBegun c request old.seen old.queue seen queue → old.waiting ≡ [] → BreaksSo end → Ends c from t.taken t.left end seen old.held queue
+talk_begun c from t old seen queue come come' request end le k next b none so =
+    told_ends c from t k.done old come end seen queue k.told b.since
+    (λ h l f. so.table c h from.seen.caller old.seen.length seen.length k.done k.told.input k.told.output (record {
+      rest = request ∷ come' [];
+      requests = all_of k.told.input _ (request ∷ come' []) (k.told.requests [] ∙ ap (λ t. requests_in k.done ++ t) (next.next []));
+      replies = all_given k.told.output old.waiting _ k.told.replies none;
+      begun = subst (λ (n : ℕ). BegunBetween c h n old.seen.length seen.length request) k.told.since.caller (b.begun h l f);
+    }))
+    (λ h l f. so.queue from.queue (rows_in k.done) _ queue (may_follow from.queue old.queue queue (rows_in k.done) _ k.told.queued
+    (subst (λ (n : ℕ). MayHaveRows old.queue [] (deeds h n old.seen.length seen.length) queue) k.told.since.caller (b.rows h l f))))
+    (so.fills (length k.told.input) (most_of (length k.told.input) t.size k.told.size le))
 
 -- ---- ends between two requests
 
@@ -269,44 +201,25 @@ no_names c [] = nil
 no_names c (n ∷ names) = more ForName.none (no_names c names)
 
 -- no entry is a request's that was begun
-nothing_begun : (c : Config) (h : History) (rest : List ConnRequest) → FirstBegun c h [] rest
-nothing_begun c h [] = refl
-nothing_begun c h (request ∷ rest) = at (point_in request)
+nothing_begun : (c : Config) (h : History) (caller n : ℕ) (rest : List ConnRequest) → deeds h caller n n ≡ [] → FirstBegun c h caller n n rest
+nothing_begun c h caller n [] none = none
+nothing_begun c h caller n (Http call ∷ rest) none = call_unbegun c h caller n call none
+nothing_begun c h caller n (Telnet request ∷ rest) none = subst (λ (own : List Placed). BegunBy c (first n h) own (point_asked request)) (sym none) (at (point_asked request))
   where
-    at : (point : Option DataPoint) → BegunBy c h [] point
+    at : (point : Option DataPoint) → BegunBy c (first n h) [] point
     at None = refl
     at (Some point) = (Err put_fault.OutOfMemory, no_names c (names_of point))
 
 -- there was no memory, where no reply waits
-pub talk_memory : (c : Config) (from : Start) (t : Taken) (old : Stand) (come : List ℕ → List ConnRequest) → t.size ≤ 2 ^ 40 → Talks c from t old come → old.waiting ≡ []
+pub talk_memory : (c : Config) (from : Start) (t : Taken) (old : Stand) (come : Requests) → t.size ≤ 2 ^ 40 → Talks c from t old come → old.waiting ≡ []
     → Ends c from t.taken t.left answer.OutOfMemory old.seen old.held old.queue
-talk_memory c from t old come le k none = record {
-  input = k.input;
-  output = k.output;
-  takes = k.takes;
-  leaves = k.leaves;
-  gives = k.gives;
-  since = k.made.since;
-  served = λ h l f. record {
-    served = record {
-      done = k.done;
-      last = old.seen.length;
-      in_range = omega arith;
-      ran = k.ran h l f;
-      table = record {
-        rest = come [];
-        requests = all_of k.input _ (come []) (k.requests []);
-        replies = sym (append-nil k.output) ∙ ap (λ t. k.output ++ t) (sym none) ∙ k.replies;
-        begun = subst (λ (own : List Placed). FirstBegun c (first old.seen.length h) own (come [])) (sym (nothing_at h old.seen from.seen k.made.since.caller f)) (nothing_begun c (first old.seen.length h) (come []));
-      };
-    };
-    queued = may_have from.queue (rows_in k.done) old.queue _ k.queued;
-  };
-  fills = most_of (length k.input) t.size k.size le;
-}
+talk_memory c from t old come le k none =
+    told_rests c from t k.done old come answer.OutOfMemory k.told
+    (λ h nothing. record { rest = come []; requests = all_of k.told.input _ (come []) (k.told.requests []); replies = all_given k.told.output old.waiting _ k.told.replies none; begun = nothing_begun c h from.seen.caller old.seen.length (come []) nothing })
+    (λ later. may_have from.queue (rows_in k.done) old.queue later k.told.queued) (most_of (length k.told.input) t.size k.told.size le)
 
 -- what waited was given, and there was no memory; or the sink failed
-pub talk_broken : (c : Config) (from : Start) (t : Taken) (old : Stand) (held : Option (List ℕ)) (result : Served) (come : List ℕ → List ConnRequest) → t.size ≤ 2 ^ 40 → Talks c from t old come → GivesLast old.held held old.waiting answer.OutOfMemory result
+pub talk_broken : (c : Config) (from : Start) (t : Taken) (old : Stand) (held : Option (List ℕ)) (result : Served) (come : Requests) → t.size ≤ 2 ^ 40 → Talks c from t old come → GivesLast old.held held old.waiting answer.OutOfMemory result
     → Ends c from t.taken t.left result old.seen held old.queue
 talk_broken c from t old held result come le k (inl (g, is)) = subst (λ (r : Served). Ends c from t.taken t.left r old.seen held old.queue) (sym is) (talk_memory c from t _ come le (talk_gave c from t old held come k g) refl)
 talk_broken c from t old held result come le k (inr (g, is)) = subst (λ (r : Served). Ends c from t.taken t.left r old.seen held old.queue) (sym is) (talk_failed c from t old held come le k g)
@@ -317,106 +230,83 @@ pub record Quiet (c : Config) (from : Start) (t : Taken) (old : Stand) : Type 0 
   pub failed : t.size < 2 ^ 40 → Ends c from t.taken t.left answer.ReadFault old.seen old.held old.queue
   pub full : t.size ≡ 2 ^ 40 → Ends c from t.taken t.left answer.SessionFull old.seen old.held old.queue
 
-pub talk_quiet : (c : Config) (from : Start) (t : Taken) (old : Stand) (come : List ℕ → List ConnRequest) → Talks c from t old come → old.waiting ≡ [] → come [] ≡ [] → Quiet c from t old
-talk_quiet c from t old come k quiet none = record {
-  end = λ lt. record {
-    input = k.input;
-    output = k.output;
-    takes = k.takes;
-    leaves = k.leaves;
-    gives = k.gives;
-    since = k.made.since;
-    served = λ h l f. record { served = record { done = k.done; last = old.seen.length; in_range = omega arith; ran = k.ran h l f; table = record { all = all h f; open_still = k.open_still } }; queued = k.queued };
-    fills = let is = k.size in omega (arith, is, lt);
-  };
-  failed = λ lt. record {
-    input = k.input;
-    output = k.output;
-    takes = k.takes;
-    leaves = k.leaves;
-    gives = k.gives;
-    since = k.made.since;
-    served = λ h l f. record { served = record { done = k.done; last = old.seen.length; in_range = omega arith; ran = k.ran h l f; table = record { all = all h f; open_still = k.open_still } }; queued = k.queued };
-    fills = let is = k.size in omega (arith, is, lt);
-  };
-  full = λ eq. record {
-    input = k.input;
-    output = k.output;
-    takes = k.takes;
-    leaves = k.leaves;
-    gives = k.gives;
-    since = k.made.since;
-    served = λ h l f. record { served = record { done = k.done; last = old.seen.length; in_range = omega arith; ran = k.ran h l f; table = record { all = all h f; open_still = k.open_still } }; queued = k.queued };
-    fills = k.size ∙ eq;
-  };
-}
+pub talk_quiet : (c : Config) (from : Start) (t : Taken) (old : Stand) (come : Requests) → Talks c from t old come → old.waiting ≡ [] → come [] ≡ [] → Quiet c from t old
+talk_quiet c from t old come k quiet none =
+    let is = k.told.size in
+    record {
+      end = λ lt. told_rests c from t k.done old come answer.End k.told (λ h nothing. record { all = all h nothing; open_still = k.open_still }) (λ later. k.told.queued) (omega (arith, is, lt));
+      failed = λ lt. told_rests c from t k.done old come answer.ReadFault k.told (λ h nothing. record { all = all h nothing; open_still = k.open_still }) (λ later. k.told.queued) (omega (arith, is, lt));
+      full = λ eq. told_rests c from t k.done old come answer.SessionFull k.told (λ h nothing. record { all = all h nothing; open_still = k.open_still }) (λ later. k.told.queued) (is ∙ eq);
+    }
   where
-    all : (h : History) → Fits old.seen h → AllAnswered k.done k.input k.output (deeds h from.seen.caller old.seen.length old.seen.length)
-    all h f = record {
-      requests = only_of k.input (requests_in k.done) (come []) (k.requests []) none;
-      replies = sym (append-nil k.output) ∙ ap (λ t. k.output ++ t) (sym quiet) ∙ k.replies;
-      no_later = nothing_at h old.seen from.seen k.made.since.caller f;
+    all : (h : History) → deeds h from.seen.caller old.seen.length old.seen.length ≡ [] → AllAnswered k.done k.told.input k.told.output (deeds h from.seen.caller old.seen.length old.seen.length)
+    all h nothing = record {
+      requests = only_of k.told.input (requests_in k.done) (come []) (k.told.requests []) none;
+      replies = all_given k.told.output old.waiting _ k.told.replies quiet;
+      no_later = nothing;
     }
 
 -- ---- bytes that are taken
 
-pub talk_took : (c : Config) (from : Start) (t : Taken) (taken left : Option (List ℕ)) (size : ℕ) (now : Stand) (come : List ℕ → List ConnRequest) (piece : List ℕ) → Talks c from t now come
-    → Appends t.taken taken piece → Consumes t.left left piece → size ≡ t.size + length piece → Talks c from (record { taken = taken; left = left; size = size }) now (λ more. come (piece ++ more))
-talk_took c from t taken left size now come piece k takes leaves grows = record {
+told_took : (c : Config) (from : Start) (t : Taken) (taken left : Option (List ℕ)) (size : ℕ) (done : List Exchange) (now : Stand) (come : Requests) (piece : List ℕ) → Told c from t done now come
+    → Appends t.taken taken piece → Consumes t.left left piece → size ≡ t.size + length piece → Told c from (record { taken = taken; left = left; size = size }) done now (λ more. come (piece ++ more))
+told_took c from t taken left size done now come piece k takes leaves grows = record {
   input = k.input ++ piece;
   output = k.output;
   takes = Appends-trans from.taken t.taken taken k.input piece k.takes takes;
   leaves = Consumes-trans from.left t.left left k.input piece k.leaves leaves;
   gives = k.gives;
   size = length-append k.input piece ∙ ap (λ n. n + length piece) k.size ∙ sym grows;
-  own = k.own;
-  made = k.made;
-  done = k.done;
+  since = k.since;
   ran = k.ran;
   replies = k.replies;
   requests = λ more. ap conn_requests (append_assoc k.input piece more) ∙ k.requests (piece ++ more);
-  open_still = k.open_still;
   queued = k.queued;
   counted = k.counted;
 }
 
+pub talk_took : (c : Config) (from : Start) (t : Taken) (taken left : Option (List ℕ)) (size : ℕ) (now : Stand) (come : Requests) (piece : List ℕ) → Talks c from t now come
+    → Appends t.taken taken piece → Consumes t.left left piece → size ≡ t.size + length piece → Talks c from (record { taken = taken; left = left; size = size }) now (λ more. come (piece ++ more))
+talk_took c from t taken left size now come piece k takes leaves grows = record { done = k.done; told = told_took c from t taken left size k.done now come piece k.told takes leaves grows; open_still = k.open_still }
+
 -- the same requests are to come
-pub talk_come : (c : Config) (from : Start) (t : Taken) (now : Stand) (come come' : List ℕ → List ConnRequest) → Talks c from t now come → ((more : List ℕ) → come' more ≡ come more) → Talks c from t now come'
-talk_come c from t now come come' k same = record {
+told_come : (c : Config) (from : Start) (t : Taken) (done : List Exchange) (now : Stand) (come come' : Requests) → Told c from t done now come → ((more : List ℕ) → come' more ≡ come more) → Told c from t done now come'
+told_come c from t done now come come' k same = record {
   input = k.input;
   output = k.output;
   takes = k.takes;
   leaves = k.leaves;
   gives = k.gives;
   size = k.size;
-  own = k.own;
-  made = k.made;
-  done = k.done;
+  since = k.since;
   ran = k.ran;
   replies = k.replies;
-  requests = λ more. k.requests more ∙ ap (λ r. requests_in k.done ++ r) (sym (same more));
-  open_still = k.open_still;
+  requests = λ more. k.requests more ∙ ap (λ r. requests_in done ++ r) (sym (same more));
   queued = k.queued;
   counted = k.counted;
 }
+
+pub talk_come : (c : Config) (from : Start) (t : Taken) (now : Stand) (come come' : Requests) → Talks c from t now come → ((more : List ℕ) → come' more ≡ come more) → Talks c from t now come'
+talk_come c from t now come come' k same = record { done = k.done; told = told_come c from t k.done now come come' k.told same; open_still = k.open_still }
 
 -- nothing was taken yet
 pub talk_start : (c : Config) (seen : Seen) (taken left held : Option (List ℕ)) (queue : List Stored)
     → Talks c (record { seen = seen; taken = taken; left = left; held = held; queue = queue }) (record { taken = taken; left = left; size = 0 }) (record { seen = seen; held = held; queue = queue; waiting = []; counts = no_counts }) conn_requests
 talk_start c seen taken left held queue = record {
-  input = [];
-  output = [];
-  takes = Appends-nil taken;
-  leaves = Consumes-nil left;
-  gives = Appends-nil held;
-  size = refl;
-  own = [];
-  made = nothing_made seen;
   done = [];
-  ran = λ h l f. start;
-  replies = refl;
-  requests = λ more. refl;
+  told = record {
+    input = [];
+    output = [];
+    takes = Appends-nil taken;
+    leaves = Consumes-nil left;
+    gives = Appends-nil held;
+    size = refl;
+    since = (nothing_made seen).since;
+    ran = λ h l f. start;
+    replies = refl;
+    requests = λ more. refl;
+    queued = rows_none queue;
+    counted = refl;
+  };
   open_still = refl;
-  queued = rows_none queue;
-  counted = refl;
 }

@@ -5,12 +5,11 @@ use Rattle.cell_model.specs.declared.answers.Stored.{Stored}
 use Rattle.point_put.specs.declared.fault.PutFault.{PutFault}
 use Rattle.point_put.specs.declared.fault.PutFault.TheVariants.{Unknown, Exhausted, OutOfMemory, Stopped}
 use Rattle.point_put.specs.PutFaults.{put_fault_text}
+use Rattle.telnet_put.specs.Requests.{Request}
 use Rattle.telnet_put.specs.Requests.Request.{Put, Version, Help, Stats, DropCaches, Exit, Die, TooLong, Other}
 use Rattle.tsd_daemon.specs.declared.counts.Counts.{Counts}
 use Rattle.tsd_daemon.specs.declared.counts.Counted.{Counted}
 use Rattle.tsd_daemon.specs.declared.counts.Counted.TheVariants as counted
-use Rattle.tsd_daemon.specs.ConnRequests.{ConnRequest}
-use Rattle.tsd_daemon.specs.ConnRequests.ConnRequest.{Telnet, Unbuilt}
 
 -- one more, up to the last u64
 abbrev pub one_more : ℕ → ℕ
@@ -36,26 +35,22 @@ put_line text = line (codes "put: " ++ text)
 abbrev pub stats_text : Counts → List ℕ
 stats_text c = line (codes "requests " ++ decimal c.requests) ++ line (codes "puts " ++ decimal c.puts) ++ line (codes "refused " ++ decimal c.refused)
 
-abbrev pub not_built : List ℕ
-not_built = line (codes "not built")
-
 -- the reply to a put whose words are no point
 abbrev pub unread_reply : {T E : Type 0} → (E → List ℕ) → Result T E → List ℕ
 unread_reply text (Ok point) = []
 unread_reply text (Err fault) = put_line (text fault)
 
--- the reply to a request that asks for no step, where these are the counts of those before it
-unfoldable pub fixed_reply : Counts → ConnRequest → List ℕ
-fixed_reply c (Telnet (Put point)) = unread_reply point_fault_text point
-fixed_reply c (Telnet Version) = line (codes "tsd integer profile 1")
-fixed_reply c (Telnet Help) = line (codes "available commands: diediedie dropcaches exit help put stats version")
-fixed_reply c (Telnet Stats) = stats_text c
-fixed_reply c (Telnet DropCaches) = line (codes "Caches dropped.")
-fixed_reply c (Telnet Exit) = []
-fixed_reply c (Telnet Die) = line (codes "Cleaning up and exiting now.")
-fixed_reply c (Telnet TooLong) = line (codes "line too long")
-fixed_reply c (Telnet Other) = line (codes "unknown command")
-fixed_reply c Unbuilt = not_built
+-- the reply to a request of a telnet session that asks for no step, where these are the counts of those before it
+unfoldable pub fixed_reply : Counts → Request → List ℕ
+fixed_reply c (Put point) = unread_reply point_fault_text point
+fixed_reply c Version = line (codes "tsd integer profile 1")
+fixed_reply c Help = line (codes "available commands: diediedie dropcaches exit help put stats version")
+fixed_reply c Stats = stats_text c
+fixed_reply c DropCaches = line (codes "Caches dropped.")
+fixed_reply c Exit = []
+fixed_reply c Die = line (codes "Cleaning up and exiting now.")
+fixed_reply c TooLong = line (codes "line too long")
+fixed_reply c Other = line (codes "unknown command")
 
 -- What is told of a point: nothing where it was accepted, and its row is to be queued; else why not. Want of memory and a stop aren't told.
 abbrev pub IsTold : Result Stored PutFault → List ℕ → List Stored → Type 0

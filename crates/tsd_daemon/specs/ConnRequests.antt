@@ -1,36 +1,51 @@
 -- What a connection asks, a function of its bytes alone.
-use Rattle.std.specs.Prelude.{ℕ, Bool, true, false, ◌&&◌, nat_le, List, [], ◌∷◌, map, Option, None, Some, Ok, if◌then◌else◌}
+use Rattle.std.specs.Prelude.{ℕ, Bool, false, ◌&&◌, nat_le, List, [], ◌∷◌, map, Option, None, Some, Ok, if◌then◌else◌}
 use Rattle.tsd_base.specs.Points.{DataPoint}
 use Rattle.telnet_put.specs.Requests.{Request, closes, requests_of}
-use Rattle.telnet_put.specs.Requests.Request.{Put}
+use Rattle.telnet_put.specs.Requests.Request.{Put, Exit, Die}
+use Rattle.http_exchange.specs.declared.http_call.Call.{Call}
+use Rattle.http_exchange.specs.HttpRequests as http
+use Rattle.tsd_daemon.specs.declared.served.Served.{Served}
+use Rattle.tsd_daemon.specs.declared.served.Served.TheVariants as answer
 
--- what can be asked: what a telnet session can, or a first byte from A to Z, with which nothing begins that is built
+-- what can be asked: what a telnet session can, or an HTTP connection
 pub data ConnRequest : Type 0 where
   Telnet : Request → ConnRequest
-  Unbuilt : ConnRequest
+  Http : Call → ConnRequest
 
 -- no request comes behind it
 abbrev pub closes_conn : ConnRequest → Bool
 closes_conn (Telnet request) = closes request
-closes_conn Unbuilt = true
+closes_conn (Http call) = call.closing
+
+-- with which answer it ends the connection, if it does
+abbrev pub end_of : ConnRequest → Option Served
+end_of (Telnet Exit) = Some answer.Exit
+end_of (Telnet Die) = Some answer.Die
+end_of (Telnet _) = None
+end_of (Http call) = if call.closing then Some answer.Closed else None
 
 -- the point that it asks to be put
 abbrev pub point_asked : Request → Option DataPoint
 point_asked (Put (Ok point)) = Some point
 point_asked _ = None
 
-abbrev pub point_in : ConnRequest → Option DataPoint
-point_in (Telnet request) = point_asked request
-point_in Unbuilt = None
-
 -- a byte from A to Z
 abbrev pub is_capital : ℕ → Bool
 is_capital byte = nat_le 65 byte && nat_le byte 90
 
-abbrev pub begins_unbuilt : List ℕ → Bool
-begins_unbuilt [] = false
-begins_unbuilt (byte ∷ bytes) = is_capital byte
+-- where the first byte is one, an HTTP connection begins
+abbrev pub begins_http : List ℕ → Bool
+begins_http [] = false
+begins_http (byte ∷ bytes) = is_capital byte
+
+-- what bytes ask in a telnet session, and on an HTTP connection
+abbrev pub telnet_asks : List ℕ → List ConnRequest
+telnet_asks bytes = map Telnet (requests_of bytes)
+
+abbrev pub http_asks : List ℕ → List ConnRequest
+http_asks bytes = map Http (http.requests_of bytes)
 
 -- the first byte decides
 abbrev pub conn_requests : List ℕ → List ConnRequest
-conn_requests bytes = if begins_unbuilt bytes then Unbuilt ∷ [] else map Telnet (requests_of bytes)
+conn_requests bytes = if begins_http bytes then http_asks bytes else telnet_asks bytes

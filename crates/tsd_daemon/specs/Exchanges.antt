@@ -9,10 +9,12 @@ use Rattle.cell_model.specs.Deeds.{deeds}
 use Rattle.point_put.specs.declared.config.Config.{Config}
 use Rattle.point_put.specs.declared.fault.PutFault.{PutFault}
 use Rattle.point_put.specs.PutPoint.{PointAsked}
+use Rattle.telnet_put.specs.Requests.{Request}
 use Rattle.telnet_put.specs.Requests.Request.{Put}
+use Rattle.http_api.specs.HttpAnswers.{CallAnswered, CallBegun}
 use Rattle.tsd_daemon.specs.declared.counts.Counts.{Counts}
-use Rattle.tsd_daemon.specs.ConnRequests.{ConnRequest, point_in}
-use Rattle.tsd_daemon.specs.ConnRequests.ConnRequest.{Telnet}
+use Rattle.tsd_daemon.specs.ConnRequests.{ConnRequest, point_asked}
+use Rattle.tsd_daemon.specs.ConnRequests.ConnRequest.{Telnet, Http}
 use Rattle.tsd_daemon.specs.ConnReplies.{IsTold, fixed_reply}
 
 -- a request, the bytes of its reply, and the rows of the points that were accepted for it, in their order
@@ -58,28 +60,28 @@ counts_of done = record {
   refused = counted (length (filter (λ (x : Exchange). is_refused (is_put x.request) x.stored) done));
 }
 
--- A request was answered by these entries of its caller, where the history is as long as the caller has seen it at its end, and the counts are
--- those of the requests before it. A point is asked, and what is told of it is the reply. Any other request makes no entry.
-abbrev pub AnsweredBy : Config → History → List Placed → Counts → ConnRequest → Option DataPoint → List ℕ → List Stored → Type 0
+-- A request of a telnet session was answered by these entries of its caller, where the history is as long as the caller has seen it at its end, and the
+-- counts are those of the requests before it. A point is asked, and what is told of it is the reply. Any other request makes no entry.
+abbrev pub AnsweredBy : Config → History → List Placed → Counts → Request → Option DataPoint → List ℕ → List Stored → Type 0
 AnsweredBy c h own counts request (Some point) reply stored = (outcome : Result Stored PutFault) × PointAsked c point h own outcome × IsTold outcome reply stored
 AnsweredBy c h own counts request None reply stored = (own ≡ []) × (reply ≡ fixed_reply counts request) × (stored ≡ [])
 
-abbrev pub Answered : Config → History → List Placed → Counts → Exchange → Type 0
-Answered c h own counts x = AnsweredBy c h own counts x.request (point_in x.request) x.reply x.stored
+-- a request was answered between two lengths of the history with this reply, and these rows are to be queued, where the counts are those of the requests before it
+abbrev pub AnsweredBetween : Config → History → ℕ → ℕ → ℕ → Counts → ConnRequest → List ℕ → List Stored → Type 0
+AnsweredBetween c h caller n n2 counts (Telnet request) reply stored = AnsweredBy c (first n2 h) (deeds h caller n n2) counts request (point_asked request) reply stored
+AnsweredBetween c h caller n n2 counts (Http call) reply stored = CallAnswered c h caller n n2 call reply stored
 
--- a request was begun: a point was asked, whatever came of it
+-- a request of a telnet session was begun: a point was asked, whatever came of it
 abbrev pub BegunBy : Config → History → List Placed → Option DataPoint → Type 0
 BegunBy c h own (Some point) = (outcome : Result Stored PutFault) × PointAsked c point h own outcome
 BegunBy c h own None = own ≡ []
 
-abbrev pub Begun : Config → History → List Placed → ConnRequest → Type 0
-Begun c h own request = BegunBy c h own (point_in request)
+-- a request was begun between two lengths of the history
+abbrev pub BegunBetween : Config → History → ℕ → ℕ → ℕ → ConnRequest → Type 0
+BegunBetween c h caller n n2 (Telnet request) = BegunBy c (first n2 h) (deeds h caller n n2) (point_asked request)
+BegunBetween c h caller n n2 (Http call) = CallBegun c h caller n n2 call
 
--- a request was asked between two lengths of the history, behind these exchanges
-abbrev pub Asked : Config → History → ℕ → ℕ → List Exchange → Exchange → ℕ → Type 0
-Asked c h caller n earlier x n2 = Answered c (first n2 h) (deeds h caller n n2) (counts_of earlier) x
-
--- requests were asked one after the other, from one length on to another
+-- requests were answered one after the other, from one length on to another
 pub data Ran (c : Config) (h : History) (caller n : ℕ) : List Exchange → ℕ → Type 0 where
   start : Ran c h caller n [] n
-  then_asked : {done : List Exchange} {e e2 : ℕ} (x : Exchange) → Ran c h caller n done e → e ≤ e2 → Asked c h caller e done x e2 → Ran c h caller n (done ++ x ∷ []) e2
+  then_asked : {done : List Exchange} {e e2 : ℕ} (x : Exchange) → Ran c h caller n done e → e ≤ e2 → AnsweredBetween c h caller e e2 (counts_of done) x.request x.reply x.stored → Ran c h caller n (done ++ x ∷ []) e2

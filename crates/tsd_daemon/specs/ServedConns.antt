@@ -1,22 +1,20 @@
 -- What a connection was served, over a history.
-use Rattle.std.specs.Prelude.{◌≡◌, ◌⊎◌, ◌↔◌, ℕ, ◌^◌, ◌<◌, ◌≤◌, false, List, [], ◌∷◌, ◌++◌, length, Contains, Option, None, Some}
+use Rattle.std.specs.Prelude.{◌≡◌, ℕ, ◌^◌, ◌<◌, ◌≤◌, false, List, [], ◌∷◌, ◌++◌, length, Option, Some}
 use Rattle.std.specs.List.{list_any}
 use Rattle.std.specs.Io.KnownBytes.{Appends, Consumes}
-use Rattle.tsd_base.specs.Points.{DataPoint}
-use Rattle.telnet_put.specs.Requests.Request.{Exit, Die}
+use Rattle.tsd_io.specs.Causes.{Rose}
 use Rattle.cell_model.specs.declared.answers.Stored.{Stored}
 use Rattle.cell_model.specs.declared.events.Placed.{Placed}
-use Rattle.cell_model.specs.declared.events.Step.TheVariants.{PutPoint}
-use Rattle.cell_model.specs.History.{History, first}
-use Rattle.cell_model.specs.Layout.{base_time}
+use Rattle.cell_model.specs.History.{History}
 use Rattle.cell_model.specs.Seen.{Seen, InEach}
 use Rattle.cell_model.specs.Deeds.{deeds, Extends, Since}
+use Rattle.compactor.specs.Queues.{HasRows}
 use Rattle.point_put.specs.declared.config.Config.{Config}
+use Rattle.queued_put.specs.PutRows.{MayHaveRows}
 use Rattle.tsd_daemon.specs.declared.served.Served.{Served}
 use Rattle.tsd_daemon.specs.declared.served.Served.TheVariants as answer
-use Rattle.tsd_daemon.specs.ConnRequests.{ConnRequest, closes_conn, conn_requests}
-use Rattle.tsd_daemon.specs.ConnRequests.ConnRequest.{Telnet, Unbuilt}
-use Rattle.tsd_daemon.specs.Exchanges.{Exchange, requests_in, replies_in, rows_in, Begun, Ran}
+use Rattle.tsd_daemon.specs.ConnRequests.{ConnRequest, closes_conn, conn_requests, end_of}
+use Rattle.tsd_daemon.specs.Exchanges.{Exchange, requests_in, replies_in, rows_in, BegunBetween, Ran}
 
 -- ---- the table of answers
 
@@ -31,23 +29,25 @@ pub record Rests (done : List Exchange) (input output : List ℕ) (later : List 
   pub all : AllAnswered done input output later
   pub open_still : list_any closes_conn (requests_in done) ≡ false
 
--- the same, and the last request is this one
-pub record Closes (last : ConnRequest) (done : List Exchange) (input output : List ℕ) (later : List Placed) : Type 0 where
+-- the same, and the last request ends the connection with this answer
+pub record Closes (result : Served) (done : List Exchange) (input output : List ℕ) (later : List Placed) : Type 0 where
   pub all : AllAnswered done input output later
   pub before : List ConnRequest
+  pub last : ConnRequest
   pub ends : requests_in done ≡ before ++ last ∷ []
+  pub with_it : end_of last ≡ Some result
 
--- the later entries are of the first of these requests
-abbrev pub FirstBegun : Config → History → List Placed → List ConnRequest → Type 0
-FirstBegun c h later [] = later ≡ []
-FirstBegun c h later (request ∷ rest) = Begun c h later request
+-- the first of these requests was begun between two lengths of the history, and the caller made no other entry
+abbrev pub FirstBegun : Config → History → ℕ → ℕ → ℕ → List ConnRequest → Type 0
+FirstBegun c h caller n n2 [] = deeds h caller n n2 ≡ []
+FirstBegun c h caller n n2 (request ∷ rest) = BegunBetween c h caller n n2 request
 
--- the first requests of the input were answered, their replies were given, and later entries are of the next
-pub record BreaksOff (c : Config) (h : History) (done : List Exchange) (input output : List ℕ) (later : List Placed) : Type 0 where
+-- the first requests of the input were answered, their replies were given, and the next was begun
+pub record BreaksOff (c : Config) (h : History) (caller n n2 : ℕ) (done : List Exchange) (input output : List ℕ) : Type 0 where
   pub rest : List ConnRequest
   pub requests : conn_requests input ≡ requests_in done ++ rest
   pub replies : output ≡ replies_in done
-  pub begun : FirstBegun c h later rest
+  pub begun : FirstBegun c h caller n n2 rest
 
 -- the first requests were answered, a front of their replies was given, and the caller made no later entry
 pub record GivesFront (done : List Exchange) (input output : List ℕ) (later : List Placed) : Type 0 where
@@ -57,24 +57,18 @@ pub record GivesFront (done : List Exchange) (input output : List ℕ) (later : 
   pub replies : output ++ unsent ≡ replies_in done
   pub no_later : later ≡ []
 
-abbrev pub Table : Served → Config → History → List Exchange → List ℕ → List ℕ → List Placed → Type 0
-Table answer.End c h = Rests
-Table answer.ReadFault c h = Rests
-Table answer.SessionFull c h = Rests
-Table answer.Exit c h = Closes (Telnet Exit)
-Table answer.Die c h = Closes (Telnet Die)
-Table answer.Closed c h = Closes Unbuilt
-Table answer.ClockFault c h = BreaksOff c h
-Table answer.Stopped c h = BreaksOff c h
-Table answer.OutOfMemory c h = BreaksOff c h
-Table answer.WriteFault c h = GivesFront
-
--- with which answer a request ends the connection, if it does
-abbrev pub end_of : ConnRequest → Option Served
-end_of (Telnet Exit) = Some answer.Exit
-end_of (Telnet Die) = Some answer.Die
-end_of (Telnet _) = None
-end_of Unbuilt = Some answer.Closed
+-- where the last of these exchanges ended at one length of the history and the connection at another
+abbrev pub Table : Served → Config → History → ℕ → ℕ → ℕ → List Exchange → List ℕ → List ℕ → Type 0
+Table answer.End c h caller n n2 done input output = Rests done input output (deeds h caller n n2)
+Table answer.ReadFault c h caller n n2 done input output = Rests done input output (deeds h caller n n2)
+Table answer.SessionFull c h caller n n2 done input output = Rests done input output (deeds h caller n n2)
+Table answer.Exit c h caller n n2 done input output = Closes answer.Exit done input output (deeds h caller n n2)
+Table answer.Die c h caller n n2 done input output = Closes answer.Die done input output (deeds h caller n n2)
+Table answer.Closed c h caller n n2 done input output = Closes answer.Closed done input output (deeds h caller n n2)
+Table answer.ClockFault c h caller n n2 done input output = BreaksOff c h caller n n2 done input output
+Table answer.Stopped c h caller n n2 done input output = BreaksOff c h caller n n2 done input output
+Table answer.OutOfMemory c h caller n n2 done input output = BreaksOff c h caller n n2 done input output
+Table answer.WriteFault c h caller n n2 done input output = GivesFront done input output (deeds h caller n n2)
 
 -- ---- over a history
 
@@ -84,7 +78,7 @@ pub record IsServed (c : Config) (h : History) (caller n n2 : ℕ) (input output
   pub last : ℕ
   pub in_range : last ≤ n2
   pub ran : Ran c h caller n done last
-  pub table : Table result c (first n2 h) done input output (deeds h caller last n2)
+  pub table : Table result c h caller last n2 done input output
 
 -- the same in each lawful history that fits what the caller has seen after it
 pub record Serves (c : Config) (old : Seen) (input output : List ℕ) (result : Served) (new : Seen) : Type 0 where
@@ -105,25 +99,7 @@ Fills result count = count ≤ 2 ^ 40
 
 -- ---- the queue
 
--- it holds what it held, and these rows
-abbrev pub HasRows : List Stored → List Stored → List Stored → Type 0
-HasRows before rows after = (s : Stored) → Contains after s ↔ (Contains before s ⊎ Contains rows s)
-
--- the row of a put among these entries
-pub record IsPutRow (own : List Placed) (s : Stored) : Type 0 where
-  pub entry : Placed
-  pub among : Contains own entry
-  pub point : DataPoint
-  pub qual : List ℕ
-  pub value : List ℕ
-  pub step : entry.entry.step ≡ PutPoint point s.row qual value
-  pub base : s.base ≡ base_time point.time
-
--- it holds what it held, these rows, and perhaps rows that later entries put
-pub record MayHaveRows (before rows : List Stored) (later : List Placed) (after : List Stored) : Type 0 where
-  pub kept : (s : Stored) → Contains before s ⊎ Contains rows s → Contains after s
-  pub most : (s : Stored) → Contains after s → (Contains before s ⊎ Contains rows s) ⊎ IsPutRow later s
-
+-- the rows of the requests that were answered, and of one that was begun perhaps some
 abbrev pub QueueTable : Served → List Stored → List Stored → List Placed → List Stored → Type 0
 QueueTable answer.Stopped before rows later after = MayHaveRows before rows later after
 QueueTable answer.OutOfMemory before rows later after = MayHaveRows before rows later after
@@ -153,3 +129,19 @@ ServesBytes c old result new input output = Serves c old input output result new
 
 abbrev pub QueuesBytes : Config → Seen → List Stored → Served → Seen → List Stored → List ℕ → List ℕ → Type 0
 QueuesBytes c old before result new after input output = Queues c old before input output result new after
+
+-- ---- causes
+
+-- the source failed only where its count of faults rose, and so with the sink and with stops; the clock isn't asked
+abbrev pub HasConnCause : ℕ → ℕ → ℕ → ℕ → ℕ → ℕ → Served → Type 0
+HasConnCause reads reads' writes writes' stops stops' answer.ReadFault = Rose reads reads'
+HasConnCause reads reads' writes writes' stops stops' answer.WriteFault = Rose writes writes'
+HasConnCause reads reads' writes writes' stops stops' answer.Stopped = Rose stops stops'
+HasConnCause reads reads' writes writes' stops stops' answer.ClockFault = ⊥
+HasConnCause reads reads' writes writes' stops stops' other = Unit {0}
+
+pub record ConnCauses (reads reads' writes writes' stops stops' : ℕ) (result : Served) : Type 0 where
+  pub source : reads ≤ reads'
+  pub sink : writes ≤ writes'
+  pub rows : stops ≤ stops'
+  pub cause : HasConnCause reads reads' writes writes' stops stops' result

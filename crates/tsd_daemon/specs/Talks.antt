@@ -2,28 +2,28 @@
 use Rattle.std.specs.Prelude.{◌≡◌, ◌⊎◌, ℕ, ◌^◌, ◌≤◌, Bool, true, false, List, [], ◌∷◌, ◌++◌, length, map, Option, None, Some, Result, Err}
 use Rattle.std.specs.List.{list_any}
 use Rattle.std.specs.Io.KnownBytes.{Appends, Consumes}
-use Rattle.tsd_base.specs.Points.{DataPoint}
 use Rattle.tsd_io.specs.Causes.{Rose}
 use Rattle.telnet_put.specs.Unread.{Unread}
 use Rattle.telnet_put.specs.Sessions.{to_come}
-use Rattle.telnet_put.specs.Requests.{requests_of}
+use Rattle.http_exchange.specs.HttpSessions as calls
+use Rattle.http_exchange.specs.HttpUnread as http
 use Rattle.cell_model.specs.declared.answers.Stored.{Stored}
-use Rattle.cell_model.specs.declared.events.Placed.{Placed}
-use Rattle.cell_model.specs.History.{first}
 use Rattle.cell_model.specs.Seen.{Seen, InEach}
-use Rattle.cell_model.specs.Deeds.{Since, Made}
+use Rattle.cell_model.specs.Deeds.{deeds, Since}
+use Rattle.compactor.specs.Queues.{HasRows}
 use Rattle.point_put.specs.declared.config.Config.{Config}
+use Rattle.queued_put.specs.PutRows.{MayHaveRows}
 use Rattle.tsd_daemon.specs.declared.served.Served.{Served}
 use Rattle.tsd_daemon.specs.declared.served.Served.TheVariants as answer
 use Rattle.tsd_daemon.specs.declared.counts.Counts.{Counts}
 use Rattle.tsd_daemon.specs.declared.counts.Counted.{Counted}
 use Rattle.tsd_daemon.specs.declared.counts.Counted.TheVariants as counted
 use Rattle.tsd_daemon.specs.ConnRequests.{ConnRequest, closes_conn, conn_requests}
-use Rattle.tsd_daemon.specs.ConnRequests.ConnRequest.{Telnet}
+use Rattle.tsd_daemon.specs.ConnRequests.ConnRequest.{Telnet, Http}
 use Rattle.tsd_daemon.specs.ConnReplies.{no_counts}
 use Rattle.tsd_daemon.specs.ConnPieces.{PieceTaken, TakesNext}
-use Rattle.tsd_daemon.specs.Exchanges.{Exchange, AnsweredBy, BegunBy, Ran, counts_of, is_put, replies_in, requests_in, rows_in}
-use Rattle.tsd_daemon.specs.ServedConns.{Fills, HasRows, IsQueued}
+use Rattle.tsd_daemon.specs.Exchanges.{Exchange, AnsweredBetween, BegunBetween, Ran, counts_of, is_put, replies_in, requests_in, rows_in}
+use Rattle.tsd_daemon.specs.ServedConns.{Fills, IsQueued}
 
 -- ---- one request
 
@@ -39,20 +39,19 @@ counted_if false stored = counted.Other
 abbrev pub counted_as : ConnRequest → List Stored → Counted
 counted_as request stored = counted_if (is_put request) stored
 
--- the caller made entries by which the request was answered with this reply, and the queue got the rows that were stored
-pub record Replied (c : Config) (counts : Counts) (request : ConnRequest) (point : Option DataPoint) (old : Seen) (before : List Stored) (reply : List ℕ) (how : Counted) (new : Seen) (after : List Stored) : Type 0 where
-  pub own : List Placed
+-- the request was answered with this reply in each lawful history that fits, and the queue got the rows that were stored
+pub record Replied (c : Config) (counts : Counts) (request : ConnRequest) (old : Seen) (before : List Stored) (reply : List ℕ) (how : Counted) (new : Seen) (after : List Stored) : Type 0 where
   pub stored : List Stored
-  pub made : Made old own new
-  pub answered : InEach new (λ h. AnsweredBy c (first new.length h) own counts request point reply stored)
+  pub since : Since old new
+  pub answered : InEach new (λ h. AnsweredBetween c h old.caller old.length new.length counts request reply stored)
   pub rows : HasRows before stored after
   pub how_is : how ≡ counted_as request stored
 
--- the caller made entries by which a request was begun
-pub record WasBegun (c : Config) (point : Option DataPoint) (old new : Seen) : Type 0 where
-  pub own : List Placed
-  pub made : Made old own new
-  pub begun : InEach new (λ h. BegunBy c (first new.length h) own point)
+-- the request was begun, and the queue may have got rows
+pub record WasBegun (c : Config) (request : ConnRequest) (old : Seen) (before : List Stored) (new : Seen) (after : List Stored) : Type 0 where
+  pub since : Since old new
+  pub begun : InEach new (λ h. BegunBetween c h old.caller old.length new.length request)
+  pub rows : InEach new (λ h. MayHaveRows before [] (deeds h old.caller old.length new.length) after)
 
 -- ---- bytes that are given
 
@@ -103,23 +102,29 @@ pub record Stand : Type 0 where
 abbrev pub telnet_to_come : Unread → List ℕ → List ConnRequest
 telnet_to_come unread more = map Telnet (to_come unread more)
 
--- The connection goes on: these exchanges were done, their replies were given or wait, and these requests are to come of more bytes.
-pub record Talks (c : Config) (from : Start) (t : Taken) (now : Stand) (come : List ℕ → List ConnRequest) : Type 0 where
+abbrev pub http_to_come : http.Unread → List ℕ → List ConnRequest
+http_to_come unread more = map Http (calls.to_come unread more)
+
+-- these exchanges were done, their replies were given or wait, and these requests are to come of more bytes
+pub record Told (c : Config) (from : Start) (t : Taken) (done : List Exchange) (now : Stand) (come : List ℕ → List ConnRequest) : Type 0 where
   pub input : List ℕ
   pub output : List ℕ
   pub takes : Appends from.taken t.taken input
   pub leaves : Consumes from.left t.left input
   pub gives : Appends from.held now.held output
   pub size : length input ≡ t.size
-  pub own : List Placed
-  pub made : Made from.seen own now.seen
-  pub done : List Exchange
+  pub since : Since from.seen now.seen
   pub ran : InEach now.seen (λ h. Ran c h from.seen.caller from.seen.length done now.seen.length)
   pub replies : output ++ now.waiting ≡ replies_in done
   pub requests : (more : List ℕ) → conn_requests (input ++ more) ≡ requests_in done ++ come more
-  pub open_still : list_any closes_conn (requests_in done) ≡ false
   pub queued : HasRows from.queue (rows_in done) now.queue
   pub counted : now.counts ≡ counts_of done
+
+-- the connection goes on
+pub record Talks (c : Config) (from : Start) (t : Taken) (now : Stand) (come : List ℕ → List ConnRequest) : Type 0 where
+  pub done : List Exchange
+  pub told : Told c from t done now come
+  pub open_still : list_any closes_conn (requests_in done) ≡ false
 
 -- the connection was served to this end
 pub record Ends (c : Config) (from : Start) (taken left : Option (List ℕ)) (result : Served) (seen : Seen) (held : Option (List ℕ)) (queue : List Stored) : Type 0 where
@@ -149,10 +154,10 @@ abbrev pub PieceMoves : Option (List ℕ) → Option (List ℕ) → Option (List
 PieceMoves taken taken' left left' held held' waiting old (Err answer.WriteFault) new = GivesSome held held' waiting × (taken' ≡ taken) × (left' ≡ left)
 PieceMoves taken taken' left left' held held' waiting old result new = Gives held held' waiting [] × TakesNext taken taken' left left' old result new
 
--- a telnet session whose first piece was taken was served to an end, however the connection came there
-abbrev pub TelnetServed : Config → Seen → Option (List ℕ) → List Stored → PieceTaken → Option (List ℕ) → Option (List ℕ) → Served → Seen → Option (List ℕ) → List Stored → Option (List ℕ) → Option (List ℕ) → Type 0
-TelnetServed c seen held queue input taken left result seen' held' queue' taken' left' =
-    (from : Start) → Talks c from (record { taken = taken; left = left; size = input.taken }) (record { seen = seen; held = held; queue = queue; waiting = []; counts = no_counts }) (λ more. map Telnet (requests_of (input.piece ++ more)))
+-- a connection whose first piece was taken was served to an end, however it came there, where this is what bytes ask
+abbrev pub SessionServed : (List ℕ → List ConnRequest) → Config → Seen → Option (List ℕ) → List Stored → PieceTaken → Option (List ℕ) → Option (List ℕ) → Served → Seen → Option (List ℕ) → List Stored → Option (List ℕ) → Option (List ℕ) → Type 0
+SessionServed asks c seen held queue input taken left result seen' held' queue' taken' left' =
+    (from : Start) → Talks c from (record { taken = taken; left = left; size = input.taken }) (record { seen = seen; held = held; queue = queue; waiting = []; counts = no_counts }) (λ more. asks (input.piece ++ more))
     → Ends c from taken' left' result seen' held' queue'
 
 -- this request is the next, whatever more bytes come; behind one that closes none is
@@ -175,6 +180,7 @@ HasEndCause faults faults' stops stops' (Some answer.WriteFault) = Rose faults f
 HasEndCause faults faults' stops stops' (Some answer.Stopped) = Rose stops stops'
 HasEndCause faults faults' stops stops' (Some answer.Exit) = Unit {0}
 HasEndCause faults faults' stops stops' (Some answer.Die) = Unit {0}
+HasEndCause faults faults' stops stops' (Some answer.Closed) = Unit {0}
 HasEndCause faults faults' stops stops' (Some answer.OutOfMemory) = Unit {0}
 HasEndCause faults faults' stops stops' (Some other) = ⊥
 
@@ -182,17 +188,3 @@ pub record Causes (faults faults' stops stops' : ℕ) (result : Option Served) :
   pub later : faults ≤ faults'
   pub grows : stops ≤ stops'
   pub cause : HasEndCause faults faults' stops stops' result
-
--- the source failed only where its count of faults rose, and so with the sink and with stops; the clock isn't asked
-abbrev pub HasConnCause : ℕ → ℕ → ℕ → ℕ → ℕ → ℕ → Served → Type 0
-HasConnCause reads reads' writes writes' stops stops' answer.ReadFault = Rose reads reads'
-HasConnCause reads reads' writes writes' stops stops' answer.WriteFault = Rose writes writes'
-HasConnCause reads reads' writes writes' stops stops' answer.Stopped = Rose stops stops'
-HasConnCause reads reads' writes writes' stops stops' answer.ClockFault = ⊥
-HasConnCause reads reads' writes writes' stops stops' other = Unit {0}
-
-pub record ConnCauses (reads reads' writes writes' stops stops' : ℕ) (result : Served) : Type 0 where
-  pub source : reads ≤ reads'
-  pub sink : writes ≤ writes'
-  pub rows : stops ≤ stops'
-  pub cause : HasConnCause reads reads' writes writes' stops stops' result

@@ -1,12 +1,11 @@
 //! Serving a connection.
-ghost use Rattle.std.specs.Prelude.{◌≡◌, ℕ, ◌≤◌};
+ghost use Rattle.std.specs.Prelude.{◌≡◌};
 ghost use Rattle.std.specs.Io.KnownBytes.{IsAtEnd};
-ghost use Rattle.tsd_daemon.specs.ConnReplies.{not_built};
-ghost use Rattle.tsd_daemon.specs.ConnRequests.{begins_unbuilt};
-ghost use Rattle.tsd_daemon.specs.ServedConns.{Passes, QueuesBytes, ServesBytes};
-ghost use Rattle.tsd_daemon.specs.Talks.{ConnCauses, GivesLast};
+ghost use Rattle.tsd_daemon.specs.ConnRequests.{begins_http};
+ghost use Rattle.tsd_daemon.specs.ServedConns.{ConnCauses, Passes, QueuesBytes, ServesBytes};
 
 use crate::conn_input::ConnInput;
+use crate::http_session::serve_http;
 use crate::served::Served;
 use crate::telnet_session::serve_telnet;
 use cell_model::rows::Rows;
@@ -14,17 +13,17 @@ use compactor::queue::Queue;
 use point_put::Config;
 use std::alloc::Global;
 use tsd_io::clock::Clock;
-use tsd_io::give_all::give_all;
 use tsd_io::ports::{Sink, Source};
 use uid_table::uids::Uids;
 
 /// Serves one connection, from the bytes that the source gives to the replies that the sink takes, to its end.
 ///
-/// The first byte decides what the connection asks: where it is `A` to `Z` it is one request, which is answered `not built` and
-/// closes; any other begins a telnet session. Requests are answered one after the other. The row of each point that was accepted
-/// is added to the queue. At most 2^40 bytes are taken.
+/// The first byte decides what the connection asks: where it is `A` to `Z` it is an HTTP connection, any other begins a telnet
+/// session. Requests are answered one after the other. The row of each point that was accepted is added to the queue. At most
+/// 2^40 bytes are taken.
 ///
-/// Replies may wait to be given together, at most 64 KiB of them, but not while a point is put and not while bytes are taken.
+/// Replies may wait to be given together, at most 64 KiB of them, but not while a point is put, not while an HTTP request is worked, and not
+/// while bytes are taken.
 /// The clock isn't asked yet.
 pub fn serve_conn<R: Rows + Drop, S: Source, K: Sink, C: Clock>(
     alloc: Global,
@@ -54,30 +53,18 @@ pub fn serve_conn<R: Rows + Drop, S: Source, K: Sink, C: Clock>(
         Ok(()) => {}
         Err(end) => return end,
     }
-    if begins_unbuilt(input.piece()) {
-        return refuse(sink);
+    if begins_http(input.piece()) {
+        return serve_http(alloc, names, config, queue, source, sink, &mut input);
     }
     serve_telnet(alloc, names, config, queue, source, sink, &mut input)
 }
 
 /// Whether the first byte is `A` to `Z`.
-fn begins_unbuilt(bytes: &[u8]) -> bool
-    ensures { result ≡ begins_unbuilt bytes.now }
+fn begins_http(bytes: &[u8]) -> bool
+    ensures { result ≡ begins_http bytes.now }
 {
     match bytes.first() {
         Some(byte) => byte.is_ascii_uppercase(),
         None => false,
-    }
-}
-
-/// Answers a request of a protocol that isn't built.
-fn refuse<K: Sink>(sink: &mut K) -> Served
-    ensures gives { GivesLast (K.held sink.old) (K.held sink.new) not_built Served.Closed result }
-    ensures causes { (reads reads' stops : ℕ) → reads ≤ reads' → ConnCauses reads reads' (K.faults sink.old) (K.faults sink.new) stops stops result }
-    ensures number { K.number sink.new ≡ K.number sink.old }
-{
-    match give_all(sink, b"not built\n") {
-        Ok(()) => Served::Closed,
-        Err(_) => Served::WriteFault,
     }
 }

@@ -3,17 +3,16 @@ ghost use Rattle.std.specs.Prelude.{◌≡◌, ℕ, List, [], ◌++◌, None, So
 ghost use Rattle.tsd_base.specs.Points.{data_point};
 ghost use Rattle.telnet_put.specs.Requests.Request.{Put};
 ghost use Rattle.telnet_put.specs.TelnetCommands.{request_of};
-ghost use Rattle.tsd_daemon.specs.ConnRequests.{ConnRequest, point_asked};
+ghost use Rattle.tsd_daemon.specs.ConnRequests.{ConnRequest, end_of, point_asked};
 ghost use Rattle.tsd_daemon.specs.ConnRequests.ConnRequest.{Telnet};
-ghost use Rattle.tsd_daemon.specs.ServedConns.{end_of};
 ghost use Rattle.tsd_daemon.specs.ConnReplies.{counts_with};
-ghost use Rattle.tsd_daemon.specs.Talks.{Causes, FixedMoves, GivesLast, GivesReply, HasEndCause, IsNext, Moves, counted_as};
+ghost use Rattle.tsd_daemon.specs.PointAnswers.{put_of};
+ghost use Rattle.tsd_daemon.specs.Talks.{Causes, FixedMoves, GivesReply, IsNext, Moves, counted_as};
 
 use crate::counts::Counted;
 use crate::point_answer::answer_point;
-use crate::reply_buffer::ReplyBuffer;
 use crate::served::Served;
-use crate::session::Session;
+use crate::session::{Session, break_off, tell_last};
 use crate::telnet_reply::fixed_reply;
 use cell_model::answers::RowsFault;
 use cell_model::rows::Rows;
@@ -96,7 +95,7 @@ fn work_point<R: Rows + Drop, K: Sink>(
     session: &mut Session,
     point: &Point,
 ) -> Option<Served>
-    ensures moves { (come come' : List ℕ → List ConnRequest) → IsNext (Telnet (Put (Ok (data_point point.now)))) come come'
+    ensures moves { (come come' : List ℕ → List ConnRequest) → IsNext (put_of (data_point point.now)) come come'
         → Moves config.now (record { seen = R.seen names.old; held = K.held sink.old; queue = queue.old; waiting = session.old.replies; counts = session.old.counts }) come
         (record { seen = R.seen names.new; held = K.held sink.new; queue = queue.new; waiting = session.new.replies; counts = session.new.counts }) come' result }
     ensures causes { Causes (K.faults sink.old) (K.faults sink.new) (R.stops names.old) (R.stops names.new) result }
@@ -119,7 +118,7 @@ fn put_in_turn<R: Rows + Drop, K: Sink>(
     point: &Point,
 ) -> Option<Served>
     requires { session.old.replies ≡ [] }
-    ensures moves { (come come' : List ℕ → List ConnRequest) → IsNext (Telnet (Put (Ok (data_point point.now)))) come come'
+    ensures moves { (come come' : List ℕ → List ConnRequest) → IsNext (put_of (data_point point.now)) come come'
         → Moves config.now (record { seen = R.seen names.old; held = K.held sink.old; queue = queue.old; waiting = session.old.replies; counts = session.old.counts }) come
         (record { seen = R.seen names.new; held = K.held sink.new; queue = queue.new; waiting = session.new.replies; counts = session.new.counts }) come' result }
     ensures causes { Causes (K.faults sink.old) (K.faults sink.new) (R.stops names.old) (R.stops names.new) result }
@@ -172,31 +171,6 @@ fn tell_fixed<K: Sink>(
     match session.tell(sink, reply, counted_as(command)) {
         Ok(()) => None,
         Err(_) => Some(Served::WriteFault),
-    }
-}
-
-/// Tells the last reply, and how the serving ends.
-fn tell_last<K: Sink>(sink: &mut K, replies: &mut ReplyBuffer, reply: &[u8], end: Served) -> Served
-    requires { HasEndCause 0 0 0 0 (Some end) }
-    ensures gives { GivesLast (K.held sink.old) (K.held sink.new) (replies.old ++ reply.now) end result }
-    ensures causes { (stops : ℕ) → Causes (K.faults sink.old) (K.faults sink.new) stops stops (Some result) }
-    ensures number { K.number sink.new ≡ K.number sink.old }
-{
-    match replies.add_last(sink, reply) {
-        Ok(()) => end,
-        Err(_) => Served::WriteFault,
-    }
-}
-
-/// Gives the replies that wait, where there is no memory for more.
-pub fn break_off<K: Sink>(sink: &mut K, replies: &mut ReplyBuffer) -> Served
-    ensures gives { GivesLast (K.held sink.old) (K.held sink.new) replies.old Served.OutOfMemory result }
-    ensures causes { (stops : ℕ) → Causes (K.faults sink.old) (K.faults sink.new) stops stops (Some result) }
-    ensures number { K.number sink.new ≡ K.number sink.old }
-{
-    match replies.give(sink) {
-        Ok(()) => Served::OutOfMemory,
-        Err(_) => Served::WriteFault,
     }
 }
 

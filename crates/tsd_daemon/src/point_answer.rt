@@ -1,20 +1,19 @@
 //! The answer to a put of a point.
-ghost use Rattle.std.specs.Prelude.{◌≡◌, ◌≤◌, [], ◌∷◌, Some, Err, IfOk, IfErr, OnErr};
-ghost use Rattle.row_key.specs.declared.tables.Table.TheVariants.{Points};
+ghost use Rattle.std.specs.Prelude.{◌≡◌, [], Err, IfOk, OnErr};
 ghost use Rattle.tsd_base.specs.Points.{data_point};
-ghost use Rattle.cell_model.specs.Seen.{RoseIfStopped};
-ghost use Rattle.cell_model.specs.declared.answers.RowsFault.TheVariants as fault;
+ghost use Rattle.cell_model.specs.Stops.{CountsStops, is_stop};
+ghost use Rattle.tsd_daemon.specs.declared.counts.Counts.{Counts};
 ghost use Rattle.tsd_daemon.specs.declared.counts.Counted.TheVariants as counted;
-ghost use Rattle.tsd_daemon.specs.PointAnswers.{PointReplied, IsRefusal};
-ghost use Rattle.tsd_daemon.specs.ServedConns.{HasRows};
-ghost use Rattle.tsd_daemon.specs.Talks.{WasBegun};
+ghost use Rattle.tsd_daemon.specs.PointAnswers.{IsRefusal, put_of};
+ghost use Rattle.tsd_daemon.specs.Talks.{Replied, WasBegun};
 
 use crate::counts::Counted;
 use crate::telnet_reply::refused_line;
-use cell_model::answers::{RowsFault, Stored};
+use cell_model::answers::RowsFault;
 use cell_model::rows::Rows;
 use compactor::queue::Queue;
-use point_put::{Config, PutFault, put};
+use point_put::{Config, PutFault};
+use queued_put::put_queued;
 use std::alloc::Global;
 use tsd_base::points::Point;
 use uid_table::uids::Uids;
@@ -35,33 +34,24 @@ pub fn answer_point<R: Rows + Drop>(
     queue: &mut Queue,
     point: &Point,
 ) -> Result<Answer, RowsFault>
-    ensures ok { IfOk result (λ answer. PointReplied config.now (data_point point.now) (R.seen names.old) queue.old answer.reply.items answer.counted (R.seen names.new) queue.new) }
-    ensures err { OnErr result (WasBegun config.now (Some (data_point point.now)) (R.seen names.old) (R.seen names.new)) }
-    ensures same { OnErr result (queue.new ≡ queue.old) }
-    ensures grows { R.stops names.old ≤ R.stops names.new }
-    ensures stopped { IfErr result (RoseIfStopped (R.stops names.old) (R.stops names.new)) }
+    ensures ok { IfOk result (λ answer. (counts : Counts) → Replied config.now counts (put_of (data_point point.now)) (R.seen names.old) queue.old answer.reply.items answer.counted (R.seen names.new) queue.new) }
+    ensures err { OnErr result (WasBegun config.now (put_of (data_point point.now)) (R.seen names.old) queue.old (R.seen names.new) queue.new) }
+    ensures stops { CountsStops is_stop result (R.stops names.old) (R.stops names.new) }
 {
-    match put(alloc, names, config, point) {
-        Ok(stored) => accepted(alloc, queue, stored),
+    match put_queued(alloc, names, config, queue, point) {
+        Ok(()) => Ok(accepted(alloc)),
         Err(fault) => refused(alloc, &fault),
     }
 }
 
-/// The answer to a point that was stored in this row.
-fn accepted(alloc: Global, queue: &mut Queue, stored: Stored) -> Result<Answer, RowsFault>
-    requires { stored.row.table ≡ Points }
-    ensures reply { IfOk result (λ answer. answer.reply.items ≡ []) }
-    ensures counted { IfOk result (λ answer. answer.counted ≡ counted.Accepted) }
-    ensures row { IfOk result (λ answer. HasRows queue.old (stored ∷ []) queue.new) }
-    ensures err { OnErr result (queue.new ≡ queue.old) }
-    ensures memory { IfErr result (λ e. e ≡ fault.OutOfMemory) }
+/// The answer to a point that was put.
+fn accepted(alloc: Global) -> Answer
+    ensures reply { result.reply.items ≡ [] }
+    ensures counted { result.counted ≡ counted.Accepted }
 {
-    match queue.add(stored) {
-        Ok(_) => Ok(Answer {
-            reply: Vec::new(alloc),
-            counted: Counted::Accepted,
-        }),
-        Err(_) => Err(RowsFault::OutOfMemory),
+    Answer {
+        reply: Vec::new(alloc),
+        counted: Counted::Accepted,
     }
 }
 

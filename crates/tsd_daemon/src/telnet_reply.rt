@@ -4,7 +4,6 @@ ghost use Rattle.tsd_base.specs.Faults.{point_fault_text};
 ghost use Rattle.point_put.specs.PutFaults.{put_fault_text};
 ghost use Rattle.telnet_put.specs.TelnetCommands.{request_of};
 ghost use Rattle.tsd_daemon.specs.ConnRequests.{point_asked};
-ghost use Rattle.tsd_daemon.specs.ConnRequests.ConnRequest.{Telnet};
 ghost use Rattle.tsd_daemon.specs.ConnReplies.{fixed_reply, line, put_line, stats_text};
 
 use crate::counts::Counts;
@@ -18,7 +17,7 @@ use tsd_base::points::PointFault;
 #[tactic(auto, unfolding(crate::specs::ConnReplies::fixed_reply))]
 pub fn fixed_reply(alloc: Global, counts: &Counts, command: &Command) -> Result<Vec<u8>, AllocError>
     requires { point_asked (request_of command.now) ≡ None }
-    ensures { IfOk result (λ reply. reply.items ≡ fixed_reply counts.now (Telnet (request_of command.now))) }
+    ensures { IfOk result (λ reply. reply.items ≡ fixed_reply counts.now (request_of command.now)) }
 {
     match command {
         Command::Put { result: Ok(_) } => unreachable!(),

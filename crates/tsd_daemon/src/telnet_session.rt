@@ -1,13 +1,15 @@
 //! A telnet session, from its bytes to its replies.
-ghost use Rattle.std.specs.Prelude.{◌≡◌, ℕ, ◌^◌, ◌<◌, ◌≤◌, [], length, None, Err, IfErr, OnOk};
+ghost use Rattle.std.specs.Prelude.{◌≡◌, ℕ, ◌^◌, ◌<◌, ◌≤◌, [], length, None};
 ghost use Rattle.std.specs.Io.KnownBytes.{IsAtEnd};
-ghost use Rattle.tsd_daemon.specs.Talks.{Causes, ConnCauses, Moves, PieceMoves, TelnetServed, telnet_to_come};
+ghost use Rattle.tsd_daemon.specs.ConnRequests.{telnet_asks};
+ghost use Rattle.tsd_daemon.specs.ServedConns.{ConnCauses};
+ghost use Rattle.tsd_daemon.specs.Talks.{Causes, Moves, SessionServed, telnet_to_come};
 
 use crate::conn_input::ConnInput;
-use crate::exchange::{break_off, exchange};
-use crate::reply_buffer::ReplyBuffer;
+use crate::exchange::exchange;
+use crate::next_piece::next_piece;
 use crate::served::Served;
-use crate::session::Session;
+use crate::session::{Session, break_off};
 use cell_model::rows::Rows;
 use compactor::queue::Queue;
 use point_put::Config;
@@ -27,7 +29,7 @@ pub fn serve_telnet<R: Rows + Drop, S: Source, K: Sink>(
     input: &mut ConnInput,
 ) -> Served
     requires { input.old.taken ≤ 2 ^ 40 }
-    ensures served { TelnetServed config.now (R.seen names.old) (K.held sink.old) queue.old input.old (S.taken source.old) (S.left source.old)
+    ensures served { SessionServed telnet_asks config.now (R.seen names.old) (K.held sink.old) queue.old input.old (S.taken source.old) (S.left source.old)
         result (R.seen names.new) (K.held sink.new) queue.new (S.taken source.new) (S.left source.new) }
     ensures end { result ≡ Served.End → IsAtEnd (S.left source.new) }
     ensures causes { ConnCauses (S.faults source.old) (S.faults source.new) (K.faults sink.old) (K.faults sink.new) (R.stops names.old) (R.stops names.new) result }
@@ -77,26 +79,5 @@ fn answer_all<R: Rows + Drop, K: Sink>(
                 }
             }
         }
-    }
-}
-
-/// Gives the replies that wait, and takes the next piece, which has a byte.
-fn next_piece<S: Source, K: Sink>(
-    source: &mut S,
-    sink: &mut K,
-    replies: &mut ReplyBuffer,
-    input: &mut ConnInput,
-) -> Result<(), Served>
-    ensures moves { PieceMoves (S.taken source.old) (S.taken source.new) (S.left source.old) (S.left source.new) (K.held sink.old) (K.held sink.new) replies.old input.old result input.new }
-    ensures none { OnOk result (replies.new ≡ []) }
-    ensures end { result ≡ Err Served.End → IsAtEnd (S.left source.new) }
-    ensures causes { IfErr result (λ end. (stops : ℕ) → ConnCauses (S.faults source.old) (S.faults source.new) (K.faults sink.old) (K.faults sink.new) stops stops end) }
-    ensures later { (S.faults source.old ≤ S.faults source.new) × (K.faults sink.old ≤ K.faults sink.new) }
-    ensures source { S.number source.new ≡ S.number source.old }
-    ensures sink { K.number sink.new ≡ K.number sink.old }
-{
-    match replies.give(sink) {
-        Ok(()) => input.take(source),
-        Err(_) => Err(Served::WriteFault),
     }
 }

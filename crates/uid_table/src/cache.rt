@@ -12,7 +12,6 @@ ghost use Rattle.uid_table.specs.Cache.{AreAmong, IsShownId, IsShownName, KeepsI
 
 use cell_model::row::Row;
 use lru::LruCache;
-use qual_codec::Bytes;
 use row_key::Table;
 use std::alloc::{AllocError, Global};
 use std::hash::{Hash, Hasher};
@@ -77,7 +76,7 @@ pub fn name_key(alloc: Global, kind: Kind, name: &Name) -> Result<NameKey, Alloc
 {
     let row = Row {
         table: Table::Ids,
-        bytes: Bytes::of(alloc, name.bytes())?,
+        bytes: name.copy_bytes(alloc)?,
     };
     Ok(NameKey { kind, row })
 }

@@ -12,11 +12,11 @@ returns-in_default-clause-moves g c =
 pub returns-in-Some-clause-moves : goal.returns-in-Some-clause-moves
 returns-in-Some-clause-moves g c =
     let held = g.K.Sink.held in
-    fixed_last (Telnet (request_of c.args.command.now)) (held c.args.sink.now) (held c.tell_last.new.sink) c.args.session.now.replies c.tell_last.new.replies c.args.session.now.counts c.args.session.now.counts c.as_slice.result.now c.in-Some.end c.tell_last.result
+    fixed_last (request_of c.args.command.now) (held c.args.sink.now) (held c.tell_last.new.sink) c.args.session.now.replies c.tell_last.new.replies c.args.session.now.counts c.args.session.now.counts c.as_slice.result.now c.in-Some.end c.tell_last.result
     c.requires (c.as_slice.ensures.value ∙ c.in-Ok.ensures) (sym c.in-Some.ensures) c.tell_last.ensures.gives
 
 pub returns-clause-moves : goal.returns-clause-moves
 returns-clause-moves g c =
     let held = g.K.Sink.held in
-    fixed_told (Telnet (request_of c.args.command.now)) (held c.args.sink.now) (held c.tell_fixed.new.sink) c.args.session.now.replies c.tell_fixed.new.session.replies c.args.session.now.counts c.tell_fixed.new.session.counts c.as_slice-in-None.result.now c.tell_fixed.result
+    fixed_told (request_of c.args.command.now) (held c.args.sink.now) (held c.tell_fixed.new.sink) c.args.session.now.replies c.tell_fixed.new.session.replies c.args.session.now.counts c.tell_fixed.new.session.counts c.as_slice-in-None.result.now c.tell_fixed.result
     c.requires (c.as_slice-in-None.ensures.value ∙ c.in-Ok.ensures) (sym c.in-None.ensures) c.tell_fixed.ensures.some c.tell_fixed.ensures.counts

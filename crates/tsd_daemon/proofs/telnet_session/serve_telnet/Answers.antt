@@ -1,7 +1,7 @@
 use Rattle.std.proofs.Common.{ℕ, ◌∙◌, ◌++◌, List, [], map, refl, sym, subst, arith, ap}
-use Rattle.telnet_put.specs.Requests.{requests_of}
 use Rattle.tsd_daemon.specs.declared.counts.Counts.{Counts}
 use Rattle.tsd_daemon.specs.ConnReplies.{no_counts}
+use Rattle.tsd_daemon.specs.ConnRequests.{telnet_asks}
 use Rattle.tsd_daemon.specs.ConnRequests.ConnRequest.{Telnet}
 use Rattle.tsd_daemon.specs.Talks.{Taken, Talks, telnet_to_come}
 use Rattle.tsd_daemon.proofs.Pieces.{conn_causes, fed_come, later_causes, talk_no_piece, talk_piece}
@@ -37,7 +37,7 @@ loop-session-init g c = record {
       let held = g.K.Sink.held c.args.sink.now in
       let t : Taken = record { taken = g.S.Source.taken c.args.source.now; left = g.S.Source.left c.args.source.now; size = c.args.input.now.taken } in
       let come = talk_come c.args.config.now from t (record { seen = seen; held = held; queue = c.args.queue.now; waiting = []; counts = no_counts })
-      (λ more. map Telnet (requests_of (c.args.input.now.piece ++ more))) (λ more. telnet_to_come c.make-lines.result (c.args.input.now.piece ++ more)) k (λ more. ap (map Telnet) (c.make-lines.ensures (c.args.input.now.piece ++ more))) in
+      (λ more. telnet_asks (c.args.input.now.piece ++ more)) (λ more. telnet_to_come c.make-lines.result (c.args.input.now.piece ++ more)) k (λ more. ap (map Telnet) (c.make-lines.ensures (c.args.input.now.piece ++ more))) in
       subst (λ (n : Counts). Talks c.args.config.now from t (record { seen = seen; held = held; queue = c.args.queue.now; waiting = c.make-session.result.replies; counts = n }) (λ more. telnet_to_come c.make-lines.result (c.args.input.now.piece ++ more))) (sym c.make-session.ensures.counts)
       (subst (λ (w : List ℕ). Talks c.args.config.now from t (record { seen = seen; held = held; queue = c.args.queue.now; waiting = w; counts = no_counts }) (λ more. telnet_to_come c.make-lines.result (c.args.input.now.piece ++ more))) (sym c.make-session.ensures.replies) come);
   quiet = c.make-session.ensures.replies;

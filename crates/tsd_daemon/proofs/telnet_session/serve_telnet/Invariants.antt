@@ -1,7 +1,6 @@
-use Rattle.std.proofs.Common.{◌≡◌, ◌-◌, ◌^◌, ◌≤◌, ◌++◌, [], map}
-use Rattle.telnet_put.specs.Requests.{requests_of}
+use Rattle.std.proofs.Common.{◌≡◌, ◌-◌, ◌^◌, ◌≤◌, ◌++◌, []}
 use Rattle.tsd_daemon.specs.ConnReplies.{no_counts}
-use Rattle.tsd_daemon.specs.ConnRequests.ConnRequest.{Telnet}
+use Rattle.tsd_daemon.specs.ConnRequests.{telnet_asks}
 use Rattle.tsd_daemon.specs.Talks.{MovesOn, telnet_to_come}
 use Rattle.tsd_daemon.proofs.telnet_session.serve_telnet.Given as goal
 
@@ -13,7 +12,7 @@ invariant-loop-session g l =
     let s = g.S.Source in
     record {
       talks : MovesOn l.config (record { taken = s.taken l.fn.source; left = s.left l.fn.source; size = l.fn.input.taken })
-          (record { seen = seen l.fn.names; held = held l.fn.sink; queue = l.fn.queue; waiting = []; counts = no_counts }) (λ more. map Telnet (requests_of (l.fn.input.piece ++ more)))
+          (record { seen = seen l.fn.names; held = held l.fn.sink; queue = l.fn.queue; waiting = []; counts = no_counts }) (λ more. telnet_asks (l.fn.input.piece ++ more))
           (record { taken = s.taken l.source; left = s.left l.source; size = l.input.taken })
           (record { seen = seen l.names; held = held l.sink; queue = l.queue; waiting = l.session.replies; counts = l.session.counts }) (λ more. telnet_to_come l.lines (l.input.piece ++ more));
       quiet : l.session.replies ≡ [];

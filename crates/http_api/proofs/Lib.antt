@@ -1,0 +1,3 @@
+mod Answering
+mod Bodies
+pub mod CallerLemmas

@@ -1,0 +1,137 @@
+-- What a call asks for, a function of the call alone.
+use Rattle.std.specs.Prelude.{ℕ, Bool, is_some, List, [], ◌∷◌, codes, Option, None, Some, Result, Ok, Err, if◌then◌else◌}
+use Rattle.serde_json.specs.Data.{Data, Items, no_items, item}
+use Rattle.serde_json.specs.Find.{as_array, as_object}
+use Rattle.json_bodies.specs.JsonBodies.{json_of}
+use Rattle.json_reply.specs.ErrorBodies.{error_body}
+use Rattle.http_exchange.specs.declared.http_call.Call.{Call}
+use Rattle.http_exchange.specs.declared.http_call.Verb.{Verb}
+use Rattle.http_exchange.specs.declared.http_call.Verb.TheVariants.{Get, Post, Other}
+use Rattle.http_exchange.specs.declared.http_call.Refusal.{Refusal}
+use Rattle.http_exchange.specs.declared.http_call.Refusal.TheVariants.{BadHead, HeadTooLarge, Codings, BadLength, NoLength, BodyTooLarge}
+use Rattle.http_forms.specs.Forms.{first_value, form_pairs}
+use Rattle.http_reply.specs.declared.reply_status.Status.{Status}
+use Rattle.http_reply.specs.declared.reply_status.Status.TheVariants as status
+use Rattle.http_reply.specs.FixedBodies.{aggregators_body, version_body}
+use Rattle.http_reply.specs.ReplyStatuses.{code_of}
+use Rattle.http_routes.specs.Routes.{route_of}
+use Rattle.http_routes.specs.declared.routes.Route.{Route}
+use Rattle.http_routes.specs.declared.routes.Route.TheVariants as route
+use Rattle.name_requests.specs.AssignRequests.{AssignLists, assign_by_body, assign_by_form}
+use Rattle.name_requests.specs.declared.fault.AssignFault.{AssignFault}
+use Rattle.name_requests.specs.declared.fault.SuggestFault.{SuggestFault}
+use Rattle.name_requests.specs.RequestFaults.{assign_fault_text, suggest_fault_text}
+use Rattle.name_requests.specs.SuggestRequests.{Suggestion, suggest_by_body, suggest_by_form}
+
+-- what a reply to a put is to tell beside its status
+pub record PutFlags : Type 0 where
+  pub details : Bool
+  pub summary : Bool
+
+-- a fixed answer; elements to put, one after the other; names to give ids; or names to suggest
+pub data Work : Type 0 where
+  Says : Status → List ℕ → Work
+  Puts : PutFlags → List Data → Work
+  Assigns : AssignLists → Work
+  Suggests : Suggestion → Work
+
+abbrev pub refuses : Status → List ℕ → Work
+refuses status message = Says status (error_body (code_of status) message)
+
+-- ---- refusals of a head
+
+abbrev pub refusal_status : Refusal → Status
+refusal_status BadHead = status.BadRequest
+refusal_status HeadTooLarge = status.RequestHeaderFieldsTooLarge
+refusal_status Codings = status.NotImplemented
+refusal_status BadLength = status.BadRequest
+refusal_status NoLength = status.LengthRequired
+refusal_status BodyTooLarge = status.PayloadTooLarge
+
+abbrev pub refusal_message : Refusal → List ℕ
+refusal_message BadHead = codes "bad head"
+refusal_message HeadTooLarge = codes "head too large"
+refusal_message Codings = codes "codings are not supported"
+refusal_message BadLength = codes "bad length"
+refusal_message NoLength = codes "length required"
+refusal_message BodyTooLarge = codes "body too large"
+
+-- ---- a put
+
+abbrev pub items_in : Items → List Data
+items_in no_items = []
+items_in (item d ds) = d ∷ items_in ds
+
+abbrev pub elements_by : Data → Option Items → Option (List Data)
+elements_by body (Some items) = Some (items_in items)
+elements_by body None = if is_some (as_object body) then Some (body ∷ []) else None
+
+-- the elements of a list, or one object
+abbrev pub elements_of : Data → Option (List Data)
+elements_of body = elements_by body (as_array body)
+
+abbrev pub has_parameter : List ℕ → List ℕ → Bool
+has_parameter name form = is_some (first_value name (form_pairs form))
+
+-- a flag is set where a parameter has its name, whatever its value
+abbrev pub put_flags : List ℕ → PutFlags
+put_flags form = record { details = has_parameter (codes "details") form; summary = has_parameter (codes "summary") form }
+
+abbrev pub puts_elements : PutFlags → Option (List Data) → Work
+puts_elements flags None = refuses status.BadRequest (codes "body is not a point or a list of points")
+puts_elements flags (Some elements) = Puts flags elements
+
+abbrev pub puts_body : PutFlags → Option Data → Work
+puts_body flags None = refuses status.BadRequest (codes "body is not JSON")
+puts_body flags (Some body) = puts_elements flags (elements_of body)
+
+-- ---- names
+
+abbrev pub assigns : Result AssignLists AssignFault → Work
+assigns (Ok lists) = Assigns lists
+assigns (Err fault) = refuses status.BadRequest (assign_fault_text fault)
+
+abbrev pub suggests : Result Suggestion SuggestFault → Work
+suggests (Ok suggestion) = Suggests suggestion
+suggests (Err fault) = refuses status.BadRequest (suggest_fault_text fault)
+
+-- ---- routes
+
+abbrev pub no_path : Work
+no_path = refuses status.NotFound (codes "no such path")
+
+abbrev pub no_method : Work
+no_method = refuses status.MethodNotAllowed (codes "no such method")
+
+-- by GET
+abbrev pub got_by : Route → List ℕ → Work
+got_by route.Put form = no_method
+got_by route.Assign form = assigns (assign_by_form form)
+got_by route.Suggest form = suggests (suggest_by_form form)
+got_by route.Version form = Says status.Ok version_body
+got_by route.Aggregators form = Says status.Ok aggregators_body
+
+-- by POST
+abbrev pub posted_by : Route → List ℕ → List ℕ → Work
+posted_by route.Put form body = puts_body (put_flags form) (json_of body)
+posted_by route.Assign form body = assigns (assign_by_body body)
+posted_by route.Suggest form body = suggests (suggest_by_body body)
+posted_by route.Version form body = Says status.Ok version_body
+posted_by route.Aggregators form body = Says status.Ok aggregators_body
+
+abbrev pub by_verb : Verb → Route → Call → Work
+by_verb Get route call = got_by route call.form
+by_verb Post route call = posted_by route call.form call.body
+by_verb Other route call = no_method
+
+abbrev pub by_route : Option Route → Call → Work
+by_route None call = no_path
+by_route (Some route) call = by_verb call.verb route call
+
+abbrev pub by_refusal : Option Refusal → Call → Work
+by_refusal (Some refusal) call = refuses (refusal_status refusal) (refusal_message refusal)
+by_refusal None call = by_route (route_of call.path) call
+
+-- what a call asks for: the refusal of its head, or else what its path and its method say
+unfoldable pub work_of : Call → Work
+work_of call = by_refusal call.refused call

@@ -1,0 +1,121 @@
+-- What a call is answered, by the entries that its caller makes for it between two lengths of a history.
+use Rattle.std.specs.Prelude.{◌≡◌, ◌⊎◌, ℕ, Bool, List, [], ◌++◌, map, Option, None, Some, option_map, Vec}
+use Rattle.std.specs.declared.alloc.Global.{Global}
+use Rattle.tsd_base.specs.declared.kinds.Kind.TheVariants.{Metric, TagKey, TagValue}
+use Rattle.cell_model.specs.declared.answers.Stored.{Stored}
+use Rattle.cell_model.specs.History.{History}
+use Rattle.cell_model.specs.IdRows.{NameOf}
+use Rattle.cell_model.specs.Deeds.{deeds, Since}
+use Rattle.cell_model.specs.Seen.{Seen, InEach}
+use Rattle.compactor.specs.Queues.{HasRows}
+use Rattle.point_put.specs.declared.config.Config.{Config}
+use Rattle.queued_put.specs.PutRows.{MayHaveRows}
+use Rattle.json_reply.specs.Texts.{names_text}
+use Rattle.http_exchange.specs.declared.http_call.Call.{Call}
+use Rattle.http_put.specs.PutElements.{Outcome, PutBegun, PutRan}
+use Rattle.http_assign.specs.AssignLists.{AssignBegun, AssignRan, IdTold, of_kind, outcomes_of}
+use Rattle.http_assign.specs.SuggestNames.{SuggestAsked, SuggestBegun}
+use Rattle.http_reply.specs.declared.assign_reply.Assignment.{Assignment}
+use Rattle.http_reply.specs.declared.assign_reply.Element.{Element}
+use Rattle.http_reply.specs.declared.reply_status.Status.{Status}
+use Rattle.http_reply.specs.declared.reply_status.Status.TheVariants as status
+use Rattle.http_reply.specs.AssignReplies.{assign_body, assign_status}
+use Rattle.http_reply.specs.PutReplies.{put_body, put_status}
+use Rattle.http_reply.specs.ReplyBytes.{reply_bytes}
+use Rattle.name_requests.specs.AssignRequests.{AssignLists}
+use Rattle.http_api.specs.CallWork.{Work, work_of}
+use Rattle.http_api.specs.CallWork.Work.{Says, Puts, Assigns, Suggests}
+
+-- ---- an assignment's elements
+
+abbrev pub names_in : Option (List (List ℕ)) → List (List ℕ)
+names_in None = []
+names_in (Some names) = names
+
+-- the texts with their kinds: first the metrics, then the tag keys, then the tag values
+abbrev pub named_in : AssignLists → List NameOf
+named_in lists = of_kind Metric (names_in lists.metric) ++ (of_kind TagKey (names_in lists.tagk) ++ of_kind TagValue (names_in lists.tagv))
+
+-- the texts of the elements of a kind, and what they were answered
+abbrev pub element_texts : Option (Vec Element Global) → Option (List (List ℕ))
+element_texts elements = option_map (λ list. map (λ (element : Element). element.text.items) list.items) elements
+
+abbrev pub element_answers : Option (Vec Element Global) → List IdTold
+element_answers None = []
+element_answers (Some elements) = outcomes_of (map (λ (element : Element). element.answer) elements.items)
+
+abbrev pub answers_in : Assignment → List IdTold
+answers_in answers = element_answers answers.metric ++ (element_answers answers.tagk ++ element_answers answers.tagv)
+
+-- the elements have these texts, kind by kind
+pub record HasTexts (lists : AssignLists) (answers : Assignment) : Type 0 where
+  pub metric : element_texts answers.metric ≡ lists.metric
+  pub tagk : element_texts answers.tagk ≡ lists.tagk
+  pub tagv : element_texts answers.tagv ≡ lists.tagv
+
+-- ---- what is told
+
+-- the status and the body of a reply
+pub record Told : Type 0 where
+  pub status : Status
+  pub body : List ℕ
+
+abbrev pub told : Status → List ℕ → Told
+told status body = record { status = status; body = body }
+
+-- Work was done between two lengths of the history, and so much is told of it; these rows are of the points that were accepted. A fixed answer makes no
+-- entry. Elements and names are asked one after the other, each between two lengths of its own.
+abbrev pub Done : Config → History → ℕ → ℕ → ℕ → Work → Told → List Stored → Type 0
+Done c h caller n n2 (Says status body) t stored = (deeds h caller n n2 ≡ []) × (t ≡ told status body) × (stored ≡ [])
+Done c h caller n n2 (Puts flags elements) t stored =
+    (outcomes : List Outcome) × PutRan c h caller n elements outcomes stored n2 × (t ≡ told (put_status flags.details flags.summary outcomes) (put_body flags.details flags.summary outcomes))
+Done c h caller n n2 (Assigns lists) t stored =
+    (answers : Assignment) × HasTexts lists answers × AssignRan h caller n (named_in lists) (answers_in answers) n2 × (t ≡ told (assign_status answers) (assign_body answers)) × (stored ≡ [])
+Done c h caller n n2 (Suggests s) t stored =
+    (names : List (List ℕ)) × SuggestAsked h caller n s.kind s.prefix s.max names n2 × (t ≡ told status.Ok (names_text names)) × (stored ≡ [])
+
+-- the reply to work that was done
+pub record WorkAnswered (c : Config) (h : History) (caller n n2 : ℕ) (work : Work) (closing : Bool) (reply : List ℕ) (stored : List Stored) : Type 0 where
+  pub tells : Told
+  pub done : Done c h caller n n2 work tells stored
+  pub reply_is : reply ≡ reply_bytes tells.status closing tells.body
+
+-- a call was answered between two lengths of the history with this reply, and these rows are of the points that were accepted
+abbrev pub CallAnswered : Config → History → ℕ → ℕ → ℕ → Call → List ℕ → List Stored → Type 0
+CallAnswered c h caller n n2 call reply stored = WorkAnswered c h caller n n2 (work_of call) call.closing reply stored
+
+-- elements or names were begun between two lengths of the history
+abbrev pub WorkBegun : Config → History → ℕ → ℕ → ℕ → Work → Type 0
+WorkBegun c h caller n n2 (Says status body) = ⊥
+WorkBegun c h caller n n2 (Puts flags elements) = (stored : List Stored) × PutBegun c h caller n elements stored n2
+WorkBegun c h caller n n2 (Assigns lists) = AssignBegun h caller n (named_in lists) n2
+WorkBegun c h caller n n2 (Suggests s) = SuggestBegun h caller n n2
+
+-- no entry was made, or the work was begun
+abbrev pub BegunAtMost : Config → History → ℕ → ℕ → ℕ → Work → Type 0
+BegunAtMost c h caller n n2 work = (deeds h caller n n2 ≡ []) ⊎ WorkBegun c h caller n n2 work
+
+-- a call was begun between two lengths of the history
+abbrev pub CallBegun : Config → History → ℕ → ℕ → ℕ → Call → Type 0
+CallBegun c h caller n n2 call = BegunAtMost c h caller n n2 (work_of call)
+
+-- ---- what a caller sees of it
+
+-- work was answered with this reply in each lawful history that fits, and the queue got the rows of the points that were accepted
+pub record WorkReplied (c : Config) (work : Work) (closing : Bool) (old : Seen) (before : List Stored) (reply : List ℕ) (new : Seen) (after : List Stored) : Type 0 where
+  pub stored : List Stored
+  pub since : Since old new
+  pub answered : InEach new (λ h. WorkAnswered c h old.caller old.length new.length work closing reply stored)
+  pub rows : HasRows before stored after
+
+abbrev pub CallReplied : Config → Call → Seen → List Stored → List ℕ → Seen → List Stored → Type 0
+CallReplied c call old before reply new after = WorkReplied c (work_of call) call.closing old before reply new after
+
+-- work was begun, and the queue may have got rows that its entries put
+pub record WorkBroken (c : Config) (work : Work) (old : Seen) (before : List Stored) (new : Seen) (after : List Stored) : Type 0 where
+  pub since : Since old new
+  pub begun : InEach new (λ h. BegunAtMost c h old.caller old.length new.length work)
+  pub rows : InEach new (λ h. MayHaveRows before [] (deeds h old.caller old.length new.length) after)
+
+abbrev pub CallBroken : Config → Call → Seen → List Stored → Seen → List Stored → Type 0
+CallBroken c call old before new after = WorkBroken c (work_of call) old before new after

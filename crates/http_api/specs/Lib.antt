@@ -1,0 +1,3 @@
+pub mod CallWork
+pub mod CallTasks
+pub mod HttpAnswers

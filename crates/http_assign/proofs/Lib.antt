@@ -1,0 +1,3 @@
+mod TextEntries
+mod TextRuns
+pub mod CallerLemmas

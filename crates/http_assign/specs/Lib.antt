@@ -1,0 +1,4 @@
+pub mod AssignEntries
+pub mod AssignLists
+pub mod AssignTexts
+pub mod SuggestNames

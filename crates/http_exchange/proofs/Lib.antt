@@ -1,0 +1,5 @@
+pub mod CallerLemmas
+mod EndLemmas
+mod HeadLemmas
+mod ReaderLemmas
+mod RequestLemmas

@@ -1,0 +1,3 @@
+mod ElementRuns
+mod OneElement
+pub mod CallerLemmas

@@ -1,0 +1,2 @@
+pub mod PutElements
+pub mod PutOneElement

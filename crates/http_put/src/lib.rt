@@ -1,0 +1,4 @@
+//! The elements of an HTTP put, asked one after the other over any rows.
+#![tactic(auto)]
+
+pub mod put_elements;

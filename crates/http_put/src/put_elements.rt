@@ -1,0 +1,121 @@
+//! The put of a list of elements.
+ghost use Rattle.std.specs.Prelude.{◌≡◌, [], map, Err, IfOk, OnErr, IfErr};
+ghost use Rattle.serde_json.specs.View.{view};
+ghost use Rattle.tsd_base.specs.Points.{data_point};
+ghost use Rattle.cell_model.specs.Deeds.{Since, deeds};
+ghost use Rattle.cell_model.specs.Seen.{InEach};
+ghost use Rattle.cell_model.specs.Stops.{CountsStops, is_stop};
+ghost use Rattle.cell_model.specs.declared.answers.RowsFault.TheVariants as rows_fault;
+ghost use Rattle.point_put.specs.declared.fault.PutFault.TheVariants as put_fault;
+ghost use Rattle.queued_put.specs.PutRows.{MayHaveRows};
+ghost use Rattle.http_put.specs.PutElements.{text_of, texts_of, ElementsPut, ElementsBegun};
+ghost use Rattle.http_put.specs.PutOneElement.{ElementPut, ElementBegun, PointPut, PointBegun, RefusedElement, RefusedPoint};
+
+use cell_model::answers::RowsFault;
+use cell_model::rows::Rows;
+use compactor::queue::Queue;
+use json_points::elements::read_element;
+use json_points::fault::ElementFault;
+use point_put::{Config, PutFault};
+use queued_put::put_queued;
+use serde_json::Value;
+use std::alloc::Global;
+use tsd_base::points::Point;
+use uid_table::uids::Uids;
+
+/// Puts the points of elements, one after the other, in their order, and adds the row of each that was stored to the queue. The
+/// answer has None for an element that was stored, and else the text of its refusal; one that is refused leaves the others as they are.
+///
+/// A fault ends the put. The elements before it stay put, and their rows queued; of the next one some steps may be done.
+pub fn put_elements<R: Rows + Drop>(
+    alloc: Global,
+    names: &mut Uids<R>,
+    config: &Config,
+    queue: &mut Queue,
+    elements: &[Value],
+) -> Result<Vec<Option<Vec<u8>>>, RowsFault>
+    ensures since { Since (R.seen names.old) (R.seen names.new) }
+    ensures ok { IfOk result (λ outs. ElementsPut config.now (map view elements.now) (R.seen names.old) queue.old (texts_of outs.items) (R.seen names.new) queue.new) }
+    ensures err { OnErr result (ElementsBegun config.now (map view elements.now) (R.seen names.old) queue.old (R.seen names.new) queue.new) }
+    ensures queue { OnErr result (InEach (R.seen names.new) (λ h. MayHaveRows queue.old [] (deeds h (R.seen names.old).caller (R.seen names.old).length (R.seen names.new).length) queue.new)) }
+    ensures stops { CountsStops is_stop result (R.stops names.old) (R.stops names.new) }
+{
+    let mut outs = Vec::new(alloc);
+    for element in elements {
+        let out = put_element(alloc, names, config, queue, element)?;
+        match outs.push(out) {
+            Ok(()) => {}
+            Err(_) => return Err(RowsFault::OutOfMemory),
+        }
+    }
+    Ok(outs)
+}
+
+/// Puts the point of one element.
+fn put_element<R: Rows + Drop>(
+    alloc: Global,
+    names: &mut Uids<R>,
+    config: &Config,
+    queue: &mut Queue,
+    element: &Value,
+) -> Result<Option<Vec<u8>>, RowsFault>
+    ensures ok { IfOk result (λ out. ElementPut config.now (view element.now) (R.seen names.old) queue.old (text_of out) (R.seen names.new) queue.new) }
+    ensures err { OnErr result (ElementBegun config.now (view element.now) (R.seen names.old) (R.seen names.new)) }
+    ensures same { OnErr result (queue.new ≡ queue.old) }
+    ensures stops { CountsStops is_stop result (R.stops names.old) (R.stops names.new) }
+{
+    match read_element(alloc, element) {
+        Ok(point) => put_one(alloc, names, config, queue, &point),
+        Err(fault) => unread(alloc, &fault),
+    }
+}
+
+/// Puts the point of an element that reads.
+fn put_one<R: Rows + Drop>(
+    alloc: Global,
+    names: &mut Uids<R>,
+    config: &Config,
+    queue: &mut Queue,
+    point: &Point,
+) -> Result<Option<Vec<u8>>, RowsFault>
+    ensures ok { IfOk result (λ out. PointPut config.now (data_point point.now) (R.seen names.old) queue.old (text_of out) (R.seen names.new) queue.new) }
+    ensures err { OnErr result (PointBegun config.now (data_point point.now) (R.seen names.old) (R.seen names.new)) }
+    ensures same { OnErr result (queue.new ≡ queue.old) }
+    ensures stops { CountsStops is_stop result (R.stops names.old) (R.stops names.new) }
+{
+    match put_queued(alloc, names, config, queue, point) {
+        Ok(()) => Ok(None),
+        Err(fault) => refused(alloc, &fault),
+    }
+}
+
+/// What is told of an element that doesn't read. It fails only for want of memory.
+fn unread(alloc: Global, fault: &ElementFault) -> Result<Option<Vec<u8>>, RowsFault>
+    ensures ok { IfOk result (λ out. RefusedElement fault.now (text_of out)) }
+    ensures err { IfErr result (λ e. e ≡ rows_fault.OutOfMemory) }
+{
+    let mut text = Vec::new(alloc);
+    match fault {
+        ElementFault::OutOfMemory => Err(RowsFault::OutOfMemory),
+        fault => match fault.write_text(&mut text) {
+            Ok(()) => Ok(Some(text)),
+            Err(_) => Err(RowsFault::OutOfMemory),
+        },
+    }
+}
+
+/// What is told of a point that wasn't put, unless memory ran out or the caller was stopped.
+fn refused(alloc: Global, fault: &PutFault) -> Result<Option<Vec<u8>>, RowsFault>
+    ensures ok { IfOk result (λ out. RefusedPoint fault.now (text_of out)) }
+    ensures stopped { result ≡ Err rows_fault.Stopped → fault.now ≡ put_fault.Stopped }
+{
+    let mut text = Vec::new(alloc);
+    match fault {
+        PutFault::OutOfMemory => Err(RowsFault::OutOfMemory),
+        PutFault::Stopped => Err(RowsFault::Stopped),
+        fault => match fault.write_text(&mut text) {
+            Ok(()) => Ok(Some(text)),
+            Err(_) => Err(RowsFault::OutOfMemory),
+        },
+    }
+}

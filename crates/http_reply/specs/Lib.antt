@@ -1,0 +1,5 @@
+pub mod AssignReplies
+pub mod FixedBodies
+pub mod PutReplies
+pub mod ReplyBytes
+pub mod ReplyStatuses

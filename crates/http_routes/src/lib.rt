@@ -1,0 +1,4 @@
+//! The routes of HTTP requests.
+#![tactic(auto)]
+
+pub mod routes;

@@ -1,0 +1,4 @@
+//! JSON in the bodies of HTTP requests.
+#![tactic(auto)]
+
+pub mod json_body;

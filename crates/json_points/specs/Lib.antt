@@ -1,0 +1,2 @@
+pub mod ElementFaults
+pub mod Elements

@@ -1,0 +1,2 @@
+mod CommaLemmas
+mod MaxLemmas

@@ -1,0 +1,4 @@
+pub mod AssignRequests
+pub mod RequestFaults
+pub mod RequestReading
+pub mod SuggestRequests

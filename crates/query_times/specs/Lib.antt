@@ -1,0 +1,4 @@
+pub mod CivilDates
+pub mod CivilMoments
+pub mod QueryTimes
+pub mod TimeUnits

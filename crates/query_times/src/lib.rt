@@ -1,0 +1,8 @@
+//! The times that a query names, and the readers of their texts.
+#![tactic(auto)]
+
+pub mod civil_dates;
+pub mod query_times;
+#[cfg(test)]
+mod tests;
+pub mod time_units;

@@ -1,0 +1,2 @@
+pub mod PutRows
+pub mod QueuedPuts

@@ -1,0 +1,6 @@
+//! Putting a point, with the queue of rows that are to be compacted, over any rows.
+#![tactic(auto)]
+
+pub mod queued_point;
+
+pub use queued_point::put_queued;

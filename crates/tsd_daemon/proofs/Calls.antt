@@ -1,0 +1,41 @@
+-- Calls of an HTTP connection: those that are to come, and what one is answered.
+use Rattle.std.proofs.Common.{◌≡◌, ℕ, Bool, true, false, List, [], ◌++◌, map, refl, ap, ◌∙◌}
+use Rattle.std.specs.Prelude.{None, Some, if◌then◌else◌}
+use Rattle.cell_model.specs.declared.answers.Stored.{Stored}
+use Rattle.cell_model.specs.Seen.{Seen}
+use Rattle.point_put.specs.declared.config.Config.{Config}
+use Rattle.http_exchange.specs.declared.http_call.Call.{Call}
+use Rattle.http_exchange.specs.HttpSessions as sessions
+use Rattle.http_exchange.specs.HttpUnread.{Unread}
+use Rattle.http_api.specs.HttpAnswers.{CallBroken, CallReplied}
+use Rattle.tsd_daemon.specs.declared.counts.Counts.{Counts}
+use Rattle.tsd_daemon.specs.declared.counts.Counted.TheVariants as counted
+use Rattle.tsd_daemon.specs.declared.served.Served.TheVariants as answer
+use Rattle.tsd_daemon.specs.ConnRequests.{end_of}
+use Rattle.tsd_daemon.specs.ConnRequests.ConnRequest.{Http}
+use Rattle.tsd_daemon.specs.Talks.{IsNext, Replied, WasBegun, http_to_come}
+
+pub next_call : (old new : Unread) (call : Call) → sessions.Gives old call new → IsNext (Http call) (http_to_come old) (http_to_come new)
+next_call old new call g = record { next = λ more. ap (map Http) (g.next more); last = λ closes more. ap (map Http) (g.last closes more) }
+
+pub same_calls : (old new : Unread) → sessions.ComesAs old new → (more : List ℕ) → http_to_come new more ≡ http_to_come old more
+same_calls old new same more = ap (map Http) (same more)
+
+pub no_calls : (old new : Unread) → sessions.Waits old new → http_to_come new [] ≡ []
+no_calls old new w = ap (map Http) (w.same [] ∙ w.none)
+
+pub fed_calls : (old new : Unread) (piece fed : List ℕ) → piece ≡ fed → ((more : List ℕ) → sessions.to_come new more ≡ sessions.to_come old (piece ++ more)) → (more : List ℕ) → http_to_come new more ≡ http_to_come old (fed ++ more)
+fed_calls old new piece fed is same more = ap (map Http) (same more ∙ ap (λ (p : List ℕ). sessions.to_come old (p ++ more)) is)
+
+pub call_replied : (c : Config) (counts : Counts) (call : Call) (old new : Seen) (before after : List Stored) (reply : List ℕ) → CallReplied c call old before reply new after → Replied c counts (Http call) old before reply counted.Other new after
+call_replied c counts call old new before after reply r = record { stored = r.stored; since = r.since; answered = r.answered; rows = r.rows; how_is = refl }
+
+pub call_begun : (c : Config) (call : Call) (old new : Seen) (before after : List Stored) → CallBroken c call old before new after → WasBegun c (Http call) old before new after
+call_begun c call old new before after b = record { since = b.since; begun = b.begun; rows = b.rows }
+
+-- whether the connection ends with it
+pub closes_with : (call : Call) → call.closing ≡ true → end_of (Http call) ≡ Some answer.Closed
+closes_with call is = ap (λ (t : Bool). if t then Some answer.Closed else None) is
+
+pub stays_open : (call : Call) → call.closing ≡ false → end_of (Http call) ≡ None
+stays_open call is = ap (λ (t : Bool). if t then Some answer.Closed else None) is

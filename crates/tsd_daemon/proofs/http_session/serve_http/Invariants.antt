@@ -1,0 +1,28 @@
+use Rattle.std.proofs.Common.{◌≡◌, ◌-◌, ◌^◌, ◌≤◌, ◌++◌, []}
+use Rattle.tsd_daemon.specs.ConnReplies.{no_counts}
+use Rattle.tsd_daemon.specs.ConnRequests.{http_asks}
+use Rattle.tsd_daemon.specs.Talks.{MovesOn, http_to_come}
+use Rattle.tsd_daemon.proofs.http_session.serve_http.Given as goal
+
+-- no reply waits, and the last piece isn't fed yet
+abbrev pub invariant-loop-session : goal.invariant-loop-session
+invariant-loop-session g l =
+    let seen = g.R.Rows.seen in
+    let held = g.K.Sink.held in
+    let s = g.S.Source in
+    record {
+      talks : MovesOn l.config (record { taken = s.taken l.fn.source; left = s.left l.fn.source; size = l.fn.input.taken })
+          (record { seen = seen l.fn.names; held = held l.fn.sink; queue = l.fn.queue; waiting = []; counts = no_counts }) (λ more. http_asks (l.fn.input.piece ++ more))
+          (record { taken = s.taken l.source; left = s.left l.source; size = l.input.taken })
+          (record { seen = seen l.names; held = held l.sink; queue = l.queue; waiting = l.session.replies; counts = l.session.counts }) (λ more. http_to_come l.calls (l.input.piece ++ more));
+      quiet : l.session.replies ≡ [];
+      most : l.input.taken ≤ 2 ^ 40;
+      reads : s.faults l.fn.source ≤ s.faults l.source;
+      writes : g.K.Sink.faults l.fn.sink ≤ g.K.Sink.faults l.sink;
+      stops : g.R.Rows.stops l.fn.names ≤ g.R.Rows.stops l.names;
+      source : s.number l.source ≡ s.number l.fn.source;
+      sink : g.K.Sink.number l.sink ≡ g.K.Sink.number l.fn.sink;
+    }
+
+abbrev pub decreases-loop-session : goal.decreases-loop-session
+decreases-loop-session g l = 2 ^ 40 - l.input.taken
