@@ -22,6 +22,11 @@ abbrev pub first_value : List ℕ → List Parameter → Option (List ℕ)
 first_value name [] = None
 first_value name (p ∷ ps) = if pointwise nat_eq p.0 name then Some p.1 else first_value name ps
 
+-- the values of all parameters of a name, in order
+abbrev pub all_values : List ℕ → List Parameter → List (List ℕ)
+all_values name [] = []
+all_values name (p ∷ ps) = if pointwise nat_eq p.0 name then p.1 ∷ all_values name ps else all_values name ps
+
 -- what a pair of texts is seen as
 abbrev pub bytes_of : String Global × String Global → Parameter
 bytes_of p = (string_bytes p.0, string_bytes p.1)

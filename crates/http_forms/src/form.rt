@@ -1,6 +1,6 @@
 //! The parameters of a form.
 ghost use Rattle.std.specs.Prelude.{◌≡◌, map, option_map, is_some, IfOk};
-ghost use Rattle.http_forms.specs.Forms.{bytes_of, first_value, form_pairs};
+ghost use Rattle.http_forms.specs.Forms.{all_values, bytes_of, first_value, form_pairs};
 
 use form_urlencoded::parse;
 use std::alloc::{AllocError, Global};
@@ -43,6 +43,13 @@ impl Form {
         first_in(self.pairs.as_slice(), name.as_bytes())
     }
 
+    /// The values of all parameters of this name, in order. It fails only for want of memory.
+    pub fn all<'f>(&'f self, alloc: Global, name: &str) -> Result<Vec<&'f str>, AllocError>
+        ensures { IfOk result (λ values. map (λ value. value.now) values.items ≡ all_values name.now self.now) }
+    {
+        all_in(alloc, self.pairs.as_slice(), name.as_bytes())
+    }
+
     /// Whether a parameter has this name.
     pub fn has(&self, name: &str) -> bool
         ensures { result ≡ is_some (first_value name.now self.now) }
@@ -60,4 +67,20 @@ fn first_in<'p>(pairs: &'p [(String, String)], name: &[u8]) -> Option<&'p str>
         }
     }
     None
+}
+
+fn all_in<'p>(
+    alloc: Global,
+    pairs: &'p [(String, String)],
+    name: &[u8],
+) -> Result<Vec<&'p str>, AllocError>
+    ensures { IfOk result (λ values. map (λ value. value.now) values.items ≡ all_values name.now (map bytes_of pairs.now)) }
+{
+    let mut values = Vec::new(alloc);
+    for (found, value) in pairs {
+        if name == found.as_bytes() {
+            values.push(value.as_str())?;
+        }
+    }
+    Ok(values)
 }

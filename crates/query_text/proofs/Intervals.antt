@@ -14,7 +14,10 @@ use Rattle.tsd_base.specs.declared.kinds.Down.{Down}
 use Rattle.tsd_base.specs.declared.kinds.Fill.{Fill}
 use Rattle.tsd_base.specs.declared.kinds.Function.{Function}
 use Rattle.query_text.specs.Cuts.{before, behind}
-use Rattle.query_text.specs.Downs.{IsInterval, down_by, down_in, down_of, fill_of, function_named, interval_by, interval_of, is_interval, unit_named}
+use Rattle.query_text.specs.Downs.{IsInterval, down_by, down_in, down_of, fill_of, function_named, interval_by, interval_of, is_interval}
+use Rattle.query_times.specs.TimeUnits.{unit_millis}
+use Rattle.query_times.specs.declared.query_times.TheConstants.{MOST_UNITS}
+use Rattle.tsd_base.specs.declared.times.TheConstants.{LAST_TIME}
 use Rattle.query_text.specs.FilterTexts.{filters_of}
 use Rattle.query_text.specs.Subs.{asks_rate, colon_from, head_of, sub_by_aggregator, sub_by_colon, sub_by_down, sub_by_metric, sub_with, unless_colon, GivesSub}
 use Rattle.query_text.specs.declared.queries.Filter.{Filter}
@@ -26,7 +29,7 @@ cond_some : (b : Bool) (x y : Option ℕ) → IfSome x (λ n. 1 ≤ n) → IfSom
 cond_some true x y p q = p
 cond_some false x y p q = q
 
-unit_some : (name : List ℕ) → IfSome (unit_named name) (λ n. 1 ≤ n)
+unit_some : (name : List ℕ) → IfSome (unit_millis name) (λ n. 1 ≤ n)
 unit_some name =
     cond_some (is_same name (codes "ms")) _ _ (omega arith)
     (cond_some (is_same name (codes "s")) _ _ (omega arith)
@@ -47,7 +50,7 @@ interval_some number (Some unit) some = at (is_number number && is_interval (dig
     at false e = tt
     at true e =
         let all = and_parts (is_number number) (is_interval (digits_value 10 number) unit) e in
-        let n = and_parts (nat_le 1 (digits_value 10 number)) (nat_le (digits_value 10 number) 4294967295 && nat_le (digits_value 10 number * unit) 4294967295999) all.1 in
+        let n = and_parts (nat_le 1 (digits_value 10 number)) (nat_le (digits_value 10 number) MOST_UNITS && nat_le (digits_value 10 number * unit) LAST_TIME) all.1 in
         let least = n.0 in
         some_times (digits_value 10 number) unit (grind (arith, nat_tests, least)) some
 
@@ -74,11 +77,11 @@ module _ (ms : Bool) where
   shape_fits interval None some = tt
   shape_fits interval (Some shape) some = down_fits interval (function_named (before 45 shape)) (fill_of (behind 45 shape)) some
 
-  text_fits : (text : List ℕ) → Fits (down_of ms text)
+  pub text_fits : (text : List ℕ) → Fits (down_of ms text)
   text_fits text =
       let first = before 45 text in
       let n = prefix_len is_ascii_digit first in
-      shape_fits (interval_of first) (behind 45 text) (interval_some (take n first) (unit_named (drop n first)) (unit_some (drop n first)))
+      shape_fits (interval_of first) (behind 45 text) (interval_some (take n first) (unit_millis (drop n first)) (unit_some (drop n first)))
 
   -- ---- sub queries
   abbrev IfSub : Result Sub QueryFault → Type 0

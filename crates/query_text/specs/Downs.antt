@@ -10,20 +10,10 @@ use Rattle.tsd_base.specs.declared.kinds.Function.TheVariants.{Sum, Min, Max, Av
 use Rattle.tsd_base.specs.declared.kinds.Fill.{Fill}
 use Rattle.tsd_base.specs.declared.kinds.Fill.TheVariants.{NoFill, Zero}
 use Rattle.tsd_base.specs.declared.kinds.Down.{Down}
+use Rattle.query_times.specs.TimeUnits.{unit_millis}
+use Rattle.query_times.specs.declared.query_times.TheConstants.{MOST_UNITS}
+use Rattle.tsd_base.specs.declared.times.TheConstants.{LAST_TIME}
 use Rattle.query_text.specs.Cuts.{before, behind}
-
--- how many milliseconds the unit with this name has
-abbrev pub unit_named : List ℕ → Option ℕ
-unit_named name =
-    if is_same name (codes "ms") then Some 1
-    else if is_same name (codes "s") then Some 1000
-    else if is_same name (codes "m") then Some 60000
-    else if is_same name (codes "h") then Some 3600000
-    else if is_same name (codes "d") then Some 86400000
-    else if is_same name (codes "w") then Some 604800000
-    else if is_same name (codes "n") then Some 2592000000
-    else if is_same name (codes "y") then Some 31536000000
-    else None
 
 -- the function with this name
 abbrev pub function_named : List ℕ → Option Function
@@ -51,9 +41,9 @@ abbrev pub fill_of : Option (List ℕ) → Option Fill
 fill_of None = Some NoFill
 fill_of (Some name) = fill_named name
 
--- a number from 1 to 4294967295 of units, up to the last time
+-- a number of units from 1 to the greatest, up to the last time
 abbrev pub is_interval : ℕ → ℕ → Bool
-is_interval n unit = nat_le 1 n && (nat_le n 4294967295 && nat_le (n * unit) 4294967295999)
+is_interval n unit = nat_le 1 n && (nat_le n MOST_UNITS && nat_le (n * unit) LAST_TIME)
 
 abbrev pub interval_by : List ℕ → Option ℕ → Option ℕ
 interval_by number None = None
@@ -61,7 +51,7 @@ interval_by number (Some unit) = if is_number number && is_interval (digits_valu
 
 -- digits, and behind them a unit
 abbrev pub interval_of : List ℕ → Option ℕ
-interval_of text = interval_by (take (prefix_len is_ascii_digit text) text) (unit_named (drop (prefix_len is_ascii_digit text) text))
+interval_of text = interval_by (take (prefix_len is_ascii_digit text) text) (unit_millis (drop (prefix_len is_ascii_digit text) text))
 
 abbrev pub down_by : Bool → Option ℕ → Option Function → Option Fill → Option Down
 down_by ms (Some interval) (Some function) (Some fill) = if ms || nat_eq (interval % 1000) 0 then Some (record { interval = interval; function = function; fill = fill }) else None

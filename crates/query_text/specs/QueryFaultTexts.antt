@@ -1,4 +1,4 @@
--- What is told of a text that is no query.
+-- What is told of what is no query.
 use Rattle.std.specs.Prelude.{ℕ, List, [], ◌++◌, codes, decimal}
 use Rattle.query_text.specs.declared.queries.QueryFault.{QueryFault}
 use Rattle.query_text.specs.declared.queries.QueryFault.TheVariants as query
@@ -10,4 +10,7 @@ query_fault_text query.UnknownAggregator = codes "unknown aggregator"
 query_fault_text query.RateRefused = codes "rate is not supported"
 query_fault_text query.BadDownsample = codes "bad downsample"
 query_fault_text (query.BadFilter index) = codes "bad filter " ++ decimal index
+query_fault_text query.BadTimes = codes "bad times"
+query_fault_text query.BadQuery = codes "bad request"
+query_fault_text (query.TooManyQueries count) = decimal count ++ codes " queries (16 at most)"
 query_fault_text query.OutOfMemory = []

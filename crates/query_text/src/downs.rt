@@ -1,22 +1,21 @@
 //! Downsamples in text.
-ghost use Rattle.std.specs.Prelude.{◌≡◌, ◌≤◌, length};
+ghost use Rattle.std.specs.Prelude.{◌≡◌, ◌≤◌, length, IfSome};
 ghost use Rattle.std.specs.Char.{is_ascii_digit};
 ghost use Rattle.std.specs.List.{prefix_len};
-ghost use Rattle.query_text.specs.Downs.{down_of, fill_named, function_named, interval_by, interval_of, unit_named};
+ghost use Rattle.query_text.specs.Downs.{down_of, fill_named, function_named, interval_by, interval_of, IsInterval};
 
 use crate::cuts::cut;
+use query_times::query_times::MOST_UNITS;
+use query_times::time_units::unit_millis;
 use tsd_base::digits::read_digits;
 use tsd_base::kinds::{Down, Fill, Function};
-
-// The greatest number of units, and the last time, in milliseconds.
-const MOST_UNITS: u64 = 4294967295;
-
-const LAST_TIME: u64 = 4294967295999;
+use tsd_base::times::LAST_TIME;
 
 /// The downsample that a text is, if it is one: an interval, a function and perhaps a fill. Where `ms` is false the interval
 /// has to be whole seconds.
 pub fn read_down(text: &[u8], ms: bool) -> Option<Down>
-    ensures { result ≡ down_of ms text.now }
+    ensures down { result ≡ down_of ms text.now }
+    ensures interval { IfSome result (λ down. IsInterval ms down.interval) }
 {
     let (interval, shape) = cut(text, b'-');
     let (function, fill) = cut(shape?, b'-');
@@ -42,7 +41,7 @@ fn read_interval(text: &[u8]) -> Option<u64>
     ensures { result ≡ interval_of text.now }
 {
     let digits = digits_len(text);
-    interval_by(&text[..digits], unit_named(&text[digits..]))
+    interval_by(&text[..digits], unit_millis(&text[digits..]))
 }
 
 /// How many digits a text begins with.
@@ -63,32 +62,6 @@ fn interval_by(number: &[u8], unit: Option<u64>) -> Option<u64>
     } else {
         None
     }
-}
-
-/// How many milliseconds the unit with this name has.
-fn unit_named(name: &[u8]) -> Option<u64>
-    ensures { result ≡ unit_named name.now }
-{
-    let unit = if name == b"ms".as_slice() {
-        1
-    } else if name == b"s".as_slice() {
-        1000
-    } else if name == b"m".as_slice() {
-        60000
-    } else if name == b"h".as_slice() {
-        3600000
-    } else if name == b"d".as_slice() {
-        86400000
-    } else if name == b"w".as_slice() {
-        604800000
-    } else if name == b"n".as_slice() {
-        2592000000
-    } else if name == b"y".as_slice() {
-        31536000000
-    } else {
-        return None;
-    };
-    Some(unit)
 }
 
 /// The function with this name, if there is one.

@@ -1,10 +1,13 @@
 //! What queries ask.
 ghost use Rattle.std.specs.Prelude.{◌≡◌};
 
-use std::alloc::AllocError;
+use std::alloc::{AllocError, AllocFailed};
 use std::marker::Model;
 use tsd_base::kinds::{Aggregator, Down};
 use tsd_base::names::Name;
+
+/// How many sub queries a query may have.
+pub const MOST_QUERIES: usize = 16;
 
 /// Names in the order of a text, which contracts see as a list.
 #[derive(Debug, Drop)]
@@ -165,19 +168,28 @@ pub struct Query {
     pub subs: SubList,
 }
 
-/// Why a text is no query.
+/// Why a text, a form or a JSON value is no query.
 #[derive(Clone, Copy, Debug, PartialEq, Eq)]
 pub enum QueryFault {
-    /// The text of a sub query can't be read from the byte at this place, from 0, on.
+    /// The text of a sub query can't be read from the byte at this place, from 0, on. In JSON it is a metric that is no
+    /// name, and the place is 0.
     BadM { at: usize },
-    /// What stands before the first `:` is no aggregator.
+    /// What stands before the first `:`, or the aggregator in JSON, is none.
     UnknownAggregator,
     /// A rate is asked.
     RateRefused,
-    /// What stands before a further `:` is no downsample, or one that is no whole seconds where times are told in seconds.
+    /// What stands before a further `:`, or the downsample in JSON, is none, or one that is no whole seconds where times
+    /// are told in seconds.
     BadDownsample,
-    /// The filter with this number, from 0 in both parts, can't be read.
+    /// The filter with this number can't be read. They are numbered from 0 on: in a text over both parts, in JSON over the
+    /// tags and then the filters.
     BadFilter { index: usize },
+    /// The start of a form is missing, a start or an end is no time, or the end is before the start.
+    BadTimes,
+    /// A form has no sub query, or a JSON value has none, or one of its members is missing or of another kind.
+    BadQuery,
+    /// There are so many sub queries, and not more than `MOST_QUERIES` may be asked.
+    TooManyQueries { count: usize },
     /// There was no memory for the query.
     OutOfMemory,
 }
@@ -189,6 +201,17 @@ impl From<AllocError> for QueryFault {
     ghost from_gives = { λ _ fault. fault ≡ OutOfMemory };
 
     fn from(_error: AllocError) -> QueryFault {
+        QueryFault::OutOfMemory
+    }
+}
+
+impl<T: Drop> From<AllocFailed<T>> for QueryFault {
+    ghost use Rattle.std.specs.Prelude.{◌≡◌};
+    ghost use Rattle.query_text.specs.declared.queries.QueryFault.TheVariants.{OutOfMemory};
+
+    ghost from_gives = { λ _ fault. fault ≡ OutOfMemory };
+
+    fn from(_failed: AllocFailed<T>) -> QueryFault {
         QueryFault::OutOfMemory
     }
 }

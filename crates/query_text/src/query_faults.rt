@@ -7,7 +7,7 @@ use std::alloc::AllocError;
 use tsd_base::decimals::write_number;
 
 impl QueryFault {
-    /// Writes why a text is no query. Want of memory has no text, and fails.
+    /// Writes why what was read is no query. Want of memory has no text, and fails.
     pub fn write_text(self, out: &mut Vec<u8>) -> Result<(), AllocError>
         ensures text { OnOk result (out.new.items ≡ out.old.items ++ query_fault_text self) }
         ensures told { IsOk result → self ≢ QueryFault.OutOfMemory }
@@ -23,6 +23,12 @@ impl QueryFault {
             QueryFault::BadFilter { index } => {
                 out.extend_from_slice(b"bad filter ")?;
                 write_number(index as u64, out)
+            }
+            QueryFault::BadTimes => out.extend_from_slice(b"bad times"),
+            QueryFault::BadQuery => out.extend_from_slice(b"bad request"),
+            QueryFault::TooManyQueries { count } => {
+                write_number(count as u64, out)?;
+                out.extend_from_slice(b" queries (16 at most)")
             }
             QueryFault::OutOfMemory => Err(AllocError),
         }

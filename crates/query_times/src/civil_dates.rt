@@ -1,5 +1,6 @@
 //! Dates with times of day, in UTC.
 ghost use Rattle.std.specs.Prelude.{◌≡◌, ◌≤◌, ◌+◌, length, IfSome};
+ghost use Rattle.tsd_base.specs.declared.times.TheConstants.{LAST_TIME};
 ghost use Rattle.query_times.specs.CivilMoments.{IsSmall, IsMoment};
 ghost use Rattle.query_times.specs.CivilDates.{civil_time, clock_at, clock_of, date_of, milli_of, number_at};
 
@@ -22,7 +23,8 @@ struct Clock {
 /// 0.
 #[tactic(auto, unfolding(crate::specs::CivilDates::date_of))]
 pub fn read_date(text: &[u8]) -> Option<u64>
-    ensures { result ≡ date_of text.now }
+    ensures date { result ≡ date_of text.now }
+    ensures most { IfSome result (λ time. time ≤ LAST_TIME) }
 {
     let clock = clock_of(text)?;
     let year = number_at(text, 0, 4)?;
@@ -85,7 +87,8 @@ fn number_at(text: &[u8], at: usize, len: usize) -> Option<u64>
 
 /// The time of a date and a time of day, where the calendar has them.
 fn civil_time(year: u64, month: u64, day: u64, clock: Clock) -> Option<u64>
-    ensures { result ≡ civil_time (record { year = year; month = month; day = day; hour = clock.hour; minute = clock.minute; second = clock.second }) }
+    ensures most { IfSome result (λ time. time ≤ LAST_TIME) }
+    ensures time { result ≡ civil_time (record { year = year; month = month; day = day; hour = clock.hour; minute = clock.minute; second = clock.second }) }
 {
     let Clock {
         hour,
@@ -127,7 +130,8 @@ fn moment_of(year: u16, month: u8, day: u8, hour: u8, minute: u8, second: u8) ->
 
 /// The first millisecond of a second, from 0 to the last time.
 fn milli_of(second: i64) -> Option<u64>
-    ensures { result ≡ milli_of second }
+    ensures milli { result ≡ milli_of second }
+    ensures most { IfSome result (λ time. time ≤ LAST_TIME) }
 {
     if 0 <= second && second <= LAST_SECOND as i64 {
         Some(second as u64 * 1000)

@@ -1,5 +1,5 @@
 //! The times that a query names.
-ghost use Rattle.std.specs.Prelude.{◌≡◌, ◌≤◌, length, Some};
+ghost use Rattle.std.specs.Prelude.{◌≡◌, ◌≤◌, length, IfOk, IfSome, Some};
 ghost use Rattle.std.specs.Char.{is_ascii_digit};
 ghost use Rattle.std.specs.List.{prefix_len};
 ghost use Rattle.query_times.specs.QueryTimes.{fixed_time, is_zero, span_before, time_ago, time_before, time_named};
@@ -9,8 +9,8 @@ use crate::time_units::unit_millis;
 use tsd_base::digits::read_digits;
 use tsd_base::times::{LAST_TIME, read_time};
 
-/// The greatest number of units before now.
-const MOST_UNITS: u64 = 4_294_967_295;
+/// The greatest number of units of a time before now, or of an interval.
+pub const MOST_UNITS: u64 = 4_294_967_295;
 
 /// A text that is no time of a query.
 #[derive(Clone, Copy, Debug, PartialEq, Eq)]
@@ -22,7 +22,8 @@ pub struct BadTimes;
 /// before now, but not before 0, and not behind the last time. Every other text is `BadTimes`.
 #[tactic(auto, unfolding(crate::specs::QueryTimes::time_named))]
 pub fn read_time_arg(text: &[u8], now: u64) -> Result<u64, BadTimes>
-    ensures { result ≡ time_named now text.now }
+    ensures time { result ≡ time_named now text.now }
+    ensures most { IfOk result (λ time. time ≤ LAST_TIME) }
 {
     if let Some(time) = read_fixed_time(text) {
         return Ok(time);
@@ -37,7 +38,8 @@ pub fn read_time_arg(text: &[u8], now: u64) -> Result<u64, BadTimes>
 /// point has it, or a date as `read_date` reads it.
 #[tactic(auto, unfolding(crate::specs::QueryTimes::fixed_time))]
 pub fn read_fixed_time(text: &[u8]) -> Option<u64>
-    ensures { result ≡ fixed_time text.now }
+    ensures time { result ≡ fixed_time text.now }
+    ensures most { IfSome result (λ time. time ≤ LAST_TIME) }
 {
     if is_zero(text) {
         return Some(0);
@@ -57,7 +59,8 @@ fn is_zero(text: &[u8]) -> bool
 
 /// The time of digits, a unit and `-ago`.
 fn time_ago(text: &[u8], now: u64) -> Option<u64>
-    ensures { result ≡ time_ago now text.now }
+    ensures time { result ≡ time_ago now text.now }
+    ensures most { IfSome result (λ time. time ≤ LAST_TIME) }
 {
     if text.len() < 4 || &text[text.len() - 4..] != b"-ago".as_slice() {
         return None;
@@ -67,7 +70,8 @@ fn time_ago(text: &[u8], now: u64) -> Option<u64>
 
 /// The time of digits and a unit, before now.
 fn span_before(text: &[u8], now: u64) -> Option<u64>
-    ensures { result ≡ span_before now text.now }
+    ensures time { result ≡ span_before now text.now }
+    ensures most { IfSome result (λ time. time ≤ LAST_TIME) }
 {
     let digits = digits_len(text);
     let n = read_digits(&text[..digits])?;
@@ -78,7 +82,8 @@ fn span_before(text: &[u8], now: u64) -> Option<u64>
 /// The time of so many units before now, from 0 to the last time.
 fn time_before(now: u64, n: u64, unit: u64) -> Option<u64>
     requires { unit ≤ 31536000000 }
-    ensures { result ≡ time_before now n (Some unit) }
+    ensures time { result ≡ time_before now n (Some unit) }
+    ensures most { IfSome result (λ time. time ≤ LAST_TIME) }
 {
     if n == 0 || n > MOST_UNITS {
         return None;
