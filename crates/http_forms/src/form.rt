@@ -77,8 +77,8 @@ fn all_in<'p>(
     ensures { IfOk result (λ values. map (λ value. value.now) values.items ≡ all_values name.now (map bytes_of pairs.now)) }
 {
     let mut values = Vec::new(alloc);
-    for (found, value) in pairs {
-        if name == found.as_bytes() {
+    for (key, value) in pairs {
+        if key.as_bytes() == name {
             values.push(value.as_str())?;
         }
     }
