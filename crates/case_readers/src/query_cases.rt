@@ -98,6 +98,9 @@ fn tell_query_fault(out: &mut String, fault: QueryFault) -> Result<(), Bad> {
         QueryFault::RateRefused => out.push_str("rate is not supported")?,
         QueryFault::BadDownsample => out.push_str("bad downsample")?,
         QueryFault::BadFilter { index } => write!(out, "bad filter {index}")?,
+        QueryFault::BadTimes => out.push_str("bad times")?,
+        QueryFault::BadQuery => out.push_str("bad request")?,
+        QueryFault::TooManyQueries { count } => write!(out, "{count} queries (16 at most)")?,
         QueryFault::OutOfMemory => return Err(Bad::OutOfMemory),
     }
     Ok(())

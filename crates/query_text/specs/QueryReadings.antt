@@ -1,5 +1,5 @@
 -- Queries that are read in parts.
-use Rattle.std.specs.Prelude.{◌≡◌, ℕ, ◌≤◌, min, nat_eq, nat_lt, List, ◌++◌, All, Option, None, Some, IfSome, Result, Ok, Err, MatchResult, if◌then◌else◌}
+use Rattle.std.specs.Prelude.{◌≡◌, ℕ, ◌≤◌, min, Bool, nat_eq, nat_lt, List, ◌++◌, All, Option, None, Some, IfSome, Result, Ok, Err, MatchResult, if◌then◌else◌}
 use Rattle.tsd_base.specs.declared.times.TheConstants.{LAST_TIME}
 use Rattle.query_times.specs.QueryTimes.{time_named}
 use Rattle.query_times.specs.declared.query_times.BadTimes.{BadTimes as NoTime}

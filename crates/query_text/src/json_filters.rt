@@ -63,12 +63,12 @@ fn tags_member(value: &Value) -> Result<Option<&Map<String, Value>>, QueryFault>
 fn tag_filters(alloc: Global, map: &Map<String, Value>) -> Result<Vec<Filter>, QueryFault>
     ensures { Gives (λ filters. filters.items) result (tag_filters 0 (members_view map.now.entries)) }
 {
-    let mut filters = Vec::new(alloc);
+    let mut grouping = Vec::new(alloc);
     for (key, value) in map {
-        let filter = tag_filter(alloc, filters.len(), key.as_str(), value)?;
-        filters.push(filter)?;
+        let filter = tag_filter(alloc, grouping.len(), key.as_str(), value)?;
+        grouping.push(filter)?;
     }
-    Ok(filters)
+    Ok(grouping)
 }
 
 /// The filter of a tag.

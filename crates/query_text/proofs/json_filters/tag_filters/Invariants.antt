@@ -8,5 +8,5 @@ abbrev pub invariant-loop-key : goal.invariant-loop-key
 invariant-loop-key l = record {
   next : (goal.iterator-loop-key).can_next l.key-iterator;
   finite : (goal.iterator-loop-key).is_finite l.key-iterator;
-  rest : with_front l.filters.items (tag_filters (length l.filters.items) (members_view l.key-iterator)) ≡ tag_filters 0 (members_view l.map.entries);
+  rest : with_front l.grouping.items (tag_filters (length l.grouping.items) (members_view l.key-iterator)) ≡ tag_filters 0 (members_view l.map.entries);
 }
