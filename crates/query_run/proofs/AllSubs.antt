@@ -1,7 +1,6 @@
 -- The sub queries of a query, one after the other.
 use Rattle.std.proofs.Common.{◌≡◌, ℕ, suc, ◌+◌, ◌<◌, ◌≤◌, List, [], ◌∷◌, ◌++◌, length, take, drop, get_or, sym, ap, subst, ◌∙◌, append_assoc}
 use Rattle.std.specs.Prelude.{None, Ok, map}
-use Rattle.std.specs.List.{flat_map}
 use Rattle.std.proofs.lemmas.Grind.{flat_map-append}
 use Rattle.std.proofs.lemmas.List.{append-nil, map-append, take_all}
 use Rattle.json_reply.specs.Replies.{Group, plain}
@@ -14,7 +13,7 @@ use Rattle.cell_model.specs.Seen.{Seen}
 use Rattle.cell_model.specs.Deeds.{Made}
 use Rattle.query_run.specs.declared.fault.AskFault.{AskFault}
 use Rattle.query_run.specs.declared.fault.AskFault.TheVariants.{OutOfMemory}
-use Rattle.query_run.specs.Parts.{Part, AreQuerySteps, PartStands}
+use Rattle.query_run.specs.Parts.{Part, all_own, AreQuerySteps, PartStands}
 use Rattle.query_run.specs.Asked.{Answers, Answered, Refused}
 use Rattle.query_run.specs.Asked.Answers.{none, more}
 use Rattle.query_run.specs.AskedQueries.{wanted, names_in, barred, answer_over, IsFew}
@@ -22,9 +21,6 @@ use Rattle.query_run.specs.SubQuery.{Later, SubAnswered, SubRefused}
 use Rattle.query_run.proofs.Lower as lower
 use Rattle.query_run.proofs.NameReads.{about, taken}
 use Rattle.query_run.proofs.ScanLoop.{steps_joined}
-
-abbrev pub all_own : List Part → List Placed
-all_own parts = flat_map (λ (p : Part). p.own) parts
 
 abbrev pub AnswersOf : Query → ℕ → History → List Sub → List Part → List Group → Type 0
 AnswersOf q = Answers (wanted q) names_in (barred q) (answer_over q) (IsFew q)

@@ -31,3 +31,4 @@ mod PairOrder
 mod Jumps
 mod SkipSteps
 mod TextLemmas
+pub mod CallerLemmas

@@ -22,10 +22,10 @@ use Rattle.query_run.specs.Asked.{Answered, Refused}
 use Rattle.query_run.specs.Asked.Answers.{none, more}
 use Rattle.query_run.specs.Invisible.{Gives, AcceptedFor, IsOneValued, AreAlike, told, SameAcceptedSameAnswer, CompactionChangesNoAnswer, OneValueIsAnswered, AloneGives}
 use Rattle.query_run.specs.Laws.{AnswerIsUnordered}
-use Rattle.query_run.specs.Parts.{Part, IsQueryStep, AreQuerySteps}
+use Rattle.query_run.specs.Parts.{Part, all_own, IsQueryStep, AreQuerySteps}
 use Rattle.query_run.specs.AskedQueries.{wanted, names_in, barred, answer_over, IsFew, QuerySays}
 use Rattle.query_run.proofs.Lower as lower
-use Rattle.query_run.proofs.AllSubs.{AnswersOf, all_own}
+use Rattle.query_run.proofs.AllSubs.{AnswersOf}
 use Rattle.query_run.proofs.Lower.{Grown, OnlyBetween, accepted_grown, deed_of, grown_behind, ids_grown}
 use Rattle.query_run.proofs.Outcomes.{StandBetween, answered_so, no_conflict_of, refused_so}
 use Rattle.query_run.proofs.SameOutcome.{AllCome, none_more, one_more, same_for_all, with_more}

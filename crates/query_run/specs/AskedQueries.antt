@@ -1,5 +1,5 @@
 -- What a query wants of the readings, and which sub queries can be worked.
-use Rattle.std.specs.Prelude.{ℕ, Bool, ◌&&◌, nat_le, nat_lt, List, [], ◌∷◌, length, map, Option, None, Some, IfSome, Result, if◌then◌else◌}
+use Rattle.std.specs.Prelude.{ℕ, Bool, ◌&&◌, nat_le, nat_lt, List, [], ◌∷◌, length, map, Option, None, Some, IfSome, Result, Ok, Err, if◌then◌else◌}
 use Rattle.std.specs.List.{flat_map}
 use Rattle.tsd_base.specs.declared.kinds.Kind.TheVariants.{Metric, TagKey, TagValue}
 use Rattle.tsd_base.specs.declared.kinds.Fill.{Fill}
@@ -19,13 +19,13 @@ use Rattle.cell_model.specs.Readings.{Reading}
 use Rattle.cell_model.specs.Seen.{Seen}
 use Rattle.downsample.specs.Buckets.{all_buckets}
 use Rattle.group_by.specs.TagFilters.{passes}
-use Rattle.json_reply.specs.Replies.{Group}
+use Rattle.json_reply.specs.Replies.{Group, plain}
 use Rattle.json_reply.specs.declared.reply.Reply.{Reply}
 use Rattle.query_run.specs.declared.fault.AskFault.{AskFault}
 use Rattle.query_run.specs.declared.fault.AskFault.TheVariants.{TooManyBuckets}
 use Rattle.query_run.specs.QueryAnswers.{answer, as_point}
 use Rattle.query_run.specs.Parts.{NameOf, IsShort}
-use Rattle.query_run.specs.Asked.{AskSays}
+use Rattle.query_run.specs.Asked.{AskSays, SubsAsked}
 
 -- its downsample can be made
 abbrev pub CanDown : Bool → Sub → Type 0
@@ -75,3 +75,12 @@ IsFew q s own h = IsShort (names_in s) s.metric (base_time q.start) (base_time q
 
 abbrev pub QuerySays : Query → Seen → Result Reply AskFault → Seen → Type 0
 QuerySays q old result new = AskSays (wanted q) names_in (barred q) (answer_over q) (IsFew q) old q.subs result new
+
+-- an answer as plain data
+abbrev pub plain_result : Result Reply AskFault → Result (List Group) AskFault
+plain_result (Ok reply) = Ok (map plain reply.groups.items)
+plain_result (Err fault) = Err fault
+
+-- between two lengths of a history a caller asked a query, by its entries there and no other, and was answered so
+abbrev pub QueryAsked : History → ℕ → ℕ → Query → Result (List Group) AskFault → ℕ → Type 0
+QueryAsked h caller n q result n2 = SubsAsked (wanted q) names_in (barred q) (answer_over q) (IsFew q) h caller n q.subs result n2

@@ -1,5 +1,6 @@
 -- The part of a query's entries that was made for one sub query, and what it shows.
 use Rattle.std.specs.Prelude.{◌≡◌, ◌↔◌, ℕ, ℤ, ◌+◌, ◌*◌, ◌≤◌, Bool, IsTrue, List, ◌∷◌, ◌++◌, length, Contains, Option, Some, None}
+use Rattle.std.specs.List.{flat_map}
 use Rattle.std.specs.declared.cmp.Ordering.TheVariants.{Less}
 use Rattle.tsd_base.specs.declared.kinds.Kind.{Kind}
 use Rattle.tsd_base.specs.declared.kinds.Kind.TheVariants.{Metric, TagKey, TagValue}
@@ -28,6 +29,10 @@ use Rattle.row_scan.specs.RowReadings.{RowReads, ShowsRow, ShowsReading, Chosen,
 pub record Part : Type 0 where
   pub own : List Placed
   pub shown : List Reading
+
+-- the entries of parts, one part's after the other's
+abbrev pub all_own : List Part → List Placed
+all_own parts = flat_map (λ (p : Part). p.own) parts
 
 -- a step that a query makes
 abbrev pub IsQueryStep : Step → Type 0
