@@ -15,6 +15,8 @@ pub enum Route {
     Aggregators,
     /// `/api/put`: putting points.
     Put,
+    /// `/api/query`: the points of series.
+    Query,
     /// `/api/suggest`: names that begin with a prefix.
     Suggest,
     /// `/api/uid/assign`: giving ids to names.
@@ -23,7 +25,7 @@ pub enum Route {
     Version,
 }
 
-/// A router with the five routes. It fails only for want of memory.
+/// A router with the six routes. It fails only for want of memory.
 #[tactic(auto, unfolding(matchit::specs::Route::scan))]
 pub fn make_router(alloc: Global) -> Result<Router<Route>, AllocError>
     ensures { IfOk result (λ router. valued router ≡ route_table) }
@@ -31,6 +33,7 @@ pub fn make_router(alloc: Global) -> Result<Router<Route>, AllocError>
     let mut router = Router::new(alloc);
     add(&mut router, "/api/aggregators", Route::Aggregators)?;
     add(&mut router, "/api/put", Route::Put)?;
+    add(&mut router, "/api/query", Route::Query)?;
     add(&mut router, "/api/suggest", Route::Suggest)?;
     add(&mut router, "/api/uid/assign", Route::Assign)?;
     add(&mut router, "/api/version", Route::Version)?;
