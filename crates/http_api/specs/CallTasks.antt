@@ -4,10 +4,11 @@ use Rattle.serde_json.specs.Data.{Data}
 use Rattle.serde_json.specs.View.{view}
 use Rattle.name_requests.specs.AssignRequests.{assign_lists}
 use Rattle.name_requests.specs.SuggestRequests.{IsMax, suggestion}
+use Rattle.query_text.specs.QueryReadings.{CanWork}
 use Rattle.http_api.specs.declared.call_task.Task.{Task}
 use Rattle.http_api.specs.declared.call_task.Task.TheVariants as task
 use Rattle.http_api.specs.CallWork.{Work, elements_of}
-use Rattle.http_api.specs.CallWork.Work.{Says, Puts, Assigns, Suggests}
+use Rattle.http_api.specs.CallWork.Work.{Says, Puts, Assigns, Suggests, Asks}
 
 -- the task is this work
 abbrev pub IsTask : Work → Task → Type 0
@@ -15,3 +16,4 @@ IsTask work (task.Say status body) = work ≡ Says status body.items
 IsTask work (task.Put details summary body) = (elements : List Data) × (elements_of (view body) ≡ Some elements) × (work ≡ Puts (record { details = details; summary = summary }) elements)
 IsTask work (task.Assign request) = work ≡ Assigns (assign_lists request)
 IsTask work (task.Suggest request) = (work ≡ Suggests (suggestion request)) × IsMax request.max
+IsTask work (task.Ask query) = (work ≡ Asks query) × CanWork query

@@ -1,5 +1,6 @@
 -- What a call asks for, a function of the call alone.
-use Rattle.std.specs.Prelude.{ℕ, Bool, is_some, List, [], ◌∷◌, codes, Option, None, Some, Result, Ok, Err, if◌then◌else◌}
+use Rattle.std.specs.Prelude.{ℕ, Bool, ◌&&◌, nat_eq, is_none, is_some, List, [], ◌∷◌, codes, Option, None, Some, Result, Ok, Err, if◌then◌else◌}
+use Rattle.std.specs.Cmp.Lexicographic.{pointwise}
 use Rattle.serde_json.specs.Data.{Data, Items, no_items, item}
 use Rattle.serde_json.specs.Find.{as_array, as_object}
 use Rattle.json_bodies.specs.JsonBodies.{json_of}
@@ -22,18 +23,24 @@ use Rattle.name_requests.specs.declared.fault.AssignFault.{AssignFault}
 use Rattle.name_requests.specs.declared.fault.SuggestFault.{SuggestFault}
 use Rattle.name_requests.specs.RequestFaults.{assign_fault_text, suggest_fault_text}
 use Rattle.name_requests.specs.SuggestRequests.{Suggestion, suggest_by_body, suggest_by_form}
+use Rattle.query_text.specs.FormQueries.{query_by_form}
+use Rattle.query_text.specs.JsonQueries.{query_by_json}
+use Rattle.query_text.specs.QueryFaultTexts.{query_fault_text}
+use Rattle.query_text.specs.declared.queries.Query.{Query}
+use Rattle.query_text.specs.declared.queries.QueryFault.{QueryFault}
 
 -- what a reply to a put is to tell beside its status
 pub record PutFlags : Type 0 where
   pub details : Bool
   pub summary : Bool
 
--- a fixed answer; elements to put, one after the other; names to give ids; or names to suggest
+-- a fixed answer; elements to put, one after the other; names to give ids; names to suggest; or a query to answer
 pub data Work : Type 0 where
   Says : Status → List ℕ → Work
   Puts : PutFlags → List Data → Work
   Assigns : AssignLists → Work
   Suggests : Suggestion → Work
+  Asks : Query → Work
 
 abbrev pub refuses : Status → List ℕ → Work
 refuses status message = Says status (error_body (code_of status) message)
@@ -55,6 +62,9 @@ refusal_message Codings = codes "codings are not supported"
 refusal_message BadLength = codes "bad length"
 refusal_message NoLength = codes "length required"
 refusal_message BodyTooLarge = codes "body too large"
+
+abbrev pub no_json : Work
+no_json = refuses status.BadRequest (codes "body is not JSON")
 
 -- ---- a put
 
@@ -82,7 +92,7 @@ puts_elements flags None = refuses status.BadRequest (codes "body is not a point
 puts_elements flags (Some elements) = Puts flags elements
 
 abbrev pub puts_body : PutFlags → Option Data → Work
-puts_body flags None = refuses status.BadRequest (codes "body is not JSON")
+puts_body flags None = no_json
 puts_body flags (Some body) = puts_elements flags (elements_of body)
 
 -- ---- names
@@ -95,6 +105,16 @@ abbrev pub suggests : Result Suggestion SuggestFault → Work
 suggests (Ok suggestion) = Suggests suggestion
 suggests (Err fault) = refuses status.BadRequest (suggest_fault_text fault)
 
+-- ---- a query
+
+abbrev pub asks : Result Query QueryFault → Work
+asks (Ok query) = Asks query
+asks (Err fault) = refuses status.BadRequest (query_fault_text fault)
+
+abbrev pub asks_body : ℕ → Option Data → Work
+asks_body now None = no_json
+asks_body now (Some body) = asks (query_by_json now body)
+
 -- ---- routes
 
 abbrev pub no_path : Work
@@ -103,35 +123,41 @@ no_path = refuses status.NotFound (codes "no such path")
 abbrev pub no_method : Work
 no_method = refuses status.MethodNotAllowed (codes "no such method")
 
--- by GET
-abbrev pub got_by : Route → List ℕ → Work
-got_by route.Put form = no_method
-got_by route.Assign form = assigns (assign_by_form form)
-got_by route.Suggest form = suggests (suggest_by_form form)
-got_by route.Version form = Says status.Ok version_body
-got_by route.Aggregators form = Says status.Ok aggregators_body
+-- by GET, at a moment
+abbrev pub got_by : ℕ → Route → List ℕ → Work
+got_by now route.Put form = no_method
+got_by now route.Assign form = assigns (assign_by_form form)
+got_by now route.Query form = asks (query_by_form now form)
+got_by now route.Suggest form = suggests (suggest_by_form form)
+got_by now route.Version form = Says status.Ok version_body
+got_by now route.Aggregators form = Says status.Ok aggregators_body
 
--- by POST
-abbrev pub posted_by : Route → List ℕ → List ℕ → Work
-posted_by route.Put form body = puts_body (put_flags form) (json_of body)
-posted_by route.Assign form body = assigns (assign_by_body body)
-posted_by route.Suggest form body = suggests (suggest_by_body body)
-posted_by route.Version form body = Says status.Ok version_body
-posted_by route.Aggregators form body = Says status.Ok aggregators_body
+-- by POST, at a moment
+abbrev pub posted_by : ℕ → Route → List ℕ → List ℕ → Work
+posted_by now route.Put form body = puts_body (put_flags form) (json_of body)
+posted_by now route.Assign form body = assigns (assign_by_body body)
+posted_by now route.Query form body = asks_body now (json_of body)
+posted_by now route.Suggest form body = suggests (suggest_by_body body)
+posted_by now route.Version form body = Says status.Ok version_body
+posted_by now route.Aggregators form body = Says status.Ok aggregators_body
 
-abbrev pub by_verb : Verb → Route → Call → Work
-by_verb Get route call = got_by route call.form
-by_verb Post route call = posted_by route call.form call.body
-by_verb Other route call = no_method
+abbrev pub by_verb : ℕ → Verb → Route → Call → Work
+by_verb now Get route call = got_by now route call.form
+by_verb now Post route call = posted_by now route call.form call.body
+by_verb now Other route call = no_method
 
-abbrev pub by_route : Option Route → Call → Work
-by_route None call = no_path
-by_route (Some route) call = by_verb call.verb route call
+abbrev pub by_route : ℕ → Option Route → Call → Work
+by_route now None call = no_path
+by_route now (Some route) call = by_verb now call.verb route call
 
-abbrev pub by_refusal : Option Refusal → Call → Work
-by_refusal (Some refusal) call = refuses (refusal_status refusal) (refusal_message refusal)
-by_refusal None call = by_route (route_of call.path) call
+abbrev pub by_refusal : ℕ → Option Refusal → Call → Work
+by_refusal now (Some refusal) call = refuses (refusal_status refusal) (refusal_message refusal)
+by_refusal now None call = by_route now (route_of call.path) call
 
--- what a call asks for: the refusal of its head, or else what its path and its method say
-unfoldable pub work_of : Call → Work
-work_of call = by_refusal call.refused call
+-- what a call asks for at a moment: the refusal of its head, or else what its path and its method say
+unfoldable pub work_of : ℕ → Call → Work
+work_of now call = by_refusal now call.refused call
+
+-- the clock is asked for a call that isn't refused and whose path is that of queries, whatever its method
+abbrev pub asks_clock : Call → Bool
+asks_clock call = is_none call.refused && pointwise nat_eq call.path (codes "/api/query")

@@ -1,5 +1,5 @@
 -- What a call is answered, by the entries that its caller makes for it between two lengths of a history.
-use Rattle.std.specs.Prelude.{◌≡◌, ◌⊎◌, ℕ, Bool, List, [], ◌++◌, map, Option, None, Some, option_map, Vec}
+use Rattle.std.specs.Prelude.{◌≡◌, ◌⊎◌, ℕ, Bool, List, [], ◌++◌, map, Option, None, Some, option_map, Result, Ok, Err, Vec}
 use Rattle.std.specs.declared.alloc.Global.{Global}
 use Rattle.tsd_base.specs.declared.kinds.Kind.TheVariants.{Metric, TagKey, TagValue}
 use Rattle.cell_model.specs.declared.answers.Stored.{Stored}
@@ -10,6 +10,8 @@ use Rattle.cell_model.specs.Seen.{Seen, InEach}
 use Rattle.compactor.specs.Queues.{HasRows}
 use Rattle.point_put.specs.declared.config.Config.{Config}
 use Rattle.queued_put.specs.PutRows.{MayHaveRows}
+use Rattle.json_reply.specs.ErrorBodies.{error_body}
+use Rattle.json_reply.specs.Replies.{Group, text_of}
 use Rattle.json_reply.specs.Texts.{names_text}
 use Rattle.http_exchange.specs.declared.http_call.Call.{Call}
 use Rattle.http_put.specs.PutElements.{Outcome, PutBegun, PutRan}
@@ -22,9 +24,14 @@ use Rattle.http_reply.specs.declared.reply_status.Status.TheVariants as status
 use Rattle.http_reply.specs.AssignReplies.{assign_body, assign_status}
 use Rattle.http_reply.specs.PutReplies.{put_body, put_status}
 use Rattle.http_reply.specs.ReplyBytes.{reply_bytes}
+use Rattle.http_reply.specs.ReplyStatuses.{code_of}
 use Rattle.name_requests.specs.AssignRequests.{AssignLists}
+use Rattle.query_run.specs.AskFaultTexts.{ask_fault_text}
+use Rattle.query_run.specs.AskedQueries.{QueryAsked}
+use Rattle.query_run.specs.declared.fault.AskFault.{AskFault}
+use Rattle.query_run.specs.declared.fault.AskFault.TheVariants.{OutOfMemory, Stopped}
 use Rattle.http_api.specs.CallWork.{Work, work_of}
-use Rattle.http_api.specs.CallWork.Work.{Says, Puts, Assigns, Suggests}
+use Rattle.http_api.specs.CallWork.Work.{Says, Puts, Assigns, Suggests, Asks}
 
 -- ---- an assignment's elements
 
@@ -63,6 +70,13 @@ pub record Told : Type 0 where
 abbrev pub told : Status → List ℕ → Told
 told status body = record { status = status; body = body }
 
+-- what is told of a query: its groups, or why it has no answer; want of memory and a stop aren't told
+abbrev pub QueryTells : Result (List Group) AskFault → Told → Type 0
+QueryTells (Ok groups) t = t ≡ told status.Ok (text_of groups)
+QueryTells (Err OutOfMemory) t = ⊥
+QueryTells (Err Stopped) t = ⊥
+QueryTells (Err fault) t = t ≡ told status.BadRequest (error_body (code_of status.BadRequest) (ask_fault_text fault))
+
 -- Work was done between two lengths of the history, and so much is told of it; these rows are of the points that were accepted. A fixed answer makes no
 -- entry. Elements and names are asked one after the other, each between two lengths of its own.
 abbrev pub Done : Config → History → ℕ → ℕ → ℕ → Work → Told → List Stored → Type 0
@@ -73,6 +87,8 @@ Done c h caller n n2 (Assigns lists) t stored =
     (answers : Assignment) × HasTexts lists answers × AssignRan h caller n (named_in lists) (answers_in answers) n2 × (t ≡ told (assign_status answers) (assign_body answers)) × (stored ≡ [])
 Done c h caller n n2 (Suggests s) t stored =
     (names : List (List ℕ)) × SuggestAsked h caller n s.kind s.prefix s.max names n2 × (t ≡ told status.Ok (names_text names)) × (stored ≡ [])
+Done c h caller n n2 (Asks query) t stored =
+    (result : Result (List Group) AskFault) × QueryAsked h caller n query result n2 × QueryTells result t × (stored ≡ [])
 
 -- the reply to work that was done
 pub record WorkAnswered (c : Config) (h : History) (caller n n2 : ℕ) (work : Work) (closing : Bool) (reply : List ℕ) (stored : List Stored) : Type 0 where
@@ -80,24 +96,29 @@ pub record WorkAnswered (c : Config) (h : History) (caller n n2 : ℕ) (work : W
   pub done : Done c h caller n n2 work tells stored
   pub reply_is : reply ≡ reply_bytes tells.status closing tells.body
 
--- a call was answered between two lengths of the history with this reply, and these rows are of the points that were accepted
-abbrev pub CallAnswered : Config → History → ℕ → ℕ → ℕ → Call → List ℕ → List Stored → Type 0
-CallAnswered c h caller n n2 call reply stored = WorkAnswered c h caller n n2 (work_of call) call.closing reply stored
+-- the reply that tells of a query
+abbrev pub IsReplyTo : Result (List Group) AskFault → Bool → List ℕ → Type 0
+IsReplyTo result closing reply = (t : Told) × QueryTells result t × (reply ≡ reply_bytes t.status closing t.body)
 
--- elements or names were begun between two lengths of the history
+-- a call was answered at a moment, between two lengths of the history, with this reply, and these rows are of the points that were accepted
+abbrev pub CallAnswered : Config → History → ℕ → ℕ → ℕ → ℕ → Call → List ℕ → List Stored → Type 0
+CallAnswered c h caller n n2 now call reply stored = WorkAnswered c h caller n n2 (work_of now call) call.closing reply stored
+
+-- elements, names or a query were begun between two lengths of the history
 abbrev pub WorkBegun : Config → History → ℕ → ℕ → ℕ → Work → Type 0
 WorkBegun c h caller n n2 (Says status body) = ⊥
 WorkBegun c h caller n n2 (Puts flags elements) = (stored : List Stored) × PutBegun c h caller n elements stored n2
 WorkBegun c h caller n n2 (Assigns lists) = AssignBegun h caller n (named_in lists) n2
 WorkBegun c h caller n n2 (Suggests s) = SuggestBegun h caller n n2
+WorkBegun c h caller n n2 (Asks query) = (result : Result (List Group) AskFault) × QueryAsked h caller n query result n2
 
 -- no entry was made, or the work was begun
 abbrev pub BegunAtMost : Config → History → ℕ → ℕ → ℕ → Work → Type 0
 BegunAtMost c h caller n n2 work = (deeds h caller n n2 ≡ []) ⊎ WorkBegun c h caller n n2 work
 
--- a call was begun between two lengths of the history
-abbrev pub CallBegun : Config → History → ℕ → ℕ → ℕ → Call → Type 0
-CallBegun c h caller n n2 call = BegunAtMost c h caller n n2 (work_of call)
+-- a call was begun at a moment, between two lengths of the history
+abbrev pub CallBegun : Config → History → ℕ → ℕ → ℕ → ℕ → Call → Type 0
+CallBegun c h caller n n2 now call = BegunAtMost c h caller n n2 (work_of now call)
 
 -- ---- what a caller sees of it
 
@@ -108,8 +129,8 @@ pub record WorkReplied (c : Config) (work : Work) (closing : Bool) (old : Seen) 
   pub answered : InEach new (λ h. WorkAnswered c h old.caller old.length new.length work closing reply stored)
   pub rows : HasRows before stored after
 
-abbrev pub CallReplied : Config → Call → Seen → List Stored → List ℕ → Seen → List Stored → Type 0
-CallReplied c call old before reply new after = WorkReplied c (work_of call) call.closing old before reply new after
+abbrev pub CallReplied : Config → ℕ → Call → Seen → List Stored → List ℕ → Seen → List Stored → Type 0
+CallReplied c now call old before reply new after = WorkReplied c (work_of now call) call.closing old before reply new after
 
 -- work was begun, and the queue may have got rows that its entries put
 pub record WorkBroken (c : Config) (work : Work) (old : Seen) (before : List Stored) (new : Seen) (after : List Stored) : Type 0 where
@@ -117,5 +138,5 @@ pub record WorkBroken (c : Config) (work : Work) (old : Seen) (before : List Sto
   pub begun : InEach new (λ h. BegunAtMost c h old.caller old.length new.length work)
   pub rows : InEach new (λ h. MayHaveRows before [] (deeds h old.caller old.length new.length) after)
 
-abbrev pub CallBroken : Config → Call → Seen → List Stored → Seen → List Stored → Type 0
-CallBroken c call old before new after = WorkBroken c (work_of call) old before new after
+abbrev pub CallBroken : Config → ℕ → Call → Seen → List Stored → Seen → List Stored → Type 0
+CallBroken c now call old before new after = WorkBroken c (work_of now call) old before new after

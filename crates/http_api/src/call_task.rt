@@ -4,8 +4,11 @@ ghost use Rattle.http_routes.specs.Routes.{route_table, valued};
 ghost use Rattle.json_bodies.specs.JsonBodies.{json_of};
 ghost use Rattle.name_requests.specs.AssignRequests.{AssignLists, GivesAssign, assign_lists};
 ghost use Rattle.name_requests.specs.SuggestRequests.{GivesSuggest, IsMax, Suggestion, suggestion};
+ghost use Rattle.query_text.specs.QueryReadings.{CanWork, GivesQuery};
+ghost use Rattle.query_text.specs.declared.queries.Query.{Query};
+ghost use Rattle.query_text.specs.declared.queries.QueryFault.{QueryFault};
 ghost use Rattle.http_reply.specs.declared.reply_status.Status.{Status};
-ghost use Rattle.http_api.specs.CallWork.{Work, work_of, by_route, refusal_status, refusal_message, refuses, put_flags, puts_body, assigns, suggests, got_by, posted_by};
+ghost use Rattle.http_api.specs.CallWork.{Work, work_of, by_route, refusal_status, refusal_message, refuses, put_flags, puts_body, assigns, suggests, asks, asks_body, asks_clock, got_by, posted_by};
 ghost use Rattle.http_api.specs.CallWork.Work.{Says};
 ghost use Rattle.http_api.specs.CallTasks.{IsTask};
 
@@ -21,6 +24,9 @@ use matchit::Router;
 use name_requests::assign_request::{AssignRequest, assign_by_body, assign_by_form};
 use name_requests::fault::{AssignFault, SuggestFault};
 use name_requests::suggest_request::{SuggestRequest, suggest_by_body, suggest_by_form};
+use query_text::form_query::read_query_form;
+use query_text::json_query::read_query_json;
+use query_text::queries::{Query, QueryFault};
 use serde_json::Value;
 use std::alloc::{AllocError, Global};
 
@@ -46,17 +52,34 @@ pub enum Task {
     Suggest {
         request: SuggestRequest,
     },
+    /// A query to answer.
+    Ask {
+        query: Query,
+    },
 }
 
-/// What a request asks for: the refusal of its head, or else what its path and its method say. It fails only for want of memory.
+/// Whether the clock is asked for a request: it isn't refused, and its path is `/api/query`, whatever its method.
+pub fn asks_clock(call: &Call) -> bool
+    ensures { result ≡ asks_clock call.now }
+{
+    call.refused.is_none() && call.path.list() == b"/api/query".as_slice()
+}
+
+/// What a request asks for at a moment, in milliseconds since 1970: the refusal of its head, or else what its path and its method say. It
+/// fails only for want of memory.
 #[tactic(auto, unfolding(crate::specs::CallWork::work_of))]
-pub fn task_of(alloc: Global, router: &Router<Route>, call: &Call) -> Result<Task, AllocError>
+pub fn task_of(
+    alloc: Global,
+    router: &Router<Route>,
+    call: &Call,
+    now: u64,
+) -> Result<Task, AllocError>
     requires { valued router.now ≡ route_table }
-    ensures { IfOk result (IsTask (work_of call.now)) }
+    ensures { IfOk result (IsTask (work_of now call.now)) }
 {
     match call.refused {
         Some(refusal) => refused_task(alloc, refusal),
-        None => routed_task(alloc, route_of(router, call.path.list()), call),
+        None => routed_task(alloc, route_of(router, call.path.list()), call, now),
     }
 }
 
@@ -97,26 +120,32 @@ fn say(alloc: Global, body: &[u8]) -> Result<Task, AllocError>
     })
 }
 
-fn routed_task(alloc: Global, route: Option<Route>, call: &Call) -> Result<Task, AllocError>
-    ensures { IfOk result (IsTask (by_route route call.now)) }
+fn routed_task(
+    alloc: Global,
+    route: Option<Route>,
+    call: &Call,
+    now: u64,
+) -> Result<Task, AllocError>
+    ensures { IfOk result (IsTask (by_route now route call.now)) }
 {
     let Some(route) = route else {
         return refuse(alloc, Status::NotFound, b"no such path");
     };
     match call.verb {
-        Verb::Get => get_task(alloc, route, call.form.list()),
-        Verb::Post => post_task(alloc, route, call.form.list(), call.body.list()),
+        Verb::Get => get_task(alloc, route, call.form.list(), now),
+        Verb::Post => post_task(alloc, route, call.form.list(), call.body.list(), now),
         Verb::Other => refuse(alloc, Status::MethodNotAllowed, b"no such method"),
     }
 }
 
 /// What a `GET` asks for.
-fn get_task(alloc: Global, route: Route, form: &[u8]) -> Result<Task, AllocError>
-    ensures { IfOk result (IsTask (got_by route form.now)) }
+fn get_task(alloc: Global, route: Route, form: &[u8], now: u64) -> Result<Task, AllocError>
+    ensures { IfOk result (IsTask (got_by now route form.now)) }
 {
     match route {
         Route::Put => refuse(alloc, Status::MethodNotAllowed, b"no such method"),
         Route::Assign => assign_task(alloc, assign_by_form(alloc, form)),
+        Route::Query => query_task(alloc, read_query_form(alloc, form, now)),
         Route::Suggest => suggest_task(alloc, suggest_by_form(alloc, form)),
         Route::Version => say(alloc, version_body()),
         Route::Aggregators => say(alloc, aggregators_body()),
@@ -124,12 +153,19 @@ fn get_task(alloc: Global, route: Route, form: &[u8]) -> Result<Task, AllocError
 }
 
 /// What a `POST` asks for.
-fn post_task(alloc: Global, route: Route, form: &[u8], body: &[u8]) -> Result<Task, AllocError>
-    ensures { IfOk result (IsTask (posted_by route form.now body.now)) }
+fn post_task(
+    alloc: Global,
+    route: Route,
+    form: &[u8],
+    body: &[u8],
+    now: u64,
+) -> Result<Task, AllocError>
+    ensures { IfOk result (IsTask (posted_by now route form.now body.now)) }
 {
     match route {
         Route::Put => put_task(alloc, form, body),
         Route::Assign => assign_task(alloc, assign_by_body(alloc, body)),
+        Route::Query => query_body_task(alloc, body, now),
         Route::Suggest => suggest_task(alloc, suggest_by_body(alloc, body)),
         Route::Version => say(alloc, version_body()),
         Route::Aggregators => say(alloc, aggregators_body()),
@@ -181,6 +217,29 @@ fn suggest_task(
     match read {
         Ok(request) => Ok(Task::Suggest { request }),
         Err(SuggestFault::OutOfMemory) => Err(AllocError),
+        Err(fault) => {
+            let mut message = Vec::new(alloc);
+            fault.write_text(&mut message)?;
+            refuse(alloc, Status::BadRequest, message.as_slice())
+        }
+    }
+}
+
+fn query_body_task(alloc: Global, body: &[u8], now: u64) -> Result<Task, AllocError>
+    ensures { IfOk result (IsTask (asks_body now (json_of body.now))) }
+{
+    let Some(body) = read_json(alloc, body)? else {
+        return refuse(alloc, Status::BadRequest, b"body is not JSON");
+    };
+    query_task(alloc, read_query_json(alloc, &body, now))
+}
+
+fn query_task(alloc: Global, read: Result<Query, QueryFault>) -> Result<Task, AllocError>
+    requires { IfOk read CanWork }
+    ensures { (asked : Result Query QueryFault) → GivesQuery read asked → IfOk result (IsTask (asks asked)) }
+{
+    match read {
+        Ok(query) => Ok(Task::Ask { query }),
         Err(fault) => {
             let mut message = Vec::new(alloc);
             fault.write_text(&mut message)?;

@@ -18,6 +18,7 @@ ghost use Rattle.http_api.specs.HttpAnswers.{CallBroken, CallReplied, WorkBroken
 use crate::answered_names::assignment_of;
 use crate::call_task::{Task, task_of};
 use crate::put_body::elements_of;
+use crate::query_reply::answer_query;
 use cell_model::answers::RowsFault;
 use cell_model::rows::Rows;
 use compactor::queue::Queue;
@@ -42,8 +43,9 @@ use uid_table::uids::Uids;
 /// Answers a request with the bytes of its reply, over any rows.
 ///
 /// A refusal is told first: of the head, then of the path, the method, and of what the path's requests read. A put asks its
-/// elements and an assignment its names one after the other; the row of each point that was accepted is added to the queue. It fails
-/// for want of memory, or where the caller was stopped before a step; what was done before stays done.
+/// elements and an assignment its names one after the other; the row of each point that was accepted is added to the queue. `now` is the
+/// moment of the request in milliseconds since 1970, from which a query counts its times; no other request depends on it. It fails for
+/// want of memory, or where the caller was stopped before a step; what was done before stays done.
 pub fn answer<R: Rows + Drop>(
     alloc: Global,
     router: &Router<Route>,
@@ -51,13 +53,14 @@ pub fn answer<R: Rows + Drop>(
     config: &Config,
     queue: &mut Queue,
     call: &Call,
+    now: u64,
 ) -> Result<Vec<u8>, RowsFault>
     requires { valued router.now ≡ route_table }
-    ensures ok { IfOk result (λ reply. CallReplied config.now call.now (R.seen names.old) queue.old reply.items (R.seen names.new) queue.new) }
-    ensures err { OnErr result (CallBroken config.now call.now (R.seen names.old) queue.old (R.seen names.new) queue.new) }
+    ensures ok { IfOk result (λ reply. CallReplied config.now now call.now (R.seen names.old) queue.old reply.items (R.seen names.new) queue.new) }
+    ensures err { OnErr result (CallBroken config.now now call.now (R.seen names.old) queue.old (R.seen names.new) queue.new) }
     ensures stops { CountsStops is_stop result (R.stops names.old) (R.stops names.new) }
 {
-    match task_of(alloc, router, call) {
+    match task_of(alloc, router, call, now) {
         Ok(task) => perform(alloc, names, config, queue, &task, call.closing),
         Err(_) => Err(RowsFault::OutOfMemory),
     }
@@ -91,6 +94,7 @@ fn perform<R: Rows + Drop>(
         },
         Task::Assign { request } => assign(alloc, names, closing, request),
         Task::Suggest { request } => suggest(alloc, names, closing, request),
+        Task::Ask { query } => answer_query(alloc, names, closing, query),
     }
 }
 
@@ -165,7 +169,7 @@ fn suggest<R: Rows + Drop>(
 }
 
 /// The reply, or the want of memory for it.
-fn told(reply: Result<Vec<u8>, AllocError>) -> Result<Vec<u8>, RowsFault>
+pub(crate) fn told(reply: Result<Vec<u8>, AllocError>) -> Result<Vec<u8>, RowsFault>
     ensures ok { (bytes : List ℕ) → IfOk reply (λ r. r.items ≡ bytes) → IfOk result (λ r. r.items ≡ bytes) }
     ensures err { IfErr result (λ fault. fault ≡ rows_fault.OutOfMemory) }
 {

@@ -5,5 +5,7 @@ mod answered_names;
 mod call_task;
 pub mod http_answer;
 mod put_body;
+mod query_reply;
 
+pub use call_task::asks_clock;
 pub use http_answer::answer;
