@@ -1,6 +1,11 @@
 -- What is told of work, and what was begun of it.
 use Rattle.std.proofs.Common.{◌≡◌, inl, inr, ℕ, Bool, List, [], ◌++◌, refl, sym, ap, subst, ◌∙◌, append-nil, arith, Result, Ok, Err, Vec, Global}
 use Rattle.std.specs.Prelude.{IfOk, OnErr, Option, None, Some, option_map}
+use Rattle.query_text.specs.declared.queries.Query.{Query}
+use Rattle.query_run.specs.AskedQueries.{QuerySays, plain_result}
+use Rattle.query_run.specs.declared.fault.AskFault.{AskFault}
+use Rattle.query_run.proofs.CallerLemmas.{query_asked}
+use Rattle.json_reply.specs.declared.reply.Reply.{Reply}
 use Rattle.serde_json.specs.Data.{Data}
 use Rattle.cell_model.specs.declared.answers.Stored.{Stored}
 use Rattle.cell_model.specs.Seen.{Seen, InEach, Fits}
@@ -28,8 +33,8 @@ use Rattle.name_requests.specs.AssignRequests.{AssignLists, assign_lists}
 use Rattle.name_requests.specs.declared.assign_request.AssignRequest.{AssignRequest}
 use Rattle.name_requests.specs.SuggestRequests.{Suggestion}
 use Rattle.http_api.specs.CallWork.{PutFlags, Work}
-use Rattle.http_api.specs.CallWork.Work.{Says, Puts, Assigns, Suggests}
-use Rattle.http_api.specs.HttpAnswers.{HasTexts, WorkBroken, WorkReplied, answers_in, named_in, names_in, told}
+use Rattle.http_api.specs.CallWork.Work.{Says, Puts, Assigns, Suggests, Asks}
+use Rattle.http_api.specs.HttpAnswers.{HasTexts, IsReplyTo, WorkBroken, WorkReplied, answers_in, named_in, names_in, told}
 
 -- no entry was made since
 none_since : (old new : Seen) (h : History) → Since old new → Fits new h → deeds h old.caller new.length new.length ≡ []
@@ -168,7 +173,34 @@ pub suggestion_untold : (c : Config) (s : Suggestion) (old new : Seen) (queue : 
     → InEach new (λ h. SuggestAsked h old.caller old.length s.kind s.prefix s.max names new.length) → WorkBroken c (Suggests s) old queue new queue
 suggestion_untold c s old new queue names since asked = suggestion_broken c s old new queue since (λ h l f. (asked h l f).looks)
 
+-- ---- queries
+
+pub query_replied : (c : Config) (q : Query) (closing : Bool) (old new : Seen) (queue : List Stored) (result : Result Reply AskFault) (reply : List ℕ) → QuerySays q old result new → IsReplyTo (plain_result result) closing reply
+    → WorkReplied c (Asks q) closing old queue reply new queue
+query_replied c q closing old new queue result reply says (t, tells, is) =
+    let asked = query_asked q old new result says in
+    record {
+      stored = [];
+      since = asked.0;
+      answered = λ h l f. record { tells = t; done = (plain_result result, asked.1 h l f, tells, refl); reply_is = is };
+      rows = rows_none queue;
+    }
+
+pub query_untold : (c : Config) (q : Query) (old new : Seen) (queue : List Stored) (result : Result Reply AskFault) → QuerySays q old result new → WorkBroken c (Asks q) old queue new queue
+query_untold c q old new queue result says =
+    let asked = query_asked q old new result says in
+    record {
+      since = asked.0;
+      begun = λ h l f. inr (plain_result result, asked.1 h l f);
+      rows = λ h l f. may_have queue [] queue (deeds h old.caller old.length new.length) (rows_none queue);
+    }
+
 -- ---- results
+
+-- what follows of each reply
+pub of_reply : {T E : Type 0} (P Q : T → Type 0) (r : Result T E) → ((reply : T) → P reply → Q reply) → IfOk r P → IfOk r Q
+of_reply P Q (Ok reply) go p = go reply p
+of_reply P Q (Err fault) go p = tt
 
 -- what holds of these bytes holds of the reply
 pub with_bytes : {E : Type 0} (P : List ℕ → Type 0) (bytes : List ℕ) (r : Result (Vec ℕ Global) E) → IfOk r (λ reply. reply.items ≡ bytes) → P bytes → IfOk r (λ reply. P reply.items)

@@ -1,3 +1,5 @@
 mod Answering
 mod Bodies
+mod Moments
+mod QueryTellings
 pub mod CallerLemmas

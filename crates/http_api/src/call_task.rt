@@ -1,5 +1,5 @@
 //! What a request asks for.
-ghost use Rattle.std.specs.Prelude.{◌≡◌, IfOk, Result};
+ghost use Rattle.std.specs.Prelude.{◌≡◌, ℕ, false, IfOk, Result};
 ghost use Rattle.http_routes.specs.Routes.{route_table, valued};
 ghost use Rattle.json_bodies.specs.JsonBodies.{json_of};
 ghost use Rattle.name_requests.specs.AssignRequests.{AssignLists, GivesAssign, assign_lists};
@@ -58,9 +58,11 @@ pub enum Task {
     },
 }
 
-/// Whether the clock is asked for a request: it isn't refused, and its path is `/api/query`, whatever its method.
+/// Whether the clock is asked for a request: it isn't refused, and its path is `/api/query`, whatever its method. Any other asks for
+/// the same at every moment.
 pub fn asks_clock(call: &Call) -> bool
-    ensures { result ≡ asks_clock call.now }
+    ensures asks { result ≡ asks_clock call.now }
+    ensures alike { result ≡ false → (a b : ℕ) → work_of a call.now ≡ work_of b call.now }
 {
     call.refused.is_none() && call.path.list() == b"/api/query".as_slice()
 }

@@ -1,5 +1,5 @@
 //! The answer to a request of an HTTP connection.
-ghost use Rattle.std.specs.Prelude.{◌≡◌, ℕ, List, map, IfOk, IfErr, OnErr};
+ghost use Rattle.std.specs.Prelude.{◌≡◌, ℕ, List, map, IfOk, IfErr, IsOk, OnErr};
 ghost use Rattle.cell_model.specs.declared.answers.Stored.{Stored};
 ghost use Rattle.point_put.specs.declared.config.Config.{Config};
 ghost use Rattle.serde_json.specs.View.{view};
@@ -171,6 +171,7 @@ fn suggest<R: Rows + Drop>(
 /// The reply, or the want of memory for it.
 pub(crate) fn told(reply: Result<Vec<u8>, AllocError>) -> Result<Vec<u8>, RowsFault>
     ensures ok { (bytes : List ℕ) → IfOk reply (λ r. r.items ≡ bytes) → IfOk result (λ r. r.items ≡ bytes) }
+    ensures given { IsOk result → IsOk reply }
     ensures err { IfErr result (λ fault. fault ≡ rows_fault.OutOfMemory) }
 {
     match reply {

@@ -1,1 +1,2 @@
 mod Literals
+pub mod CallerLemmas
