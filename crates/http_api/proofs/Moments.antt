@@ -37,16 +37,16 @@ routes_alike a b None call other = refl
 routes_alike a b (Some r) call other = verbs_alike a b call.verb r call (λ is. other (ap Some is))
 
 never : (t : Bool) → t ≡ false → t ≡ true → ⊥
-never true no so = absurd (cc)
-never false no so = absurd (cc)
+never true is_false is_true = absurd (cc)
+never false is_false is_true = absurd (cc)
 
 pub work_alike : (call : Call) → asks_clock call ≡ false → (a b : ℕ) → work_of a call ≡ work_of b call
 unfolding work_of
-work_alike call no a b = by call.refused refl
+work_alike call other a b = by call.refused refl
   where
     asks : call.refused ≡ None → route_of call.path ≡ Some route.Query → asks_clock call ≡ true
     asks is leads = rw (is, query_path call.path leads) refl
 
     by : (refused : Option Refusal) → call.refused ≡ refused → by_refusal a refused call ≡ by_refusal b refused call
     by (Some refusal) is = refl
-    by None is = routes_alike a b (route_of call.path) call (λ leads. never (asks_clock call) no (asks is leads))
+    by None is = routes_alike a b (route_of call.path) call (λ leads. never (asks_clock call) other (asks is leads))

@@ -18,3 +18,8 @@ pub returns-in-Suggest-clause-err : goal.returns-in-Suggest-clause-err
 returns-in-Suggest-clause-err g c = of_error c.suggest.result
     (λ broken work is. subst (λ (w : Work). WorkBroken c.args.config.now w (g.R.Rows.seen c.args.names.now) c.args.queue.now (g.R.Rows.seen c.suggest.new.names) c.args.queue.now) (sym (subst (IsTask work) c.in-Suggest.is is).0) (broken c.args.config.now c.args.queue.now))
     c.suggest.ensures.err
+
+pub returns-in-Ask-clause-err : goal.returns-in-Ask-clause-err
+returns-in-Ask-clause-err g c = of_error c.answer_query.result
+    (λ broken work is. subst (λ (w : Work). WorkBroken c.args.config.now w (g.R.Rows.seen c.args.names.now) c.args.queue.now (g.R.Rows.seen c.answer_query.new.names) c.args.queue.now) (sym (subst (IsTask work) c.in-Ask.is is).0) (broken c.args.config.now c.args.queue.now))
+    c.answer_query.ensures.err

@@ -10,11 +10,11 @@ use Rattle.http_api.proofs.query_reply.answer_query.Goals as goal
 pub returns-clause-ok : goal.returns-clause-ok
 returns-clause-ok g c =
     let old = g.R.Rows.seen c.args.names.now in
-    let new = g.R.Rows.seen c.ask.new.names in
-    of_reply (λ (reply : Vec ℕ Global). IsReplyTo (plain_result c.ask.result) c.args.closing reply.items)
-    (λ (reply : Vec ℕ Global). (config : Config) (queue : List Stored) → WorkReplied config (Asks c.args.query.now) c.args.closing (g.R.Rows.seen c.args.names.now) queue reply.items (g.R.Rows.seen c.ask.new.names) queue)
-    c.tell.result (λ reply is config queue. query_replied config c.args.query.now c.args.closing old new queue c.ask.result reply.items c.ask.ensures.says is) c.tell.ensures.ok
+    let new = g.R.Rows.seen c.ask-asked.new.names in
+    of_reply (λ (reply : Vec ℕ Global). IsReplyTo (plain_result c.ask-asked.result) c.args.closing reply.items)
+    (λ (reply : Vec ℕ Global). (config : Config) (queue : List Stored) → WorkReplied config (Asks c.args.query.now) c.args.closing (g.R.Rows.seen c.args.names.now) queue reply.items (g.R.Rows.seen c.ask-asked.new.names) queue)
+    c.tell.result (λ reply is config queue. query_replied config c.args.query.now c.args.closing old new queue c.ask-asked.result reply.items c.ask-asked.ensures.says is) c.tell.ensures.ok
 
 pub returns-clause-err : goal.returns-clause-err
-returns-clause-err g c = in_error ((config : Config) (queue : List Stored) → WorkBroken config (Asks c.args.query.now) (g.R.Rows.seen c.args.names.now) queue (g.R.Rows.seen c.ask.new.names) queue) c.tell.result
-    (λ config queue. query_untold config c.args.query.now (g.R.Rows.seen c.args.names.now) (g.R.Rows.seen c.ask.new.names) queue c.ask.result c.ask.ensures.says)
+returns-clause-err g c = in_error ((config : Config) (queue : List Stored) → WorkBroken config (Asks c.args.query.now) (g.R.Rows.seen c.args.names.now) queue (g.R.Rows.seen c.ask-asked.new.names) queue) c.tell.result
+    (λ config queue. query_untold config c.args.query.now (g.R.Rows.seen c.args.names.now) (g.R.Rows.seen c.ask-asked.new.names) queue c.ask-asked.result c.ask-asked.ensures.says)
