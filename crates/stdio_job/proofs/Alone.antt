@@ -1,6 +1,6 @@
 -- What was served over a store of one's own stands in the store's whole history.
 use Rattle.std.proofs.Common.{◌≡◌, ℕ, ◌+◌, ◌≤◌, ◌<◌, true, List, [], ◌∷◌, refl, sym, ap, subst, ◌∙◌, arith}
-use Rattle.std.specs.Prelude.{Some}
+use Rattle.std.specs.Prelude.{None, Some}
 use Rattle.std.specs.FinMap.{empty}
 use Rattle.cell_model.specs.declared.events.Entry.{Entry}
 use Rattle.cell_model.specs.History.{History, len, entry_at}
@@ -22,8 +22,8 @@ begun = opened empty 1
 abbrev fresh_seen : Seen
 fresh_seen = whole_seen begun 1 true
 
-alone_served : (c : Config) (new : Seen) (input output : List ℕ) (result : Served) → IsPossible fresh_seen → Serves c fresh_seen input output result new → IsServedAlone c input output result
-alone_served c new input output result possible s =
+alone_served : (c : Config) (new : Seen) (input output times : List ℕ) (result : Served) → IsPossible fresh_seen → Serves c fresh_seen input output times result new → IsServedAlone c input output times result
+alone_served c new input output times result possible s =
     let p = s.since.lives possible in
     let long : len p.history ≡ new.length = p.whole s.since.alone in
     record {
@@ -32,16 +32,16 @@ alone_served c new input output result possible s =
       base = p.fits.base ∙ s.since.extends.base;
       opened = (s.since.extends.fits p.history p.fits).seen 1 (opening 1) (omega arith, here (record { place = 1; entry = opening 1 }) []);
       only = λ place e above most is. s.since.only refl p.history p.fits place e above (omega (arith, long, most)) is;
-      served = subst (λ (n : ℕ). IsServed c p.history 1 1 n input output result) (sym long) (s.served p.history p.lawful p.fits);
+      served = subst (λ (n : ℕ). IsServed c p.history 1 1 n input output times result) (sym long) (s.served p.history p.lawful p.fits);
     }
 
 -- what was served from a fresh store on
-pub served_alone : (c : Config) (old new : Seen) (input output : List ℕ) (result : Served) → IsFresh old → Serves c old input output result new → IsServedAlone c input output result
-served_alone c old new input output result fresh s =
-    alone_served c new input output result (subst IsPossible fresh.seen fresh.possible) (subst (λ (o : Seen). Serves c o input output result new) fresh.seen s)
+pub served_alone : (c : Config) (old new : Seen) (input output times : List ℕ) (result : Served) → IsFresh old → Serves c old input output times result new → IsServedAlone c input output times result
+served_alone c old new input output times result fresh s =
+    alone_served c new input output times result (subst IsPossible fresh.seen fresh.possible) (subst (λ (o : Seen). Serves c o input output times result new) fresh.seen s)
 
 -- no memory for the store: nothing was served
-pub none_served : (c : Config) → IsServedAlone c [] [] answer.OutOfMemory
+pub none_served : (c : Config) → IsServedAlone c [] [] [] answer.OutOfMemory
 none_served c = record {
   history = begun;
   lawful = begun_lawful;
@@ -53,7 +53,7 @@ none_served c = record {
     last = 1;
     in_range = omega arith;
     ran = start;
-    table = record { rest = []; requests = refl; replies = refl; begun = refl };
+    table = record { rest = []; requests = refl; replies = refl; moment = None; moments = refl; begun = (refl, refl) };
   };
 }
 

@@ -11,13 +11,13 @@ use Rattle.tsd_daemon.specs.ServedConns.{IsServed, Fills}
 
 -- There is a lawful history over the empty store in which caller 1 opened at place 1 and all that follows is its own, and in it the
 -- connection was served from length 1 to the end.
-pub record IsServedAlone (c : Config) (input output : List ℕ) (result : Served) : Type 0 where
+pub record IsServedAlone (c : Config) (input output times : List ℕ) (result : Served) : Type 0 where
   pub history : History
   pub lawful : IsLawful history
   pub base : base_of history ≡ empty
   pub opened : entry_at history 1 ≡ Some (opening 1)
   pub only : (place : ℕ) (e : Entry) → 1 < place → place ≤ len history → entry_at history place ≡ Some e → e.caller ≡ 1
-  pub served : IsServed c history 1 1 (len history) input output result
+  pub served : IsServed c history 1 1 (len history) input output times result
 
-abbrev pub ServesAlone : Config → Served → List ℕ → List ℕ → Type 0
-ServesAlone c result input output = IsServedAlone c input output result × Fills result (length input)
+abbrev pub ServesAlone : Config → Served → List ℕ → List ℕ → List ℕ → Type 0
+ServesAlone c result input output times = IsServedAlone c input output times result × Fills result (length input)

@@ -30,11 +30,10 @@ pub fn serve_alone<S: Source, K: Sink, C: Clock, H: Halt + Drop>(
     clock: &mut C,
     halt: H,
 ) -> Finished<H>
-    ensures served { Passes (S.taken source.old) (S.taken source.new) (S.left source.old) (S.left source.new) (K.held sink.old) (K.held sink.new)
+    ensures served { Passes (S.taken source.old) (S.taken source.new) (S.left source.old) (S.left source.new) (K.held sink.old) (K.held sink.new) (C.moments clock.old) (C.moments clock.new)
         (ServesAlone config.now result.served) }
     ensures end { result.served ≡ Served.End → IsAtEnd (S.left source.new) }
-    ensures causes { ConnCauses (S.faults source.old) (S.faults source.new) (K.faults sink.old) (K.faults sink.new) (H.stops halt) (H.stops result.halt) result.served }
-    ensures clock { clock.new ≡ clock.old }
+    ensures causes { ConnCauses (S.faults source.old) (S.faults source.new) (K.faults sink.old) (K.faults sink.new) (H.stops halt) (H.stops result.halt) (C.faults clock.old) (C.faults clock.new) result.served }
 {
     match empty(alloc, halt) {
         Ok(store) => {

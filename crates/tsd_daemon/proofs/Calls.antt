@@ -1,5 +1,5 @@
 -- Calls of an HTTP connection: those that are to come, and what one is answered.
-use Rattle.std.proofs.Common.{◌≡◌, ℕ, Bool, true, false, List, [], ◌++◌, map, refl, ap, ◌∙◌}
+use Rattle.std.proofs.Common.{◌≡◌, inr, ℕ, Bool, true, false, List, [], ◌++◌, map, refl, ap, ◌∙◌}
 use Rattle.std.specs.Prelude.{None, Some, if◌then◌else◌}
 use Rattle.cell_model.specs.declared.answers.Stored.{Stored}
 use Rattle.cell_model.specs.Seen.{Seen}
@@ -13,6 +13,7 @@ use Rattle.tsd_daemon.specs.declared.counts.Counted.TheVariants as counted
 use Rattle.tsd_daemon.specs.declared.served.Served.TheVariants as answer
 use Rattle.tsd_daemon.specs.ConnRequests.{end_of}
 use Rattle.tsd_daemon.specs.ConnRequests.ConnRequest.{Http}
+use Rattle.tsd_daemon.specs.Exchanges.{moment_for}
 use Rattle.tsd_daemon.specs.Talks.{IsNext, Replied, WasBegun, http_to_come}
 
 pub next_call : (old new : Unread) (call : Call) → sessions.Gives old call new → IsNext (Http call) (http_to_come old) (http_to_come new)
@@ -27,11 +28,12 @@ no_calls old new w = ap (map Http) (w.same [] ∙ w.none)
 pub fed_calls : (old new : Unread) (piece fed : List ℕ) → piece ≡ fed → ((more : List ℕ) → sessions.to_come new more ≡ sessions.to_come old (piece ++ more)) → (more : List ℕ) → http_to_come new more ≡ http_to_come old (fed ++ more)
 fed_calls old new piece fed is same more = ap (map Http) (same more ∙ ap (λ (p : List ℕ). sessions.to_come old (p ++ more)) is)
 
-pub call_replied : (c : Config) (counts : Counts) (call : Call) (old new : Seen) (before after : List Stored) (reply : List ℕ) → CallReplied c call old before reply new after → Replied c counts (Http call) old before reply counted.Other new after
-call_replied c counts call old new before after reply r = record { stored = r.stored; since = r.since; answered = r.answered; rows = r.rows; how_is = refl }
+pub call_replied : (c : Config) (counts : Counts) (now : ℕ) (call : Call) (old new : Seen) (before after : List Stored) (reply : List ℕ) → CallReplied c now call old before reply new after
+    → Replied c counts (moment_for call now) (Http call) old before reply counted.Other new after
+call_replied c counts now call old new before after reply r = record { stored = r.stored; since = r.since; answered = λ h l f. (now, refl, r.answered h l f); rows = r.rows; how_is = refl }
 
-pub call_begun : (c : Config) (call : Call) (old new : Seen) (before after : List Stored) → CallBroken c call old before new after → WasBegun c (Http call) old before new after
-call_begun c call old new before after b = record { since = b.since; begun = b.begun; rows = b.rows }
+pub call_begun : (c : Config) (now : ℕ) (call : Call) (old new : Seen) (before after : List Stored) → CallBroken c now call old before new after → WasBegun c (moment_for call now) (Http call) old before new after
+call_begun c now call old new before after b = record { since = b.since; begun = λ h l f. inr (now, refl, b.begun h l f); rows = b.rows }
 
 -- whether the connection ends with it
 pub closes_with : (call : Call) → call.closing ≡ true → end_of (Http call) ≡ Some answer.Closed

@@ -6,3 +6,4 @@ mod Serving
 mod TalkLemmas
 mod Talking
 mod Calls
+mod GivenMoments

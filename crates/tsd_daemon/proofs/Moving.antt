@@ -1,6 +1,6 @@
 -- How one call moves a connection.
-use Rattle.std.proofs.Common.{◌≡◌, inl, inr, ℕ, List, [], ◌++◌, refl, sym, subst}
-use Rattle.std.specs.Prelude.{Option, None, Some}
+use Rattle.std.proofs.Common.{◌≡◌, inl, inr, ℕ, true, List, [], ◌++◌, refl, sym, subst}
+use Rattle.std.specs.Prelude.{Option, None, Some, option_to_list}
 use Rattle.tsd_base.specs.Points.{DataPoint}
 use Rattle.cell_laws.proofs.CallerLemmas.{nothing_made}
 use Rattle.cell_model.specs.declared.answers.Stored.{Stored}
@@ -14,48 +14,73 @@ use Rattle.tsd_daemon.specs.declared.served.Served.{Served}
 use Rattle.tsd_daemon.specs.declared.served.Served.TheVariants as answer
 use Rattle.tsd_daemon.specs.declared.counts.Counts.{Counts}
 use Rattle.tsd_daemon.specs.declared.counts.Counted.{Counted}
-use Rattle.tsd_daemon.specs.ConnRequests.{ConnRequest, end_of, point_asked}
+use Rattle.tsd_daemon.specs.ConnClocks.{Gave}
+use Rattle.tsd_daemon.specs.ConnRequests.{ConnRequest, asks_clock, end_of, point_asked}
 use Rattle.tsd_daemon.specs.ConnRequests.ConnRequest.{Telnet}
 use Rattle.tsd_daemon.specs.ConnReplies.{counts_with, fixed_reply}
 use Rattle.tsd_daemon.specs.Exchanges.{AnsweredBy}
-use Rattle.tsd_daemon.specs.Talks.{Ends, FixedMoves, Gives, GivesLast, GivesReply, GivesSome, IsNext, Moves, Replied, Stand, Talks, WasBegun, counted_as}
+use Rattle.tsd_daemon.specs.Talks.{ClockMoves, Ends, FixedMoves, Gives, GivesLast, GivesReply, GivesSome, IsNext, Moves, Replied, Stand, Talks, WasBegun, counted_as}
 use Rattle.tsd_daemon.proofs.TalkLemmas.{BreaksSo}
-use Rattle.tsd_daemon.proofs.Talking.{Requests, talk_begun, talk_broken, talk_closed, talk_failed, talk_gave, talk_replied, talk_unsent}
+use Rattle.tsd_daemon.proofs.Talking.{Requests, talk_begun, talk_broken, talk_closed, talk_failed, talk_gave, talk_momentless, talk_replied, talk_unsent}
 
 -- ---- one request
 
 -- it was answered, and its reply told, at once or later; or the sink failed
-pub request_replied : (c : Config) (old : Stand) (request : ConnRequest) (seen : Seen) (held : Option (List ℕ)) (queue : List Stored) (waiting : List ℕ) (counts : Counts) (reply : List ℕ) (how : Counted) (result : Option Served) (come come' : Requests)
-    → Replied c old.counts request old.seen old.queue reply how seen queue → GivesReply old.held held (old.waiting ++ reply) waiting result → counts ≡ counts_with old.counts how → end_of request ≡ None → IsNext request come come'
-    → Moves c old come (record { seen = seen; held = held; queue = queue; waiting = waiting; counts = counts }) come' result
-request_replied c old request seen held queue waiting counts reply how None come come' r g is still next from t le k =
-    subst (λ (n : Counts). Talks c from t (record { seen = seen; held = held; queue = queue; waiting = waiting; counts = n }) come') (sym is)
-    (talk_replied c from t old seen held queue waiting come come' request reply how k next r g still)
-request_replied c old request seen held queue waiting counts reply how (Some answer.WriteFault) come come' r g is still next from t le k = talk_unsent c from t old seen held queue come come' request reply how le k next r g
-request_replied c old request seen held queue waiting counts reply how (Some answer.End) come come' r g is still next from t le k = absurd g
-request_replied c old request seen held queue waiting counts reply how (Some answer.Exit) come come' r g is still next from t le k = absurd g
-request_replied c old request seen held queue waiting counts reply how (Some answer.Die) come come' r g is still next from t le k = absurd g
-request_replied c old request seen held queue waiting counts reply how (Some answer.Closed) come come' r g is still next from t le k = absurd g
-request_replied c old request seen held queue waiting counts reply how (Some answer.ReadFault) come come' r g is still next from t le k = absurd g
-request_replied c old request seen held queue waiting counts reply how (Some answer.ClockFault) come come' r g is still next from t le k = absurd g
-request_replied c old request seen held queue waiting counts reply how (Some answer.Stopped) come come' r g is still next from t le k = absurd g
-request_replied c old request seen held queue waiting counts reply how (Some answer.SessionFull) come come' r g is still next from t le k = absurd g
-request_replied c old request seen held queue waiting counts reply how (Some answer.OutOfMemory) come come' r g is still next from t le k = absurd g
+pub clock_replied : (c : Config) (old : Stand) (moments moments' : Option (List ℕ)) (moment : Option ℕ) (request : ConnRequest) (seen : Seen) (held : Option (List ℕ)) (queue : List Stored) (waiting : List ℕ) (counts : Counts) (reply : List ℕ) (how : Counted) (result : Option Served) (come come' : Requests)
+    → Gave moments (option_to_list moment) moments' → Replied c old.counts moment request old.seen old.queue reply how seen queue → GivesReply old.held held (old.waiting ++ reply) waiting result → counts ≡ counts_with old.counts how → end_of request ≡ None → IsNext request come come'
+    → ClockMoves c moments old come moments' (record { seen = seen; held = held; queue = queue; waiting = waiting; counts = counts }) come' result
+clock_replied c old moments moments' moment request seen held queue waiting counts reply how None come come' given r g is still next from t le k =
+    subst (λ (n : Counts). Talks c from (record t { moments = moments' }) (record { seen = seen; held = held; queue = queue; waiting = waiting; counts = n }) come') (sym is)
+    (talk_replied c from (record t { moments = moments }) moments' old seen held queue waiting come come' moment request reply how k given next r g still)
+clock_replied c old moments moments' moment request seen held queue waiting counts reply how (Some answer.WriteFault) come come' given r g is still next from t le k =
+    talk_unsent c from (record t { moments = moments }) moments' old seen held queue come come' moment request reply how le k given next r g
+clock_replied c old moments moments' moment request seen held queue waiting counts reply how (Some answer.End) come come' given r g is still next from t le k = absurd g
+clock_replied c old moments moments' moment request seen held queue waiting counts reply how (Some answer.Exit) come come' given r g is still next from t le k = absurd g
+clock_replied c old moments moments' moment request seen held queue waiting counts reply how (Some answer.Die) come come' given r g is still next from t le k = absurd g
+clock_replied c old moments moments' moment request seen held queue waiting counts reply how (Some answer.Closed) come come' given r g is still next from t le k = absurd g
+clock_replied c old moments moments' moment request seen held queue waiting counts reply how (Some answer.ReadFault) come come' given r g is still next from t le k = absurd g
+clock_replied c old moments moments' moment request seen held queue waiting counts reply how (Some answer.ClockFault) come come' given r g is still next from t le k = absurd g
+clock_replied c old moments moments' moment request seen held queue waiting counts reply how (Some answer.Stopped) come come' given r g is still next from t le k = absurd g
+clock_replied c old moments moments' moment request seen held queue waiting counts reply how (Some answer.SessionFull) come come' given r g is still next from t le k = absurd g
+clock_replied c old moments moments' moment request seen held queue waiting counts reply how (Some answer.OutOfMemory) come come' given r g is still next from t le k = absurd g
 
 -- it was answered, and closes
-pub request_last : (c : Config) (old : Stand) (request : ConnRequest) (seen : Seen) (held : Option (List ℕ)) (queue : List Stored) (waiting : List ℕ) (counts : Counts) (reply : List ℕ) (how : Counted) (end result : Served) (come come' : Requests)
-    → Replied c old.counts request old.seen old.queue reply how seen queue → GivesLast old.held held (old.waiting ++ reply) end result → end_of request ≡ Some end → IsNext request come come'
-    → Moves c old come (record { seen = seen; held = held; queue = queue; waiting = waiting; counts = counts }) come' (Some result)
-request_last c old request seen held queue waiting counts reply how end result come come' r (inl (g, same)) ends next from t le k =
-    subst (λ (x : Served). Ends c from t.taken t.left x seen held queue) (sym same) (talk_closed c from t old seen held queue come come' request reply how end le k next r g ends)
-request_last c old request seen held queue waiting counts reply how end result come come' r (inr (g, same)) ends next from t le k =
-    subst (λ (x : Served). Ends c from t.taken t.left x seen held queue) (sym same) (talk_unsent c from t old seen held queue come come' request reply how le k next r g)
+pub clock_last : (c : Config) (old : Stand) (moments moments' : Option (List ℕ)) (moment : Option ℕ) (request : ConnRequest) (seen : Seen) (held : Option (List ℕ)) (queue : List Stored) (waiting : List ℕ) (counts : Counts) (reply : List ℕ) (how : Counted) (end result : Served) (come come' : Requests)
+    → Gave moments (option_to_list moment) moments' → Replied c old.counts moment request old.seen old.queue reply how seen queue → GivesLast old.held held (old.waiting ++ reply) end result → end_of request ≡ Some end → IsNext request come come'
+    → ClockMoves c moments old come moments' (record { seen = seen; held = held; queue = queue; waiting = waiting; counts = counts }) come' (Some result)
+clock_last c old moments moments' moment request seen held queue waiting counts reply how end result come come' given r (inl (g, same)) ends next from t le k =
+    subst (λ (x : Served). Ends c from t.taken t.left moments' x seen held queue) (sym same) (talk_closed c from (record t { moments = moments }) moments' old seen held queue come come' moment request reply how end le k given next r g ends)
+clock_last c old moments moments' moment request seen held queue waiting counts reply how end result come come' given r (inr (g, same)) ends next from t le k =
+    subst (λ (x : Served). Ends c from t.taken t.left moments' x seen held queue) (sym same) (talk_unsent c from (record t { moments = moments }) moments' old seen held queue come come' moment request reply how le k given next r g)
 
 -- it was begun, where no reply waits
+pub clock_begun : (c : Config) (old : Stand) (moments moments' : Option (List ℕ)) (moment : Option ℕ) (request : ConnRequest) (seen : Seen) (queue : List Stored) (end : Served) (come come' : Requests)
+    → Gave moments (option_to_list moment) moments' → WasBegun c moment request old.seen old.queue seen queue → old.waiting ≡ [] → BreaksSo end → IsNext request come come'
+    → ClockMoves c moments old come moments' (record { seen = seen; held = old.held; queue = queue; waiting = old.waiting; counts = old.counts }) come' (Some end)
+clock_begun c old moments moments' moment request seen queue end come come' given b none so next from t le k = talk_begun c from (record t { moments = moments }) moments' old seen queue come come' moment request end le k given next b none so
+
+-- the clock failed, which it asks, where no reply waits
+pub clock_failed : (c : Config) (old : Stand) (moments moments' : Option (List ℕ)) (request : ConnRequest) (come come' : Requests) → old.waiting ≡ [] → (asks_clock request ≡ true) × (moments' ≡ moments) → IsNext request come come'
+    → ClockMoves c moments old come moments' old come' (Some answer.ClockFault)
+clock_failed c old moments moments' request come come' none (asks, same) next from t le k =
+    subst (λ (m : Option (List ℕ)). Ends c from t.taken t.left m answer.ClockFault old.seen old.held old.queue) (sym same) (talk_momentless c from (record t { moments = moments }) old come come' request le k next asks none)
+
+-- ---- one request that doesn't ask the clock
+
+pub request_replied : (c : Config) (old : Stand) (request : ConnRequest) (seen : Seen) (held : Option (List ℕ)) (queue : List Stored) (waiting : List ℕ) (counts : Counts) (reply : List ℕ) (how : Counted) (result : Option Served) (come come' : Requests)
+    → Replied c old.counts None request old.seen old.queue reply how seen queue → GivesReply old.held held (old.waiting ++ reply) waiting result → counts ≡ counts_with old.counts how → end_of request ≡ None → IsNext request come come'
+    → Moves c old come (record { seen = seen; held = held; queue = queue; waiting = waiting; counts = counts }) come' result
+request_replied c old request seen held queue waiting counts reply how result come come' r g is still next from t le k = clock_replied c old t.moments t.moments None request seen held queue waiting counts reply how result come come' refl r g is still next from t le k
+
+pub request_last : (c : Config) (old : Stand) (request : ConnRequest) (seen : Seen) (held : Option (List ℕ)) (queue : List Stored) (waiting : List ℕ) (counts : Counts) (reply : List ℕ) (how : Counted) (end result : Served) (come come' : Requests)
+    → Replied c old.counts None request old.seen old.queue reply how seen queue → GivesLast old.held held (old.waiting ++ reply) end result → end_of request ≡ Some end → IsNext request come come'
+    → Moves c old come (record { seen = seen; held = held; queue = queue; waiting = waiting; counts = counts }) come' (Some result)
+request_last c old request seen held queue waiting counts reply how end result come come' r g ends next from t le k = clock_last c old t.moments t.moments None request seen held queue waiting counts reply how end result come come' refl r g ends next from t le k
+
 pub request_begun : (c : Config) (old : Stand) (request : ConnRequest) (seen : Seen) (queue : List Stored) (end : Served) (come come' : Requests)
-    → WasBegun c request old.seen old.queue seen queue → old.waiting ≡ [] → BreaksSo end → IsNext request come come'
+    → WasBegun c None request old.seen old.queue seen queue → old.waiting ≡ [] → BreaksSo end → IsNext request come come'
     → Moves c old come (record { seen = seen; held = old.held; queue = queue; waiting = old.waiting; counts = old.counts }) come' (Some end)
-request_begun c old request seen queue end come come' b none so next from t le k = talk_begun c from t old seen queue come come' request end le k next b none so
+request_begun c old request seen queue end come come' b none so next from t le k = clock_begun c old t.moments t.moments None request seen queue end come come' refl b none so next from t le k
 
 -- what waited was given first
 pub gave_first : (c : Config) (old : Stand) (held : Option (List ℕ)) (waiting : List ℕ) (new : Stand) (come come' : Requests) (result : Option Served)
@@ -67,18 +92,30 @@ pub first_failed : (c : Config) (old : Stand) (held : Option (List ℕ)) (waitin
     → Moves c old come (record { seen = old.seen; held = held; queue = old.queue; waiting = waiting; counts = old.counts }) come' (Some answer.WriteFault)
 first_failed c old held waiting come come' g from t le k = talk_failed c from t old held come le k g
 
+pub clock_gave_first : (c : Config) (old : Stand) (moments moments' : Option (List ℕ)) (held : Option (List ℕ)) (waiting : List ℕ) (new : Stand) (come come' : Requests) (result : Option Served)
+    → Gives old.held held old.waiting [] → waiting ≡ [] → ClockMoves c moments (record { seen = old.seen; held = held; queue = old.queue; waiting = waiting; counts = old.counts }) come moments' new come' result → ClockMoves c moments old come moments' new come' result
+clock_gave_first c old moments moments' held waiting new come come' result g none m from t le k =
+    m from t le (subst (λ (w : List ℕ). Talks c from (record t { moments = moments }) (record { seen = old.seen; held = held; queue = old.queue; waiting = w; counts = old.counts }) come) (sym none) (talk_gave c from (record t { moments = moments }) old held come k g))
+
+pub clock_first_failed : (c : Config) (old : Stand) (moments : Option (List ℕ)) (held : Option (List ℕ)) (waiting : List ℕ) (come come' : Requests) → GivesSome old.held held old.waiting
+    → ClockMoves c moments old come moments (record { seen = old.seen; held = held; queue = old.queue; waiting = waiting; counts = old.counts }) come' (Some answer.WriteFault)
+clock_first_failed c old moments held waiting come come' g from t le k = talk_failed c from (record t { moments = moments }) old held come le k g
+
 -- one after the other
 pub moves_on : (c : Config) (old mid new : Stand) (come come' come'' : Requests) (result : Option Served) → Moves c old come mid come' None → Moves c mid come' new come'' result → Moves c old come new come'' result
 moves_on c old mid new come come' come'' result a b from t le k = b from t le (a from t le k)
 
+pub clock_moves_on : (c : Config) (old mid new : Stand) (moments between moments' : Option (List ℕ)) (come come' come'' : Requests) (result : Option Served) → ClockMoves c moments old come between mid come' None → ClockMoves c between mid come' moments' new come'' result → ClockMoves c moments old come moments' new come'' result
+clock_moves_on c old mid new moments between moments' come come' come'' result a b from t le k = b from t le (a from t le k)
+
 -- ---- requests that ask for no step
 
 nothing_done : (seen : Seen) (c : Config) (counts : Counts) (request : Request) (reply : List ℕ) → point_asked request ≡ None → reply ≡ fixed_reply counts request → (queue : List Stored)
-    → Replied c counts (Telnet request) seen queue reply (counted_as (Telnet request) []) seen queue
+    → Replied c counts None (Telnet request) seen queue reply (counted_as (Telnet request) []) seen queue
 nothing_done seen c counts request reply none is queue = record {
   stored = [];
   since = (nothing_made seen).since;
-  answered = λ h l f. subst (λ (point : Option DataPoint). AnsweredBy c (first seen.length h) (deeds h seen.caller seen.length seen.length) counts request point reply []) (sym none) ((nothing_made seen).made h f, is, refl);
+  answered = λ h l f. (refl, subst (λ (point : Option DataPoint). AnsweredBy c (first seen.length h) (deeds h seen.caller seen.length seen.length) counts request point reply []) (sym none) ((nothing_made seen).made h f, is, refl));
   rows = rows_none queue;
   how_is = refl;
 }

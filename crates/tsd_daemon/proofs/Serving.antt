@@ -10,51 +10,51 @@ use Rattle.tsd_daemon.specs.ConnPieces.{PieceTaken, TakesNext, no_piece}
 use Rattle.tsd_daemon.specs.ConnReplies.{no_counts}
 use Rattle.tsd_daemon.specs.ConnRequests.{begins_http, conn_requests, http_asks, telnet_asks}
 use Rattle.tsd_daemon.specs.ServedConns.{ConnCauses, HasConnCause, Passes, QueuesBytes, ServesBytes}
-use Rattle.tsd_daemon.specs.Talks.{Ends, HasEndCause, Stand, Start, Talks}
+use Rattle.tsd_daemon.specs.Talks.{Ends, HasClockCause, HasEndCause, Stand, Start, Talks}
 use Rattle.tsd_daemon.proofs.Giving.{gave_none}
 use Rattle.tsd_daemon.proofs.Pieces.{piece_moved, talk_no_piece, talk_piece}
 use Rattle.tsd_daemon.proofs.Talking.{talk_come, talk_memory, talk_start}
 
-abbrev start_of : Seen → Option (List ℕ) → Option (List ℕ) → Option (List ℕ) → List Stored → Start
-start_of seen taken left held queue = record { seen = seen; taken = taken; left = left; held = held; queue = queue }
+abbrev start_of : Seen → Option (List ℕ) → Option (List ℕ) → Option (List ℕ) → Option (List ℕ) → List Stored → Start
+start_of seen taken left moments held queue = record { seen = seen; taken = taken; left = left; moments = moments; held = held; queue = queue }
 
 abbrev first_stand : Seen → Option (List ℕ) → List Stored → Stand
 first_stand seen held queue = record { seen = seen; held = held; queue = queue; waiting = []; counts = no_counts }
 
 -- ---- what a served connection says
 
-pub ends_served : (c : Config) (from : Start) (taken left : Option (List ℕ)) (result : Served) (seen : Seen) (held : Option (List ℕ)) (queue : List Stored) → Ends c from taken left result seen held queue
-    → Passes from.taken taken from.left left from.held held (ServesBytes c from.seen result seen)
-ends_served c from taken left result seen held queue e = record { input = e.input; output = e.output; takes = e.takes; leaves = e.leaves; gives = e.gives; so = (record { since = e.since; served = λ h l f. (e.served h l f).served }, e.fills) }
+pub ends_served : (c : Config) (from : Start) (taken left moments : Option (List ℕ)) (result : Served) (seen : Seen) (held : Option (List ℕ)) (queue : List Stored) → Ends c from taken left moments result seen held queue
+    → Passes from.taken taken from.left left from.held held from.moments moments (ServesBytes c from.seen result seen)
+ends_served c from taken left moments result seen held queue e = record { input = e.input; output = e.output; times = e.times; takes = e.takes; leaves = e.leaves; gives = e.gives; ticks = e.ticks; so = (record { since = e.since; served = λ h l f. (e.served h l f).served }, e.fills) }
 
-pub ends_queued : (c : Config) (from : Start) (taken left : Option (List ℕ)) (result : Served) (seen : Seen) (held : Option (List ℕ)) (queue : List Stored) → Ends c from taken left result seen held queue
-    → Passes from.taken taken from.left left from.held held (QueuesBytes c from.seen from.queue result seen queue)
-ends_queued c from taken left result seen held queue e = record { input = e.input; output = e.output; takes = e.takes; leaves = e.leaves; gives = e.gives; so = e.served }
+pub ends_queued : (c : Config) (from : Start) (taken left moments : Option (List ℕ)) (result : Served) (seen : Seen) (held : Option (List ℕ)) (queue : List Stored) → Ends c from taken left moments result seen held queue
+    → Passes from.taken taken from.left left from.held held from.moments moments (QueuesBytes c from.seen from.queue result seen queue)
+ends_queued c from taken left moments result seen held queue e = record { input = e.input; output = e.output; times = e.times; takes = e.takes; leaves = e.leaves; gives = e.gives; ticks = e.ticks; so = e.served }
 
 -- ---- ends before a session begins
 
-pub none_taken : (c : Config) (seen : Seen) (taken left held : Option (List ℕ)) (queue : List Stored) → Ends c (start_of seen taken left held queue) taken left answer.OutOfMemory seen held queue
-none_taken c seen taken left held queue = talk_memory c (start_of seen taken left held queue) (record { taken = taken; left = left; size = 0 }) (first_stand seen held queue) conn_requests (omega arith) (talk_start c seen taken left held queue) refl
+pub none_taken : (c : Config) (seen : Seen) (taken left moments held : Option (List ℕ)) (queue : List Stored) → Ends c (start_of seen taken left moments held queue) taken left moments answer.OutOfMemory seen held queue
+none_taken c seen taken left moments held queue = talk_memory c (start_of seen taken left moments held queue) (record { taken = taken; left = left; moments = moments; size = 0 }) (first_stand seen held queue) conn_requests (omega arith) (talk_start c seen taken left moments held queue) refl
 
-started : (c : Config) (seen : Seen) (taken left held : Option (List ℕ)) (queue : List Stored) (input : PieceTaken) → input ≡ no_piece
-    → Talks c (start_of seen taken left held queue) (record { taken = taken; left = left; size = input.taken }) (first_stand seen held queue) conn_requests
-started c seen taken left held queue input none = subst (λ (i : PieceTaken). Talks c (start_of seen taken left held queue) (record { taken = taken; left = left; size = i.taken }) (first_stand seen held queue) conn_requests) (sym none) (talk_start c seen taken left held queue)
+started : (c : Config) (seen : Seen) (taken left moments held : Option (List ℕ)) (queue : List Stored) (input : PieceTaken) → input ≡ no_piece
+    → Talks c (start_of seen taken left moments held queue) (record { taken = taken; left = left; moments = moments; size = input.taken }) (first_stand seen held queue) conn_requests
+started c seen taken left moments held queue input none = subst (λ (i : PieceTaken). Talks c (start_of seen taken left moments held queue) (record { taken = taken; left = left; moments = moments; size = i.taken }) (first_stand seen held queue) conn_requests) (sym none) (talk_start c seen taken left moments held queue)
 
 least : (input : PieceTaken) → input ≡ no_piece → input.taken ≤ 2 ^ 40
 least input none = let e = ap (λ (i : PieceTaken). i.taken) none in omega (arith, e)
 
-pub no_piece_taken : (c : Config) (seen : Seen) (taken left taken' left' held : Option (List ℕ)) (queue : List Stored) (input new : PieceTaken) (end : Served) → input ≡ no_piece → TakesNext taken taken' left left' input (Err end) new
-    → Ends c (start_of seen taken left held queue) taken' left' end seen held queue
-no_piece_taken c seen taken left taken' left' held queue input new end none t =
-    talk_no_piece c (start_of seen taken left held queue) taken left taken' left' (first_stand seen held queue) held input new end conn_requests (least input none) (started c seen taken left held queue input none) refl
+pub no_piece_taken : (c : Config) (seen : Seen) (taken left taken' left' moments held : Option (List ℕ)) (queue : List Stored) (input new : PieceTaken) (end : Served) → input ≡ no_piece → TakesNext taken taken' left left' input (Err end) new
+    → Ends c (start_of seen taken left moments held queue) taken' left' moments end seen held queue
+no_piece_taken c seen taken left taken' left' moments held queue input new end none t =
+    talk_no_piece c (start_of seen taken left moments held queue) taken left taken' left' moments (first_stand seen held queue) held input new end conn_requests (least input none) (started c seen taken left moments held queue input none) refl
     (piece_moved taken taken' left left' held held [] input new (Err end) (gave_none held []) t)
 
 -- ---- the first piece
 
-first_piece : (c : Config) (seen : Seen) (taken left taken' left' held : Option (List ℕ)) (queue : List Stored) (input new : PieceTaken) → input ≡ no_piece → TakesNext taken taken' left left' input (Ok tt) new
-    → Talks c (start_of seen taken left held queue) (record { taken = taken'; left = left'; size = new.taken }) (first_stand seen held queue) (λ more. conn_requests (new.piece ++ more))
-first_piece c seen taken left taken' left' held queue input new none t =
-    talk_piece c (start_of seen taken left held queue) taken left taken' left' (first_stand seen held queue) held input new conn_requests (started c seen taken left held queue input none) (piece_moved taken taken' left left' held held [] input new (Ok tt) (gave_none held []) t)
+first_piece : (c : Config) (seen : Seen) (taken left taken' left' moments held : Option (List ℕ)) (queue : List Stored) (input new : PieceTaken) → input ≡ no_piece → TakesNext taken taken' left left' input (Ok tt) new
+    → Talks c (start_of seen taken left moments held queue) (record { taken = taken'; left = left'; moments = moments; size = new.taken }) (first_stand seen held queue) (λ more. conn_requests (new.piece ++ more))
+first_piece c seen taken left taken' left' moments held queue input new none t =
+    talk_piece c (start_of seen taken left moments held queue) taken left taken' left' moments (first_stand seen held queue) held input new conn_requests (started c seen taken left moments held queue input none) (piece_moved taken taken' left left' held held [] input new (Ok tt) (gave_none held []) t)
 
 chosen : (piece more : List ℕ) (b : Bool) → 0 < length piece → begins_http piece ≡ b → conn_requests (piece ++ more) ≡ (if b then http_asks (piece ++ more) else telnet_asks (piece ++ more))
 chosen [] more b some e = absurd (omega (arith, some))
@@ -64,21 +64,21 @@ some_bytes : (new : PieceTaken) (more : List ℕ) → (new.piece ≡ more) × (0
 some_bytes new more (is, some) = subst (λ (p : List ℕ). 0 < length p) (sym is) some
 
 -- the first byte decides what is asked
-pub begins : (c : Config) (seen : Seen) (taken left taken' left' held : Option (List ℕ)) (queue : List Stored) (input new : PieceTaken) (b : Bool) → input ≡ no_piece → TakesNext taken taken' left left' input (Ok tt) new → begins_http new.piece ≡ b
-    → Talks c (start_of seen taken left held queue) (record { taken = taken'; left = left'; size = new.taken }) (first_stand seen held queue) (λ more. if b then http_asks (new.piece ++ more) else telnet_asks (new.piece ++ more))
-begins c seen taken left taken' left' held queue input new b none t is =
-    talk_come c (start_of seen taken left held queue) _ _ (λ more. conn_requests (new.piece ++ more)) (λ more. if b then http_asks (new.piece ++ more) else telnet_asks (new.piece ++ more)) (first_piece c seen taken left taken' left' held queue input new none t)
+pub begins : (c : Config) (seen : Seen) (taken left taken' left' moments held : Option (List ℕ)) (queue : List Stored) (input new : PieceTaken) (b : Bool) → input ≡ no_piece → TakesNext taken taken' left left' input (Ok tt) new → begins_http new.piece ≡ b
+    → Talks c (start_of seen taken left moments held queue) (record { taken = taken'; left = left'; moments = moments; size = new.taken }) (first_stand seen held queue) (λ more. if b then http_asks (new.piece ++ more) else telnet_asks (new.piece ++ more))
+begins c seen taken left taken' left' moments held queue input new b none t is =
+    talk_come c (start_of seen taken left moments held queue) _ _ (λ more. conn_requests (new.piece ++ more)) (λ more. if b then http_asks (new.piece ++ more) else telnet_asks (new.piece ++ more)) (first_piece c seen taken left taken' left' moments held queue input new none t)
     (λ more. sym (chosen new.piece more b (some_bytes new t.more t.next) is))
 
 -- ---- causes
 
-pub no_causes : (reads writes stops : ℕ) → ConnCauses reads reads writes writes stops stops answer.OutOfMemory
-no_causes reads writes stops = record { source = omega arith; sink = omega arith; rows = omega arith; cause = tt }
+pub no_causes : (reads writes stops ticks : ℕ) → ConnCauses reads reads writes writes stops stops ticks ticks answer.OutOfMemory
+no_causes reads writes stops ticks = record { source = omega arith; sink = omega arith; rows = omega arith; clock = omega arith; cause = tt }
 
-pub reads_later : (r0 r1 r2 w w' s s' : ℕ) (end : Served) → r0 ≤ r1 → ConnCauses r1 r2 w w' s s' end → ConnCauses r0 r2 w w' s s' end
-reads_later r0 r1 r2 w w' s s' end le x = record { source = let q = x.source in omega (arith, le, q); sink = x.sink; rows = x.rows; cause = at end x.cause }
+pub reads_later : (r0 r1 r2 w w' s s' t t' : ℕ) (end : Served) → r0 ≤ r1 → ConnCauses r1 r2 w w' s s' t t' end → ConnCauses r0 r2 w w' s s' t t' end
+reads_later r0 r1 r2 w w' s s' t t' end le x = record { source = let q = x.source in omega (arith, le, q); sink = x.sink; rows = x.rows; clock = x.clock; cause = at end x.cause }
   where
-    at : (end : Served) → HasConnCause r1 r2 w w' s s' end → HasConnCause r0 r2 w w' s s' end
+    at : (end : Served) → HasConnCause r1 r2 w w' s s' t t' end → HasConnCause r0 r2 w w' s s' t t' end
     at answer.ReadFault h = omega (arith, le, h)
     at answer.WriteFault h = h
     at answer.Stopped h = h
@@ -93,3 +93,6 @@ reads_later r0 r1 r2 w w' s s' end le x = record { source = let q = x.source in 
 -- a session's own ends aren't that of its source
 pub not_end : {P : Type 0} (a b s s' : ℕ) (r : Served) → HasEndCause a b s s' (Some r) → r ≡ answer.End → P
 not_end a b s s' r h e = absurd (subst (λ (x : Served). HasEndCause a b s s' (Some x)) e h)
+
+pub not_clock_end : {P : Type 0} (a b s s' t t' : ℕ) (r : Served) → HasClockCause a b s s' t t' (Some r) → r ≡ answer.End → P
+not_clock_end a b s s' t t' r h e = absurd (subst (λ (x : Served). HasClockCause a b s s' t t' (Some x)) e h)

@@ -1,6 +1,6 @@
 -- Exchanges that were done, and one more.
 use Rattle.std.proofs.Common.{◌≡◌, ℕ, ◌+◌, ◌^◌, ◌≤◌, Bool, true, false, ◌||◌, List, [], ◌∷◌, ◌++◌, length, refl, sym, ap, subst, ◌∙◌, append_assoc, append-nil, arith}
-use Rattle.std.specs.Prelude.{None, Some, filter, if◌then◌else◌}
+use Rattle.std.specs.Prelude.{None, Some, option_to_list, filter, if◌then◌else◌}
 use Rattle.std.specs.List.{list_any}
 use Rattle.list_lemmas.proofs.ListCuts.{filter_join}
 use Rattle.list_lemmas.proofs.ListParts.{length_push}
@@ -20,7 +20,7 @@ use Rattle.tsd_daemon.specs.declared.served.Served.TheVariants as answer
 use Rattle.tsd_daemon.specs.ConnRequests.{ConnRequest, closes_conn, end_of}
 use Rattle.tsd_daemon.specs.ConnRequests.ConnRequest.{Telnet, Http}
 use Rattle.tsd_daemon.specs.ConnReplies.{counts_with, one_more}
-use Rattle.tsd_daemon.specs.Exchanges.{Exchange, counted, counts_of, is_accepted, is_put, is_refused, replies_in, requests_in, rows_in}
+use Rattle.tsd_daemon.specs.Exchanges.{Exchange, counted, counts_of, is_accepted, is_put, is_refused, moments_in, replies_in, requests_in, rows_in}
 use Rattle.tsd_daemon.specs.ServedConns.{BreaksOff, Closes, Fills, QueueTable, Table}
 use Rattle.tsd_daemon.specs.Talks.{counted_if}
 
@@ -33,6 +33,10 @@ replies_push (y ∷ done) x = ap (λ t. y.reply ++ t) (replies_push done x) ∙ 
 pub rows_push : (done : List Exchange) (x : Exchange) → rows_in (done ++ x ∷ []) ≡ rows_in done ++ x.stored
 rows_push [] x = append-nil x.stored
 rows_push (y ∷ done) x = ap (λ t. y.stored ++ t) (rows_push done x) ∙ sym (append_assoc y.stored (rows_in done) x.stored)
+
+pub moments_push : (done : List Exchange) (x : Exchange) → moments_in (done ++ x ∷ []) ≡ moments_in done ++ option_to_list x.moment
+moments_push [] x = append-nil (option_to_list x.moment)
+moments_push (y ∷ done) x = ap (λ t. option_to_list y.moment ++ t) (moments_push done x) ∙ sym (append_assoc (option_to_list y.moment) (moments_in done) (option_to_list x.moment))
 
 pub requests_push : (done : List Exchange) (x : Exchange) → requests_in (done ++ x ∷ []) ≡ requests_in done ++ x.request ∷ []
 requests_push [] x = refl
@@ -94,19 +98,19 @@ counts_push done x = at (is_put x.request) x.stored (count_push accepted done x)
 -- ---- requests that end a connection
 
 pub record ClosesSo (request : ConnRequest) (end : Served) : Type 0 where
-  pub table : (c : Config) (h : History) (caller n n2 : ℕ) (done : List Exchange) (input output : List ℕ) → Closes end done input output (deeds h caller n n2) → Table end c h caller n n2 done input output
+  pub table : (c : Config) (h : History) (caller n n2 : ℕ) (done : List Exchange) (input output times : List ℕ) → Closes end done input output times (deeds h caller n n2) → Table end c h caller n n2 done input output times
   pub queue : (before rows : List Stored) (later : List Placed) (after : List Stored) → HasRows before rows after → QueueTable end before rows later after
   pub fills : (count : ℕ) → count ≤ 2 ^ 40 → Fills end count
   pub closes : closes_conn request ≡ true
 
 exits : ClosesSo (Telnet Exit) answer.Exit
-exits = record { table = λ c h caller n n2 done input output t. t; queue = λ before rows later after q. q; fills = λ count le. le; closes = refl }
+exits = record { table = λ c h caller n n2 done input output times t. t; queue = λ before rows later after q. q; fills = λ count le. le; closes = refl }
 
 dies : ClosesSo (Telnet Die) answer.Die
-dies = record { table = λ c h caller n n2 done input output t. t; queue = λ before rows later after q. q; fills = λ count le. le; closes = refl }
+dies = record { table = λ c h caller n n2 done input output times t. t; queue = λ before rows later after q. q; fills = λ count le. le; closes = refl }
 
 call_closes : (call : Call) → call.closing ≡ true → ClosesSo (Http call) answer.Closed
-call_closes call is = record { table = λ c h caller n n2 done input output t. t; queue = λ before rows later after q. q; fills = λ count le. le; closes = is }
+call_closes call is = record { table = λ c h caller n n2 done input output times t. t; queue = λ before rows later after q. q; fills = λ count le. le; closes = is }
 
 pub closes_so : (request : ConnRequest) (end : Served) → end_of request ≡ Some end → ClosesSo request end
 closes_so (Telnet Exit) end e = subst (λ r. ClosesSo (Telnet Exit) r) (same_Some _ _ e) exits
@@ -143,12 +147,12 @@ goes_on (Http call) e = at call.closing e
 -- ---- answers behind which a request may have been begun
 
 pub record BreaksSo (end : Served) : Type 0 where
-  pub table : (c : Config) (h : History) (caller n n2 : ℕ) (done : List Exchange) (input output : List ℕ) → BreaksOff c h caller n n2 done input output → Table end c h caller n n2 done input output
+  pub table : (c : Config) (h : History) (caller n n2 : ℕ) (done : List Exchange) (input output times : List ℕ) → BreaksOff c h caller n n2 done input output times → Table end c h caller n n2 done input output times
   pub queue : (before rows : List Stored) (later : List Placed) (after : List Stored) → MayHaveRows before rows later after → QueueTable end before rows later after
   pub fills : (count : ℕ) → count ≤ 2 ^ 40 → Fills end count
 
 pub memory_breaks : BreaksSo answer.OutOfMemory
-memory_breaks = record { table = λ c h caller n n2 done input output t. t; queue = λ before rows later after q. q; fills = λ count le. le }
+memory_breaks = record { table = λ c h caller n n2 done input output times t. t; queue = λ before rows later after q. q; fills = λ count le. le }
 
 pub stop_breaks : BreaksSo answer.Stopped
-stop_breaks = record { table = λ c h caller n n2 done input output t. t; queue = λ before rows later after q. q; fills = λ count le. le }
+stop_breaks = record { table = λ c h caller n n2 done input output times t. t; queue = λ before rows later after q. q; fills = λ count le. le }

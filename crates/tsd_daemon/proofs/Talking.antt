@@ -1,6 +1,6 @@
 -- How a connection goes on by one request, by bytes that are given and by bytes that are taken, and how it ends.
 use Rattle.std.proofs.Common.{◌≡◌, inl, inr, ℕ, ◌+◌, ◌^◌, ◌≤◌, ◌<◌, List, [], ◌∷◌, ◌++◌, length, length-append, refl, sym, ap, subst, ◌∙◌, append_assoc, append-nil, arith}
-use Rattle.std.specs.Prelude.{Option, None, Some, Err}
+use Rattle.std.specs.Prelude.{Option, None, Some, option_to_list, Err}
 use Rattle.std.specs.Io.KnownBytes.{Appends, Consumes}
 use Rattle.std.proofs.KnownBytes.{Appends-nil, Appends-trans, Consumes-nil, Consumes-trans}
 use Rattle.tsd_base.specs.Points.{DataPoint}
@@ -20,50 +20,52 @@ use Rattle.point_put.specs.Entries.{ForName, ForNames}
 use Rattle.point_put.specs.Entries.ForNames.{nil, more}
 use Rattle.queued_put.specs.PutRows.{MayHaveRows}
 use Rattle.queued_put.proofs.CallerLemmas.{may_follow, may_have}
-use Rattle.http_api.proofs.CallerLemmas.{call_unbegun}
 use Rattle.tsd_daemon.specs.declared.served.Served.{Served}
 use Rattle.tsd_daemon.specs.declared.served.Served.TheVariants as answer
 use Rattle.tsd_daemon.specs.declared.counts.Counts.{Counts}
 use Rattle.tsd_daemon.specs.declared.counts.Counted.{Counted}
-use Rattle.tsd_daemon.specs.ConnRequests.{ConnRequest, conn_requests, end_of, point_asked}
+use Rattle.tsd_daemon.specs.ConnClocks.{Gave}
+use Rattle.tsd_daemon.specs.ConnRequests.{ConnRequest, asks_clock, conn_requests, end_of, point_asked}
 use Rattle.tsd_daemon.specs.ConnRequests.ConnRequest.{Telnet, Http}
 use Rattle.tsd_daemon.specs.ConnReplies.{counts_with, no_counts}
-use Rattle.tsd_daemon.specs.Exchanges.{AnsweredBetween, BegunBetween, BegunBy, Exchange, Ran, counts_of, requests_in, rows_in}
+use Rattle.tsd_daemon.specs.Exchanges.{AnsweredBetween, BegunBetween, BegunBy, Exchange, Ran, counts_of, moments_in, requests_in, rows_in}
 use Rattle.tsd_daemon.specs.Exchanges.Ran.{start, then_asked}
 use Rattle.tsd_daemon.specs.ServedConns.{AllAnswered, Fills, FirstBegun, QueueTable, Table}
 use Rattle.tsd_daemon.specs.Talks.{Ends, Gives, GivesLast, GivesSome, IsNext, Replied, Stand, Start, Taken, Talks, Told, WasBegun}
-use Rattle.tsd_daemon.proofs.TalkLemmas.{BreaksSo, closes_so, counts_push, goes_on, open_push, replies_push, requests_next, requests_push, rows_push}
+use Rattle.tsd_daemon.proofs.GivenMoments.{moments_joined}
+use Rattle.tsd_daemon.proofs.TalkLemmas.{BreaksSo, closes_so, counts_push, goes_on, moments_push, open_push, replies_push, requests_next, requests_push, rows_push}
 
 abbrev pub Requests : Type 0
 Requests = List ℕ → List ConnRequest
 
-abbrev exchange : ConnRequest → List ℕ → List Stored → Exchange
-exchange request reply stored = record { request = request; reply = reply; stored = stored }
+abbrev exchange : Option ℕ → ConnRequest → List ℕ → List Stored → Exchange
+exchange moment request reply stored = record { request = request; moment = moment; reply = reply; stored = stored }
 
 -- ---- one request more
 
-ran_more : (c : Config) (from mid new : Seen) (done : List Exchange) (counts : Counts) (request : ConnRequest) (before : List Stored) (reply : List ℕ) (how : Counted) (after : List Stored)
+ran_more : (c : Config) (from mid new : Seen) (done : List Exchange) (counts : Counts) (moment : Option ℕ) (request : ConnRequest) (before : List Stored) (reply : List ℕ) (how : Counted) (after : List Stored)
     → mid.caller ≡ from.caller → counts ≡ counts_of done → InEach mid (λ h. Ran c h from.caller from.length done mid.length)
-    → (r : Replied c counts request mid before reply how new after) → InEach new (λ h. Ran c h from.caller from.length (done ++ exchange request reply r.stored ∷ []) new.length)
-ran_more c from mid new done counts request before reply how after who is ran r h l f =
-    let mine : AnsweredBetween c h from.caller mid.length new.length counts request reply r.stored = subst (λ (n : ℕ). AnsweredBetween c h n mid.length new.length counts request reply r.stored) who (r.answered h l f) in
-    then_asked (exchange request reply r.stored) (ran h l (r.since.extends.fits h f)) r.since.extends.length (subst (λ (k : Counts). AnsweredBetween c h from.caller mid.length new.length k request reply r.stored) is mine)
+    → (r : Replied c counts moment request mid before reply how new after) → InEach new (λ h. Ran c h from.caller from.length (done ++ exchange moment request reply r.stored ∷ []) new.length)
+ran_more c from mid new done counts moment request before reply how after who is ran r h l f =
+    let mine : AnsweredBetween c h from.caller mid.length new.length counts moment request reply r.stored = subst (λ (n : ℕ). AnsweredBetween c h n mid.length new.length counts moment request reply r.stored) who (r.answered h l f) in
+    then_asked (exchange moment request reply r.stored) (ran h l (r.since.extends.fits h f)) r.since.extends.length (subst (λ (k : Counts). AnsweredBetween c h from.caller mid.length new.length k moment request reply r.stored) is mine)
 
 -- its reply waits
-told_answered : (c : Config) (from : Start) (t : Taken) (done : List Exchange) (old : Stand) (seen : Seen) (queue : List Stored) (come come' : Requests) (request : ConnRequest) (reply : List ℕ) (how : Counted)
-    → Told c from t done old come → IsNext request come come' → (r : Replied c old.counts request old.seen old.queue reply how seen queue)
-    → Told c from t (done ++ exchange request reply r.stored ∷ []) (record { seen = seen; held = old.held; queue = queue; waiting = old.waiting ++ reply; counts = counts_with old.counts how }) come'
-told_answered c from t done old seen queue come come' request reply how k next r =
-    let x = exchange request reply r.stored in
+told_answered : (c : Config) (from : Start) (t : Taken) (moments : Option (List ℕ)) (done : List Exchange) (old : Stand) (seen : Seen) (queue : List Stored) (come come' : Requests) (moment : Option ℕ) (request : ConnRequest) (reply : List ℕ) (how : Counted)
+    → Told c from t done old come → Gave t.moments (option_to_list moment) moments → IsNext request come come' → (r : Replied c old.counts moment request old.seen old.queue reply how seen queue)
+    → Told c from (record t { moments = moments }) (done ++ exchange moment request reply r.stored ∷ []) (record { seen = seen; held = old.held; queue = queue; waiting = old.waiting ++ reply; counts = counts_with old.counts how }) come'
+told_answered c from t moments done old seen queue come come' moment request reply how k given next r =
+    let x = exchange moment request reply r.stored in
     record {
       input = k.input;
       output = k.output;
       takes = k.takes;
       leaves = k.leaves;
       gives = k.gives;
+      ticks = subst (λ (times : List ℕ). Gave from.moments times moments) (sym (moments_push done x)) (moments_joined from.moments t.moments moments (moments_in done) (option_to_list moment) k.ticks given);
       size = k.size;
       since = since_joined from.seen old.seen seen k.since r.since;
-      ran = ran_more c from.seen old.seen seen done old.counts request old.queue reply how queue k.since.caller k.counted k.ran r;
+      ran = ran_more c from.seen old.seen seen done old.counts moment request old.queue reply how queue k.since.caller k.counted k.ran r;
       replies = sym (append_assoc k.output old.waiting reply) ∙ ap (λ w. w ++ reply) k.replies ∙ sym (replies_push done x);
       requests = λ more. requests_next done x _ (come more) (come' more) (k.requests more) (next.next more);
       queued = subst (λ (rows : List Stored). HasRows from.queue rows queue) (sym (rows_push done x)) (rows_joined from.queue old.queue queue (rows_in done) r.stored k.queued r.rows);
@@ -80,6 +82,7 @@ told_gave c from t done old held waiting come k g = record {
   takes = k.takes;
   leaves = k.leaves;
   gives = Appends-trans from.held old.held held k.output g.given k.gives g.appends;
+  ticks = k.ticks;
   size = k.size;
   since = k.since;
   ran = k.ran;
@@ -94,13 +97,13 @@ pub talk_gave : (c : Config) (from : Start) (t : Taken) (old : Stand) (held : Op
     → Talks c from t (record { seen = old.seen; held = held; queue = old.queue; waiting = []; counts = old.counts }) come
 talk_gave c from t old held come k g = record { done = k.done; told = told_gave c from t k.done old held [] come k.told g; open_still = k.open_still }
 
-pub talk_replied : (c : Config) (from : Start) (t : Taken) (old : Stand) (seen : Seen) (held : Option (List ℕ)) (queue : List Stored) (waiting : List ℕ) (come come' : Requests) (request : ConnRequest) (reply : List ℕ) (how : Counted)
-    → Talks c from t old come → IsNext request come come' → Replied c old.counts request old.seen old.queue reply how seen queue → Gives old.held held (old.waiting ++ reply) waiting → end_of request ≡ None
-    → Talks c from t (record { seen = seen; held = held; queue = queue; waiting = waiting; counts = counts_with old.counts how }) come'
-talk_replied c from t old seen held queue waiting come come' request reply how k next r g still = record {
-  done = k.done ++ exchange request reply r.stored ∷ [];
-  told = told_gave c from t _ _ held waiting come' (told_answered c from t k.done old seen queue come come' request reply how k.told next r) g;
-  open_still = open_push k.done (exchange request reply r.stored) k.open_still (goes_on request still);
+pub talk_replied : (c : Config) (from : Start) (t : Taken) (moments : Option (List ℕ)) (old : Stand) (seen : Seen) (held : Option (List ℕ)) (queue : List Stored) (waiting : List ℕ) (come come' : Requests) (moment : Option ℕ) (request : ConnRequest) (reply : List ℕ) (how : Counted)
+    → Talks c from t old come → Gave t.moments (option_to_list moment) moments → IsNext request come come' → Replied c old.counts moment request old.seen old.queue reply how seen queue → Gives old.held held (old.waiting ++ reply) waiting → end_of request ≡ None
+    → Talks c from (record t { moments = moments }) (record { seen = seen; held = held; queue = queue; waiting = waiting; counts = counts_with old.counts how }) come'
+talk_replied c from t moments old seen held queue waiting come come' moment request reply how k given next r g still = record {
+  done = k.done ++ exchange moment request reply r.stored ∷ [];
+  told = told_gave c from (record t { moments = moments }) _ _ held waiting come' (told_answered c from t moments k.done old seen queue come come' moment request reply how k.told given next r) g;
+  open_still = open_push k.done (exchange moment request reply r.stored) k.open_still (goes_on request still);
 }
 
 -- ---- ends
@@ -116,15 +119,17 @@ most_of : (n size : ℕ) → n ≡ size → size ≤ 2 ^ 40 → n ≤ 2 ^ 40
 most_of n size is le = omega (arith, is, le)
 
 -- after these exchanges the connection ended so
-told_ends : (c : Config) (from : Start) (t : Taken) (done : List Exchange) (now : Stand) (come : Requests) (result : Served) (seen : Seen) (queue : List Stored) → (k : Told c from t done now come) → Since now.seen seen
-    → InEach seen (λ h. Table result c h from.seen.caller now.seen.length seen.length done k.input k.output) → InEach seen (λ h. QueueTable result from.queue (rows_in done) (deeds h from.seen.caller now.seen.length seen.length) queue)
-    → Fills result (length k.input) → Ends c from t.taken t.left result seen now.held queue
-told_ends c from t done now come result seen queue k since table queued fills = record {
+told_ends : (c : Config) (from : Start) (t : Taken) (moments : Option (List ℕ)) (done : List Exchange) (now : Stand) (come : Requests) (result : Served) (seen : Seen) (queue : List Stored) (times : List ℕ) → (k : Told c from t done now come) → Since now.seen seen
+    → Gave from.moments times moments → InEach seen (λ h. Table result c h from.seen.caller now.seen.length seen.length done k.input k.output times)
+    → InEach seen (λ h. QueueTable result from.queue (rows_in done) (deeds h from.seen.caller now.seen.length seen.length) queue) → Fills result (length k.input) → Ends c from t.taken t.left moments result seen now.held queue
+told_ends c from t moments done now come result seen queue times k since ticks table queued fills = record {
   input = k.input;
   output = k.output;
+  times = times;
   takes = k.takes;
   leaves = k.leaves;
   gives = k.gives;
+  ticks = ticks;
   since = since_joined from.seen now.seen seen k.since since;
   served = λ h l f. record {
     served = record { done = done; last = now.seen.length; in_range = since.extends.length; ran = k.ran h l (since.extends.fits h f); table = table h l f };
@@ -135,43 +140,44 @@ told_ends c from t done now come result seen queue k since table queued fills = 
 
 -- and no entry was made behind them
 told_rests : (c : Config) (from : Start) (t : Taken) (done : List Exchange) (now : Stand) (come : Requests) (result : Served) → (k : Told c from t done now come)
-    → ((h : History) → deeds h from.seen.caller now.seen.length now.seen.length ≡ [] → Table result c h from.seen.caller now.seen.length now.seen.length done k.input k.output)
-    → ((later : List Placed) → QueueTable result from.queue (rows_in done) later now.queue) → Fills result (length k.input) → Ends c from t.taken t.left result now.seen now.held now.queue
+    → ((h : History) → deeds h from.seen.caller now.seen.length now.seen.length ≡ [] → Table result c h from.seen.caller now.seen.length now.seen.length done k.input k.output (moments_in done))
+    → ((later : List Placed) → QueueTable result from.queue (rows_in done) later now.queue) → Fills result (length k.input) → Ends c from t.taken t.left t.moments result now.seen now.held now.queue
 told_rests c from t done now come result k table queued fills =
-    told_ends c from t done now come result now.seen now.queue k (nothing_made now.seen).since
+    told_ends c from t t.moments done now come result now.seen now.queue (moments_in done) k (nothing_made now.seen).since k.ticks
     (λ h l f. table h (ap (λ n. deeds h n now.seen.length now.seen.length) (sym k.since.caller) ∙ (nothing_made now.seen).made h f)) (λ h l f. queued _) fills
 
 -- the sink failed while what waited was given
 told_unsent : (c : Config) (from : Start) (t : Taken) (done : List Exchange) (old : Stand) (held : Option (List ℕ)) (come : Requests) → t.size ≤ 2 ^ 40 → Told c from t done old come → GivesSome old.held held old.waiting
-    → Ends c from t.taken t.left answer.WriteFault old.seen held old.queue
+    → Ends c from t.taken t.left t.moments answer.WriteFault old.seen held old.queue
 told_unsent c from t done old held come le k (rest, g) =
     let m = told_gave c from t done old held rest come k g in
-    told_rests c from t done _ come answer.WriteFault m (λ h none. record { rest = come []; requests = all_of m.input _ (come []) (m.requests []); unsent = rest; replies = m.replies; no_later = none })
+    told_rests c from t done _ come answer.WriteFault m (λ h none. record { rest = come []; requests = all_of m.input _ (come []) (m.requests []); unsent = rest; replies = m.replies; moments = refl; no_later = none })
     (λ later. m.queued) (most_of (length m.input) t.size m.size le)
 
 pub talk_failed : (c : Config) (from : Start) (t : Taken) (old : Stand) (held : Option (List ℕ)) (come : Requests) → t.size ≤ 2 ^ 40 → Talks c from t old come → GivesSome old.held held old.waiting
-    → Ends c from t.taken t.left answer.WriteFault old.seen held old.queue
+    → Ends c from t.taken t.left t.moments answer.WriteFault old.seen held old.queue
 talk_failed c from t old held come le k g = told_unsent c from t k.done old held come le k.told g
 
 -- the reply to a request that was answered couldn't be given whole
-pub talk_unsent : (c : Config) (from : Start) (t : Taken) (old : Stand) (seen : Seen) (held : Option (List ℕ)) (queue : List Stored) (come come' : Requests) (request : ConnRequest) (reply : List ℕ) (how : Counted)
-    → t.size ≤ 2 ^ 40 → Talks c from t old come → IsNext request come come' → Replied c old.counts request old.seen old.queue reply how seen queue → GivesSome old.held held (old.waiting ++ reply)
-    → Ends c from t.taken t.left answer.WriteFault seen held queue
-talk_unsent c from t old seen held queue come come' request reply how le k next r g =
-    told_unsent c from t _ _ held come' le (told_answered c from t k.done old seen queue come come' request reply how k.told next r) g
+pub talk_unsent : (c : Config) (from : Start) (t : Taken) (moments : Option (List ℕ)) (old : Stand) (seen : Seen) (held : Option (List ℕ)) (queue : List Stored) (come come' : Requests) (moment : Option ℕ) (request : ConnRequest) (reply : List ℕ) (how : Counted)
+    → t.size ≤ 2 ^ 40 → Talks c from t old come → Gave t.moments (option_to_list moment) moments → IsNext request come come' → Replied c old.counts moment request old.seen old.queue reply how seen queue → GivesSome old.held held (old.waiting ++ reply)
+    → Ends c from t.taken t.left moments answer.WriteFault seen held queue
+talk_unsent c from t moments old seen held queue come come' moment request reply how le k given next r g =
+    told_unsent c from (record t { moments = moments }) _ _ held come' le (told_answered c from t moments k.done old seen queue come come' moment request reply how k.told given next r) g
 
 -- a request that closes was answered, and all replies were given
-pub talk_closed : (c : Config) (from : Start) (t : Taken) (old : Stand) (seen : Seen) (held : Option (List ℕ)) (queue : List Stored) (come come' : Requests) (request : ConnRequest) (reply : List ℕ) (how : Counted) (end : Served)
-    → t.size ≤ 2 ^ 40 → Talks c from t old come → IsNext request come come' → Replied c old.counts request old.seen old.queue reply how seen queue → Gives old.held held (old.waiting ++ reply) [] → end_of request ≡ Some end
-    → Ends c from t.taken t.left end seen held queue
-talk_closed c from t old seen held queue come come' request reply how end le k next r g ends =
+pub talk_closed : (c : Config) (from : Start) (t : Taken) (moments : Option (List ℕ)) (old : Stand) (seen : Seen) (held : Option (List ℕ)) (queue : List Stored) (come come' : Requests) (moment : Option ℕ) (request : ConnRequest) (reply : List ℕ) (how : Counted) (end : Served)
+    → t.size ≤ 2 ^ 40 → Talks c from t old come → Gave t.moments (option_to_list moment) moments → IsNext request come come' → Replied c old.counts moment request old.seen old.queue reply how seen queue → Gives old.held held (old.waiting ++ reply) [] → end_of request ≡ Some end
+    → Ends c from t.taken t.left moments end seen held queue
+talk_closed c from t moments old seen held queue come come' moment request reply how end le k given next r g ends =
     let so = closes_so request end ends in
-    let m = told_gave c from t _ _ held [] come' (told_answered c from t k.done old seen queue come come' request reply how k.told next r) g in
-    told_rests c from t _ _ come' end m (λ h none. so.table c h from.seen.caller seen.length seen.length _ m.input m.output (record {
-      all = record { requests = only_of m.input _ (come' []) (m.requests []) (next.last so.closes []); replies = sym (append-nil m.output) ∙ m.replies; no_later = none };
+    let later : Taken = record t { moments = moments } in
+    let m = told_gave c from later _ _ held [] come' (told_answered c from t moments k.done old seen queue come come' moment request reply how k.told given next r) g in
+    told_rests c from later _ _ come' end m (λ h none. so.table c h from.seen.caller seen.length seen.length _ m.input m.output _ (record {
+      all = record { requests = only_of m.input _ (come' []) (m.requests []) (next.last so.closes []); replies = sym (append-nil m.output) ∙ m.replies; moments = refl; no_later = none };
       before = requests_in k.done;
       last = request;
-      ends = requests_push k.done (exchange request reply r.stored);
+      ends = requests_push k.done (exchange moment request reply r.stored);
       with_it = ends;
     })) (λ later. so.queue from.queue _ later queue m.queued) (so.fills (length m.input) (most_of (length m.input) t.size m.size le))
 
@@ -179,20 +185,43 @@ talk_closed c from t old seen held queue come come' request reply how end le k n
 all_given : (output waiting replies : List ℕ) → output ++ waiting ≡ replies → waiting ≡ [] → output ≡ replies
 all_given output waiting replies is none = sym (append-nil output) ∙ ap (λ t. output ++ t) (sym none) ∙ is
 
+-- the requests that are to come, where no more bytes do
+next_of_all : (input : List ℕ) (done : List Exchange) (request : ConnRequest) (come come' : Requests) → ((more : List ℕ) → conn_requests (input ++ more) ≡ requests_in done ++ come more) → IsNext request come come'
+    → conn_requests input ≡ requests_in done ++ request ∷ come' []
+next_of_all input done request come come' requests next = all_of input _ (request ∷ come' []) (requests [] ∙ ap (λ t. requests_in done ++ t) (next.next []))
+
 -- a request was begun and isn't answered, where no reply waits
-pub talk_begun : (c : Config) (from : Start) (t : Taken) (old : Stand) (seen : Seen) (queue : List Stored) (come come' : Requests) (request : ConnRequest) (end : Served)
-    → t.size ≤ 2 ^ 40 → Talks c from t old come → IsNext request come come' → WasBegun c request old.seen old.queue seen queue → old.waiting ≡ [] → BreaksSo end → Ends c from t.taken t.left end seen old.held queue
-talk_begun c from t old seen queue come come' request end le k next b none so =
-    told_ends c from t k.done old come end seen queue k.told b.since
-    (λ h l f. so.table c h from.seen.caller old.seen.length seen.length k.done k.told.input k.told.output (record {
+pub talk_begun : (c : Config) (from : Start) (t : Taken) (moments : Option (List ℕ)) (old : Stand) (seen : Seen) (queue : List Stored) (come come' : Requests) (moment : Option ℕ) (request : ConnRequest) (end : Served)
+    → t.size ≤ 2 ^ 40 → Talks c from t old come → Gave t.moments (option_to_list moment) moments → IsNext request come come' → WasBegun c moment request old.seen old.queue seen queue → old.waiting ≡ [] → BreaksSo end
+    → Ends c from t.taken t.left moments end seen old.held queue
+talk_begun c from t moments old seen queue come come' moment request end le k given next b none so =
+    told_ends c from t moments k.done old come end seen queue (moments_in k.done ++ option_to_list moment) k.told b.since
+    (moments_joined from.moments t.moments moments (moments_in k.done) (option_to_list moment) k.told.ticks given)
+    (λ h l f. so.table c h from.seen.caller old.seen.length seen.length k.done k.told.input k.told.output _ (record {
       rest = request ∷ come' [];
-      requests = all_of k.told.input _ (request ∷ come' []) (k.told.requests [] ∙ ap (λ t. requests_in k.done ++ t) (next.next []));
+      requests = next_of_all k.told.input k.done request come come' k.told.requests next;
       replies = all_given k.told.output old.waiting _ k.told.replies none;
-      begun = subst (λ (n : ℕ). BegunBetween c h n old.seen.length seen.length request) k.told.since.caller (b.begun h l f);
+      moment = moment;
+      moments = refl;
+      begun = subst (λ (n : ℕ). BegunBetween c h n old.seen.length seen.length moment request) k.told.since.caller (b.begun h l f);
     }))
     (λ h l f. so.queue from.queue (rows_in k.done) _ queue (may_follow from.queue old.queue queue (rows_in k.done) _ k.told.queued
     (subst (λ (n : ℕ). MayHaveRows old.queue [] (deeds h n old.seen.length seen.length) queue) k.told.since.caller (b.rows h l f))))
     (so.fills (length k.told.input) (most_of (length k.told.input) t.size k.told.size le))
+
+-- the clock failed, which the next request asks, where no reply waits
+pub talk_momentless : (c : Config) (from : Start) (t : Taken) (old : Stand) (come come' : Requests) (request : ConnRequest) → t.size ≤ 2 ^ 40 → Talks c from t old come → IsNext request come come' → asks_clock request ≡ true → old.waiting ≡ []
+    → Ends c from t.taken t.left t.moments answer.ClockFault old.seen old.held old.queue
+talk_momentless c from t old come come' request le k next asks none =
+    told_rests c from t k.done old come answer.ClockFault k.told (λ h nothing. record {
+      request = request;
+      rest = come' [];
+      requests = next_of_all k.told.input k.done request come come' k.told.requests next;
+      asks = asks;
+      replies = all_given k.told.output old.waiting _ k.told.replies none;
+      moments = refl;
+      no_later = nothing;
+    }) (λ later. k.told.queued) (most_of (length k.told.input) t.size k.told.size le)
 
 -- ---- ends between two requests
 
@@ -200,11 +229,11 @@ no_names : (c : Config) (names : List (Kind × List ℕ)) → ForNames c names [
 no_names c [] = nil
 no_names c (n ∷ names) = more ForName.none (no_names c names)
 
--- no entry is a request's that was begun
-nothing_begun : (c : Config) (h : History) (caller n : ℕ) (rest : List ConnRequest) → deeds h caller n n ≡ [] → FirstBegun c h caller n n rest
-nothing_begun c h caller n [] none = none
-nothing_begun c h caller n (Http call ∷ rest) none = call_unbegun c h caller n call none
-nothing_begun c h caller n (Telnet request ∷ rest) none = subst (λ (own : List Placed). BegunBy c (first n h) own (point_asked request)) (sym none) (at (point_asked request))
+-- no entry and no moment is a request's that was begun
+nothing_begun : (c : Config) (h : History) (caller n : ℕ) (rest : List ConnRequest) → deeds h caller n n ≡ [] → FirstBegun c h caller n n None rest
+nothing_begun c h caller n [] none = (refl, none)
+nothing_begun c h caller n (Http call ∷ rest) none = inl (refl, none)
+nothing_begun c h caller n (Telnet request ∷ rest) none = (refl, subst (λ (own : List Placed). BegunBy c (first n h) own (point_asked request)) (sym none) (at (point_asked request)))
   where
     at : (point : Option DataPoint) → BegunBy c (first n h) [] point
     at None = refl
@@ -212,23 +241,23 @@ nothing_begun c h caller n (Telnet request ∷ rest) none = subst (λ (own : Lis
 
 -- there was no memory, where no reply waits
 pub talk_memory : (c : Config) (from : Start) (t : Taken) (old : Stand) (come : Requests) → t.size ≤ 2 ^ 40 → Talks c from t old come → old.waiting ≡ []
-    → Ends c from t.taken t.left answer.OutOfMemory old.seen old.held old.queue
+    → Ends c from t.taken t.left t.moments answer.OutOfMemory old.seen old.held old.queue
 talk_memory c from t old come le k none =
     told_rests c from t k.done old come answer.OutOfMemory k.told
-    (λ h nothing. record { rest = come []; requests = all_of k.told.input _ (come []) (k.told.requests []); replies = all_given k.told.output old.waiting _ k.told.replies none; begun = nothing_begun c h from.seen.caller old.seen.length (come []) nothing })
+    (λ h nothing. record { rest = come []; requests = all_of k.told.input _ (come []) (k.told.requests []); replies = all_given k.told.output old.waiting _ k.told.replies none; moment = None; moments = sym (append-nil (moments_in k.done)); begun = nothing_begun c h from.seen.caller old.seen.length (come []) nothing })
     (λ later. may_have from.queue (rows_in k.done) old.queue later k.told.queued) (most_of (length k.told.input) t.size k.told.size le)
 
 -- what waited was given, and there was no memory; or the sink failed
 pub talk_broken : (c : Config) (from : Start) (t : Taken) (old : Stand) (held : Option (List ℕ)) (result : Served) (come : Requests) → t.size ≤ 2 ^ 40 → Talks c from t old come → GivesLast old.held held old.waiting answer.OutOfMemory result
-    → Ends c from t.taken t.left result old.seen held old.queue
-talk_broken c from t old held result come le k (inl (g, is)) = subst (λ (r : Served). Ends c from t.taken t.left r old.seen held old.queue) (sym is) (talk_memory c from t _ come le (talk_gave c from t old held come k g) refl)
-talk_broken c from t old held result come le k (inr (g, is)) = subst (λ (r : Served). Ends c from t.taken t.left r old.seen held old.queue) (sym is) (talk_failed c from t old held come le k g)
+    → Ends c from t.taken t.left t.moments result old.seen held old.queue
+talk_broken c from t old held result come le k (inl (g, is)) = subst (λ (r : Served). Ends c from t.taken t.left t.moments r old.seen held old.queue) (sym is) (talk_memory c from t _ come le (talk_gave c from t old held come k g) refl)
+talk_broken c from t old held result come le k (inr (g, is)) = subst (λ (r : Served). Ends c from t.taken t.left t.moments r old.seen held old.queue) (sym is) (talk_failed c from t old held come le k g)
 
 -- where no reply waits and no request is left in what was taken
 pub record Quiet (c : Config) (from : Start) (t : Taken) (old : Stand) : Type 0 where
-  pub end : t.size < 2 ^ 40 → Ends c from t.taken t.left answer.End old.seen old.held old.queue
-  pub failed : t.size < 2 ^ 40 → Ends c from t.taken t.left answer.ReadFault old.seen old.held old.queue
-  pub full : t.size ≡ 2 ^ 40 → Ends c from t.taken t.left answer.SessionFull old.seen old.held old.queue
+  pub end : t.size < 2 ^ 40 → Ends c from t.taken t.left t.moments answer.End old.seen old.held old.queue
+  pub failed : t.size < 2 ^ 40 → Ends c from t.taken t.left t.moments answer.ReadFault old.seen old.held old.queue
+  pub full : t.size ≡ 2 ^ 40 → Ends c from t.taken t.left t.moments answer.SessionFull old.seen old.held old.queue
 
 pub talk_quiet : (c : Config) (from : Start) (t : Taken) (old : Stand) (come : Requests) → Talks c from t old come → old.waiting ≡ [] → come [] ≡ [] → Quiet c from t old
 talk_quiet c from t old come k quiet none =
@@ -239,23 +268,25 @@ talk_quiet c from t old come k quiet none =
       full = λ eq. told_rests c from t k.done old come answer.SessionFull k.told (λ h nothing. record { all = all h nothing; open_still = k.open_still }) (λ later. k.told.queued) (is ∙ eq);
     }
   where
-    all : (h : History) → deeds h from.seen.caller old.seen.length old.seen.length ≡ [] → AllAnswered k.done k.told.input k.told.output (deeds h from.seen.caller old.seen.length old.seen.length)
+    all : (h : History) → deeds h from.seen.caller old.seen.length old.seen.length ≡ [] → AllAnswered k.done k.told.input k.told.output (moments_in k.done) (deeds h from.seen.caller old.seen.length old.seen.length)
     all h nothing = record {
       requests = only_of k.told.input (requests_in k.done) (come []) (k.told.requests []) none;
       replies = all_given k.told.output old.waiting _ k.told.replies quiet;
+      moments = refl;
       no_later = nothing;
     }
 
 -- ---- bytes that are taken
 
 told_took : (c : Config) (from : Start) (t : Taken) (taken left : Option (List ℕ)) (size : ℕ) (done : List Exchange) (now : Stand) (come : Requests) (piece : List ℕ) → Told c from t done now come
-    → Appends t.taken taken piece → Consumes t.left left piece → size ≡ t.size + length piece → Told c from (record { taken = taken; left = left; size = size }) done now (λ more. come (piece ++ more))
+    → Appends t.taken taken piece → Consumes t.left left piece → size ≡ t.size + length piece → Told c from (record { taken = taken; left = left; moments = t.moments; size = size }) done now (λ more. come (piece ++ more))
 told_took c from t taken left size done now come piece k takes leaves grows = record {
   input = k.input ++ piece;
   output = k.output;
   takes = Appends-trans from.taken t.taken taken k.input piece k.takes takes;
   leaves = Consumes-trans from.left t.left left k.input piece k.leaves leaves;
   gives = k.gives;
+  ticks = k.ticks;
   size = length-append k.input piece ∙ ap (λ n. n + length piece) k.size ∙ sym grows;
   since = k.since;
   ran = k.ran;
@@ -266,7 +297,7 @@ told_took c from t taken left size done now come piece k takes leaves grows = re
 }
 
 pub talk_took : (c : Config) (from : Start) (t : Taken) (taken left : Option (List ℕ)) (size : ℕ) (now : Stand) (come : Requests) (piece : List ℕ) → Talks c from t now come
-    → Appends t.taken taken piece → Consumes t.left left piece → size ≡ t.size + length piece → Talks c from (record { taken = taken; left = left; size = size }) now (λ more. come (piece ++ more))
+    → Appends t.taken taken piece → Consumes t.left left piece → size ≡ t.size + length piece → Talks c from (record { taken = taken; left = left; moments = t.moments; size = size }) now (λ more. come (piece ++ more))
 talk_took c from t taken left size now come piece k takes leaves grows = record { done = k.done; told = told_took c from t taken left size k.done now come piece k.told takes leaves grows; open_still = k.open_still }
 
 -- the same requests are to come
@@ -277,6 +308,7 @@ told_come c from t done now come come' k same = record {
   takes = k.takes;
   leaves = k.leaves;
   gives = k.gives;
+  ticks = k.ticks;
   size = k.size;
   since = k.since;
   ran = k.ran;
@@ -290,9 +322,9 @@ pub talk_come : (c : Config) (from : Start) (t : Taken) (now : Stand) (come come
 talk_come c from t now come come' k same = record { done = k.done; told = told_come c from t k.done now come come' k.told same; open_still = k.open_still }
 
 -- nothing was taken yet
-pub talk_start : (c : Config) (seen : Seen) (taken left held : Option (List ℕ)) (queue : List Stored)
-    → Talks c (record { seen = seen; taken = taken; left = left; held = held; queue = queue }) (record { taken = taken; left = left; size = 0 }) (record { seen = seen; held = held; queue = queue; waiting = []; counts = no_counts }) conn_requests
-talk_start c seen taken left held queue = record {
+pub talk_start : (c : Config) (seen : Seen) (taken left moments held : Option (List ℕ)) (queue : List Stored)
+    → Talks c (record { seen = seen; taken = taken; left = left; moments = moments; held = held; queue = queue }) (record { taken = taken; left = left; moments = moments; size = 0 }) (record { seen = seen; held = held; queue = queue; waiting = []; counts = no_counts }) conn_requests
+talk_start c seen taken left moments held queue = record {
   done = [];
   told = record {
     input = [];
@@ -300,6 +332,7 @@ talk_start c seen taken left held queue = record {
     takes = Appends-nil taken;
     leaves = Consumes-nil left;
     gives = Appends-nil held;
+    ticks = refl;
     size = refl;
     since = (nothing_made seen).since;
     ran = λ h l f. start;

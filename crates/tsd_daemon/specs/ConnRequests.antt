@@ -5,6 +5,7 @@ use Rattle.telnet_put.specs.Requests.{Request, closes, requests_of}
 use Rattle.telnet_put.specs.Requests.Request.{Put, Exit, Die}
 use Rattle.http_exchange.specs.declared.http_call.Call.{Call}
 use Rattle.http_exchange.specs.HttpRequests as http
+use Rattle.http_api.specs.CallWork as work
 use Rattle.tsd_daemon.specs.declared.served.Served.{Served}
 use Rattle.tsd_daemon.specs.declared.served.Served.TheVariants as answer
 
@@ -24,6 +25,11 @@ end_of (Telnet Exit) = Some answer.Exit
 end_of (Telnet Die) = Some answer.Die
 end_of (Telnet _) = None
 end_of (Http call) = if call.closing then Some answer.Closed else None
+
+-- whether the clock is asked for it
+abbrev pub asks_clock : ConnRequest → Bool
+asks_clock (Telnet request) = false
+asks_clock (Http call) = work.asks_clock call
 
 -- the point that it asks to be put
 abbrev pub point_asked : Request → Option DataPoint

@@ -1,5 +1,5 @@
 -- What a request is answered, by the entries that its caller makes for it.
-use Rattle.std.specs.Prelude.{◌≡◌, ℕ, ◌-◌, ◌^◌, ◌≤◌, min, Bool, true, false, List, [], ◌∷◌, ◌++◌, length, map, filter, Option, None, Some, Result}
+use Rattle.std.specs.Prelude.{◌≡◌, ℕ, ◌-◌, ◌^◌, ◌≤◌, min, ◌⊎◌, Bool, true, false, List, [], ◌∷◌, ◌++◌, length, map, filter, Option, None, Some, option_to_list, Result, if◌then◌else◌}
 use Rattle.std.specs.List.{flat_map}
 use Rattle.tsd_base.specs.Points.{DataPoint}
 use Rattle.cell_model.specs.declared.answers.Stored.{Stored}
@@ -13,13 +13,16 @@ use Rattle.telnet_put.specs.Requests.{Request}
 use Rattle.telnet_put.specs.Requests.Request.{Put}
 use Rattle.http_api.specs.HttpAnswers.{CallAnswered, CallBegun}
 use Rattle.tsd_daemon.specs.declared.counts.Counts.{Counts}
-use Rattle.tsd_daemon.specs.ConnRequests.{ConnRequest, point_asked}
+use Rattle.http_exchange.specs.declared.http_call.Call.{Call}
+use Rattle.tsd_daemon.specs.ConnRequests.{ConnRequest, asks_clock, point_asked}
 use Rattle.tsd_daemon.specs.ConnRequests.ConnRequest.{Telnet, Http}
 use Rattle.tsd_daemon.specs.ConnReplies.{IsTold, fixed_reply}
 
--- a request, the bytes of its reply, and the rows of the points that were accepted for it, in their order
+-- a request, the moment that the clock gave for it, where it asks the clock, the bytes of its reply, and the rows of the points that were accepted for it, in
+-- their order
 pub record Exchange : Type 0 where
   pub request : ConnRequest
+  pub moment : Option ℕ
   pub reply : List ℕ
   pub stored : List Stored
 
@@ -28,6 +31,9 @@ requests_in done = map (λ (x : Exchange). x.request) done
 
 abbrev pub replies_in : List Exchange → List ℕ
 replies_in done = flat_map (λ (x : Exchange). x.reply) done
+
+abbrev pub moments_in : List Exchange → List ℕ
+moments_in done = flat_map (λ (x : Exchange). option_to_list x.moment) done
 
 abbrev pub rows_in : List Exchange → List Stored
 rows_in done = flat_map (λ (x : Exchange). x.stored) done
@@ -66,22 +72,28 @@ abbrev pub AnsweredBy : Config → History → List Placed → Counts → Reques
 AnsweredBy c h own counts request (Some point) reply stored = (outcome : Result Stored PutFault) × PointAsked c point h own outcome × IsTold outcome reply stored
 AnsweredBy c h own counts request None reply stored = (own ≡ []) × (reply ≡ fixed_reply counts request) × (stored ≡ [])
 
--- a request was answered between two lengths of the history with this reply, and these rows are to be queued, where the counts are those of the requests before it
-abbrev pub AnsweredBetween : Config → History → ℕ → ℕ → ℕ → Counts → ConnRequest → List ℕ → List Stored → Type 0
-AnsweredBetween c h caller n n2 counts (Telnet request) reply stored = AnsweredBy c (first n2 h) (deeds h caller n n2) counts request (point_asked request) reply stored
-AnsweredBetween c h caller n n2 counts (Http call) reply stored = CallAnswered c h caller n n2 call reply stored
+-- the moment that the clock gave for a call, where it asks the clock and it was this moment
+abbrev pub moment_for : Call → ℕ → Option ℕ
+moment_for call now = if asks_clock (Http call) then Some now else None
+
+-- A request was answered between two lengths of the history with this reply, and these rows are to be queued, where the counts are those of the requests before
+-- it and the clock gave this moment for it. A telnet session's request never asks the clock.
+abbrev pub AnsweredBetween : Config → History → ℕ → ℕ → ℕ → Counts → Option ℕ → ConnRequest → List ℕ → List Stored → Type 0
+AnsweredBetween c h caller n n2 counts moment (Telnet request) reply stored = (moment ≡ None) × AnsweredBy c (first n2 h) (deeds h caller n n2) counts request (point_asked request) reply stored
+AnsweredBetween c h caller n n2 counts moment (Http call) reply stored = (now : ℕ) × (moment ≡ moment_for call now) × CallAnswered c h caller n n2 now call reply stored
 
 -- a request of a telnet session was begun: a point was asked, whatever came of it
 abbrev pub BegunBy : Config → History → List Placed → Option DataPoint → Type 0
 BegunBy c h own (Some point) = (outcome : Result Stored PutFault) × PointAsked c point h own outcome
 BegunBy c h own None = own ≡ []
 
--- a request was begun between two lengths of the history
-abbrev pub BegunBetween : Config → History → ℕ → ℕ → ℕ → ConnRequest → Type 0
-BegunBetween c h caller n n2 (Telnet request) = BegunBy c (first n2 h) (deeds h caller n n2) (point_asked request)
-BegunBetween c h caller n n2 (Http call) = CallBegun c h caller n n2 call
+-- A request was begun between two lengths of the history, and the clock gave this moment for it. A call may have been left before the clock was asked.
+abbrev pub BegunBetween : Config → History → ℕ → ℕ → ℕ → Option ℕ → ConnRequest → Type 0
+BegunBetween c h caller n n2 moment (Telnet request) = (moment ≡ None) × BegunBy c (first n2 h) (deeds h caller n n2) (point_asked request)
+BegunBetween c h caller n n2 moment (Http call) =
+    ((moment ≡ None) × (deeds h caller n n2 ≡ [])) ⊎ ((now : ℕ) × (moment ≡ moment_for call now) × CallBegun c h caller n n2 now call)
 
 -- requests were answered one after the other, from one length on to another
 pub data Ran (c : Config) (h : History) (caller n : ℕ) : List Exchange → ℕ → Type 0 where
   start : Ran c h caller n [] n
-  then_asked : {done : List Exchange} {e e2 : ℕ} (x : Exchange) → Ran c h caller n done e → e ≤ e2 → AnsweredBetween c h caller e e2 (counts_of done) x.request x.reply x.stored → Ran c h caller n (done ++ x ∷ []) e2
+  then_asked : {done : List Exchange} {e e2 : ℕ} (x : Exchange) → Ran c h caller n done e → e ≤ e2 → AnsweredBetween c h caller e e2 (counts_of done) x.moment x.request x.reply x.stored → Ran c h caller n (done ++ x ∷ []) e2

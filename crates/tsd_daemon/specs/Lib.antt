@@ -1,5 +1,6 @@
 pub mod ConnRequests
 pub mod ConnReplies
+pub mod ConnClocks
 pub mod Exchanges
 pub mod ServedConns
 pub mod ConnPieces

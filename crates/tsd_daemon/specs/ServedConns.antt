@@ -1,5 +1,5 @@
 -- What a connection was served, over a history.
-use Rattle.std.specs.Prelude.{◌≡◌, ℕ, ◌^◌, ◌<◌, ◌≤◌, false, List, [], ◌∷◌, ◌++◌, length, Option, Some}
+use Rattle.std.specs.Prelude.{◌≡◌, ℕ, ◌^◌, ◌<◌, ◌≤◌, false, true, List, [], ◌∷◌, ◌++◌, length, Option, None, Some, option_to_list}
 use Rattle.std.specs.List.{list_any}
 use Rattle.std.specs.Io.KnownBytes.{Appends, Consumes}
 use Rattle.tsd_io.specs.Causes.{Rose}
@@ -13,82 +13,98 @@ use Rattle.point_put.specs.declared.config.Config.{Config}
 use Rattle.queued_put.specs.PutRows.{MayHaveRows}
 use Rattle.tsd_daemon.specs.declared.served.Served.{Served}
 use Rattle.tsd_daemon.specs.declared.served.Served.TheVariants as answer
-use Rattle.tsd_daemon.specs.ConnRequests.{ConnRequest, closes_conn, conn_requests, end_of}
-use Rattle.tsd_daemon.specs.Exchanges.{Exchange, requests_in, replies_in, rows_in, BegunBetween, Ran}
+use Rattle.tsd_daemon.specs.ConnClocks.{Gave}
+use Rattle.tsd_daemon.specs.ConnRequests.{ConnRequest, asks_clock, closes_conn, conn_requests, end_of}
+use Rattle.tsd_daemon.specs.Exchanges.{Exchange, moments_in, requests_in, replies_in, rows_in, BegunBetween, Ran}
 
 -- ---- the table of answers
 
--- each request of the input was answered, all replies were given, and the caller made no later entry
-pub record AllAnswered (done : List Exchange) (input output : List ℕ) (later : List Placed) : Type 0 where
+-- each request of the input was answered, all replies were given, the clock gave the requests' moments alone, and the caller made no later entry
+pub record AllAnswered (done : List Exchange) (input output times : List ℕ) (later : List Placed) : Type 0 where
   pub requests : conn_requests input ≡ requests_in done
   pub replies : output ≡ replies_in done
+  pub moments : times ≡ moments_in done
   pub no_later : later ≡ []
 
 -- the same, and no request closes
-pub record Rests (done : List Exchange) (input output : List ℕ) (later : List Placed) : Type 0 where
-  pub all : AllAnswered done input output later
+pub record Rests (done : List Exchange) (input output times : List ℕ) (later : List Placed) : Type 0 where
+  pub all : AllAnswered done input output times later
   pub open_still : list_any closes_conn (requests_in done) ≡ false
 
 -- the same, and the last request ends the connection with this answer
-pub record Closes (result : Served) (done : List Exchange) (input output : List ℕ) (later : List Placed) : Type 0 where
-  pub all : AllAnswered done input output later
+pub record Closes (result : Served) (done : List Exchange) (input output times : List ℕ) (later : List Placed) : Type 0 where
+  pub all : AllAnswered done input output times later
   pub before : List ConnRequest
   pub last : ConnRequest
   pub ends : requests_in done ≡ before ++ last ∷ []
   pub with_it : end_of last ≡ Some result
 
--- the first of these requests was begun between two lengths of the history, and the caller made no other entry
-abbrev pub FirstBegun : Config → History → ℕ → ℕ → ℕ → List ConnRequest → Type 0
-FirstBegun c h caller n n2 [] = deeds h caller n n2 ≡ []
-FirstBegun c h caller n n2 (request ∷ rest) = BegunBetween c h caller n n2 request
+-- the first of these requests was begun between two lengths of the history with this moment of the clock, and the caller made no other entry
+abbrev pub FirstBegun : Config → History → ℕ → ℕ → ℕ → Option ℕ → List ConnRequest → Type 0
+FirstBegun c h caller n n2 moment [] = (moment ≡ None) × (deeds h caller n n2 ≡ [])
+FirstBegun c h caller n n2 moment (request ∷ rest) = BegunBetween c h caller n n2 moment request
 
 -- the first requests of the input were answered, their replies were given, and the next was begun
-pub record BreaksOff (c : Config) (h : History) (caller n n2 : ℕ) (done : List Exchange) (input output : List ℕ) : Type 0 where
+pub record BreaksOff (c : Config) (h : History) (caller n n2 : ℕ) (done : List Exchange) (input output times : List ℕ) : Type 0 where
   pub rest : List ConnRequest
   pub requests : conn_requests input ≡ requests_in done ++ rest
   pub replies : output ≡ replies_in done
-  pub begun : FirstBegun c h caller n n2 rest
+  pub moment : Option ℕ
+  pub moments : times ≡ moments_in done ++ option_to_list moment
+  pub begun : FirstBegun c h caller n n2 moment rest
+
+-- the first requests of the input were answered, their replies were given, and the next asks the clock, which gave no moment for it
+pub record LacksMoment (done : List Exchange) (input output times : List ℕ) (later : List Placed) : Type 0 where
+  pub request : ConnRequest
+  pub rest : List ConnRequest
+  pub requests : conn_requests input ≡ requests_in done ++ request ∷ rest
+  pub asks : asks_clock request ≡ true
+  pub replies : output ≡ replies_in done
+  pub moments : times ≡ moments_in done
+  pub no_later : later ≡ []
 
 -- the first requests were answered, a front of their replies was given, and the caller made no later entry
-pub record GivesFront (done : List Exchange) (input output : List ℕ) (later : List Placed) : Type 0 where
+pub record GivesFront (done : List Exchange) (input output times : List ℕ) (later : List Placed) : Type 0 where
   pub rest : List ConnRequest
   pub requests : conn_requests input ≡ requests_in done ++ rest
   pub unsent : List ℕ
   pub replies : output ++ unsent ≡ replies_in done
+  pub moments : times ≡ moments_in done
   pub no_later : later ≡ []
 
 -- where the last of these exchanges ended at one length of the history and the connection at another
-abbrev pub Table : Served → Config → History → ℕ → ℕ → ℕ → List Exchange → List ℕ → List ℕ → Type 0
-Table answer.End c h caller n n2 done input output = Rests done input output (deeds h caller n n2)
-Table answer.ReadFault c h caller n n2 done input output = Rests done input output (deeds h caller n n2)
-Table answer.SessionFull c h caller n n2 done input output = Rests done input output (deeds h caller n n2)
-Table answer.Exit c h caller n n2 done input output = Closes answer.Exit done input output (deeds h caller n n2)
-Table answer.Die c h caller n n2 done input output = Closes answer.Die done input output (deeds h caller n n2)
-Table answer.Closed c h caller n n2 done input output = Closes answer.Closed done input output (deeds h caller n n2)
-Table answer.ClockFault c h caller n n2 done input output = BreaksOff c h caller n n2 done input output
-Table answer.Stopped c h caller n n2 done input output = BreaksOff c h caller n n2 done input output
-Table answer.OutOfMemory c h caller n n2 done input output = BreaksOff c h caller n n2 done input output
-Table answer.WriteFault c h caller n n2 done input output = GivesFront done input output (deeds h caller n n2)
+abbrev pub Table : Served → Config → History → ℕ → ℕ → ℕ → List Exchange → List ℕ → List ℕ → List ℕ → Type 0
+Table answer.End c h caller n n2 done input output times = Rests done input output times (deeds h caller n n2)
+Table answer.ReadFault c h caller n n2 done input output times = Rests done input output times (deeds h caller n n2)
+Table answer.SessionFull c h caller n n2 done input output times = Rests done input output times (deeds h caller n n2)
+Table answer.Exit c h caller n n2 done input output times = Closes answer.Exit done input output times (deeds h caller n n2)
+Table answer.Die c h caller n n2 done input output times = Closes answer.Die done input output times (deeds h caller n n2)
+Table answer.Closed c h caller n n2 done input output times = Closes answer.Closed done input output times (deeds h caller n n2)
+Table answer.ClockFault c h caller n n2 done input output times = LacksMoment done input output times (deeds h caller n n2)
+Table answer.Stopped c h caller n n2 done input output times = BreaksOff c h caller n n2 done input output times
+Table answer.OutOfMemory c h caller n n2 done input output times = BreaksOff c h caller n n2 done input output times
+Table answer.WriteFault c h caller n n2 done input output times = GivesFront done input output times (deeds h caller n n2)
 
 -- ---- over a history
 
--- One caller of the history served a connection between the lengths n and n2: these bytes were taken and these given, and the answer was this.
-pub record IsServed (c : Config) (h : History) (caller n n2 : ℕ) (input output : List ℕ) (result : Served) : Type 0 where
+-- One caller of the history served a connection between the lengths n and n2: these bytes were taken and these given, the clock gave these moments, and the
+-- answer was this.
+pub record IsServed (c : Config) (h : History) (caller n n2 : ℕ) (input output times : List ℕ) (result : Served) : Type 0 where
   pub done : List Exchange
   pub last : ℕ
   pub in_range : last ≤ n2
   pub ran : Ran c h caller n done last
-  pub table : Table result c h caller last n2 done input output
+  pub table : Table result c h caller last n2 done input output times
 
 -- the same in each lawful history that fits what the caller has seen after it
-pub record Serves (c : Config) (old : Seen) (input output : List ℕ) (result : Served) (new : Seen) : Type 0 where
+pub record Serves (c : Config) (old : Seen) (input output times : List ℕ) (result : Served) (new : Seen) : Type 0 where
   pub since : Since old new
-  pub served : InEach new (λ h. IsServed c h old.caller old.length new.length input output result)
+  pub served : InEach new (λ h. IsServed c h old.caller old.length new.length input output times result)
 
 -- so it stays in each lawful history that fits what is seen later, by another caller too
 abbrev pub ServesStands : Type 0
-ServesStands = (c : Config) (old new later : Seen) (input output : List ℕ) (result : Served) → Serves c old input output result new → Extends new later
-    → InEach later (λ h. IsServed c h old.caller old.length new.length input output result)
+ServesStands = (c : Config) (old new later : Seen) (input output times : List ℕ) (result : Served) → Serves c old input output times result new → Extends new later
+    → InEach later (λ h. IsServed c h old.caller old.length new.length input output times result)
 
 -- 2^40 bytes fill a session, and fewer do none
 abbrev pub Fills : Served → ℕ → Type 0
@@ -106,42 +122,45 @@ QueueTable answer.OutOfMemory before rows later after = MayHaveRows before rows 
 QueueTable result before rows later after = HasRows before rows after
 
 -- the connection was served so, and the queue has the rows of the points that were accepted for the requests that were answered
-pub record IsQueued (c : Config) (h : History) (caller n n2 : ℕ) (input output : List ℕ) (result : Served) (before after : List Stored) : Type 0 where
-  pub served : IsServed c h caller n n2 input output result
+pub record IsQueued (c : Config) (h : History) (caller n n2 : ℕ) (input output times : List ℕ) (result : Served) (before after : List Stored) : Type 0 where
+  pub served : IsServed c h caller n n2 input output times result
   pub queued : QueueTable result before (rows_in served.done) (deeds h caller served.last n2) after
 
-abbrev pub Queues : Config → Seen → List Stored → List ℕ → List ℕ → Served → Seen → List Stored → Type 0
-Queues c old before input output result new after = InEach new (λ h. IsQueued c h old.caller old.length new.length input output result before after)
+abbrev pub Queues : Config → Seen → List Stored → List ℕ → List ℕ → List ℕ → Served → Seen → List Stored → Type 0
+Queues c old before input output times result new after = InEach new (λ h. IsQueued c h old.caller old.length new.length input output times result before after)
 
--- ---- the bytes of a call
+-- ---- the bytes and the moments of a call
 
--- these bytes were taken and these given, and so it is of them
-pub record Passes (taken taken' left left' held held' : Option (List ℕ)) (P : List ℕ → List ℕ → Type 0) : Type 0 where
+-- these bytes were taken and these given, the clock gave these moments, and so it is of them
+pub record Passes (taken taken' left left' held held' moments moments' : Option (List ℕ)) (P : List ℕ → List ℕ → List ℕ → Type 0) : Type 0 where
   pub input : List ℕ
   pub output : List ℕ
+  pub times : List ℕ
   pub takes : Appends taken taken' input
   pub leaves : Consumes left left' input
   pub gives : Appends held held' output
-  pub so : P input output
+  pub ticks : Gave moments times moments'
+  pub so : P input output times
 
-abbrev pub ServesBytes : Config → Seen → Served → Seen → List ℕ → List ℕ → Type 0
-ServesBytes c old result new input output = Serves c old input output result new × Fills result (length input)
+abbrev pub ServesBytes : Config → Seen → Served → Seen → List ℕ → List ℕ → List ℕ → Type 0
+ServesBytes c old result new input output times = Serves c old input output times result new × Fills result (length input)
 
-abbrev pub QueuesBytes : Config → Seen → List Stored → Served → Seen → List Stored → List ℕ → List ℕ → Type 0
-QueuesBytes c old before result new after input output = Queues c old before input output result new after
+abbrev pub QueuesBytes : Config → Seen → List Stored → Served → Seen → List Stored → List ℕ → List ℕ → List ℕ → Type 0
+QueuesBytes c old before result new after input output times = Queues c old before input output times result new after
 
 -- ---- causes
 
--- the source failed only where its count of faults rose, and so with the sink and with stops; the clock isn't asked
-abbrev pub HasConnCause : ℕ → ℕ → ℕ → ℕ → ℕ → ℕ → Served → Type 0
-HasConnCause reads reads' writes writes' stops stops' answer.ReadFault = Rose reads reads'
-HasConnCause reads reads' writes writes' stops stops' answer.WriteFault = Rose writes writes'
-HasConnCause reads reads' writes writes' stops stops' answer.Stopped = Rose stops stops'
-HasConnCause reads reads' writes writes' stops stops' answer.ClockFault = ⊥
-HasConnCause reads reads' writes writes' stops stops' other = Unit {0}
+-- the source failed only where its count of faults rose, and so with the sink, with stops and with the clock
+abbrev pub HasConnCause : ℕ → ℕ → ℕ → ℕ → ℕ → ℕ → ℕ → ℕ → Served → Type 0
+HasConnCause reads reads' writes writes' stops stops' ticks ticks' answer.ReadFault = Rose reads reads'
+HasConnCause reads reads' writes writes' stops stops' ticks ticks' answer.WriteFault = Rose writes writes'
+HasConnCause reads reads' writes writes' stops stops' ticks ticks' answer.Stopped = Rose stops stops'
+HasConnCause reads reads' writes writes' stops stops' ticks ticks' answer.ClockFault = Rose ticks ticks'
+HasConnCause reads reads' writes writes' stops stops' ticks ticks' other = Unit {0}
 
-pub record ConnCauses (reads reads' writes writes' stops stops' : ℕ) (result : Served) : Type 0 where
+pub record ConnCauses (reads reads' writes writes' stops stops' ticks ticks' : ℕ) (result : Served) : Type 0 where
   pub source : reads ≤ reads'
   pub sink : writes ≤ writes'
   pub rows : stops ≤ stops'
-  pub cause : HasConnCause reads reads' writes writes' stops stops' result
+  pub clock : ticks ≤ ticks'
+  pub cause : HasConnCause reads reads' writes writes' stops stops' ticks ticks' result

@@ -1,5 +1,5 @@
 -- What was talked on a connection so far, and how that goes on.
-use Rattle.std.specs.Prelude.{◌≡◌, ◌⊎◌, ℕ, ◌^◌, ◌≤◌, Bool, true, false, List, [], ◌∷◌, ◌++◌, length, map, Option, None, Some, Result, Err}
+use Rattle.std.specs.Prelude.{◌≡◌, ◌⊎◌, ℕ, ◌^◌, ◌≤◌, Bool, true, false, List, [], ◌∷◌, ◌++◌, length, map, Option, None, Some, option_to_list, Result, Err}
 use Rattle.std.specs.List.{list_any}
 use Rattle.std.specs.Io.KnownBytes.{Appends, Consumes}
 use Rattle.tsd_io.specs.Causes.{Rose}
@@ -20,9 +20,10 @@ use Rattle.tsd_daemon.specs.declared.counts.Counted.{Counted}
 use Rattle.tsd_daemon.specs.declared.counts.Counted.TheVariants as counted
 use Rattle.tsd_daemon.specs.ConnRequests.{ConnRequest, closes_conn, conn_requests}
 use Rattle.tsd_daemon.specs.ConnRequests.ConnRequest.{Telnet, Http}
+use Rattle.tsd_daemon.specs.ConnClocks.{Gave}
 use Rattle.tsd_daemon.specs.ConnReplies.{no_counts}
 use Rattle.tsd_daemon.specs.ConnPieces.{PieceTaken, TakesNext}
-use Rattle.tsd_daemon.specs.Exchanges.{Exchange, AnsweredBetween, BegunBetween, Ran, counts_of, is_put, replies_in, requests_in, rows_in}
+use Rattle.tsd_daemon.specs.Exchanges.{Exchange, AnsweredBetween, BegunBetween, Ran, counts_of, is_put, moments_in, replies_in, requests_in, rows_in}
 use Rattle.tsd_daemon.specs.ServedConns.{Fills, IsQueued}
 
 -- ---- one request
@@ -39,18 +40,18 @@ counted_if false stored = counted.Other
 abbrev pub counted_as : ConnRequest → List Stored → Counted
 counted_as request stored = counted_if (is_put request) stored
 
--- the request was answered with this reply in each lawful history that fits, and the queue got the rows that were stored
-pub record Replied (c : Config) (counts : Counts) (request : ConnRequest) (old : Seen) (before : List Stored) (reply : List ℕ) (how : Counted) (new : Seen) (after : List Stored) : Type 0 where
+-- the request was answered with this reply at this moment in each lawful history that fits, and the queue got the rows that were stored
+pub record Replied (c : Config) (counts : Counts) (moment : Option ℕ) (request : ConnRequest) (old : Seen) (before : List Stored) (reply : List ℕ) (how : Counted) (new : Seen) (after : List Stored) : Type 0 where
   pub stored : List Stored
   pub since : Since old new
-  pub answered : InEach new (λ h. AnsweredBetween c h old.caller old.length new.length counts request reply stored)
+  pub answered : InEach new (λ h. AnsweredBetween c h old.caller old.length new.length counts moment request reply stored)
   pub rows : HasRows before stored after
   pub how_is : how ≡ counted_as request stored
 
--- the request was begun, and the queue may have got rows
-pub record WasBegun (c : Config) (request : ConnRequest) (old : Seen) (before : List Stored) (new : Seen) (after : List Stored) : Type 0 where
+-- the request was begun at this moment, and the queue may have got rows
+pub record WasBegun (c : Config) (moment : Option ℕ) (request : ConnRequest) (old : Seen) (before : List Stored) (new : Seen) (after : List Stored) : Type 0 where
   pub since : Since old new
-  pub begun : InEach new (λ h. BegunBetween c h old.caller old.length new.length request)
+  pub begun : InEach new (λ h. BegunBetween c h old.caller old.length new.length moment request)
   pub rows : InEach new (λ h. MayHaveRows before [] (deeds h old.caller old.length new.length) after)
 
 -- ---- bytes that are given
@@ -81,13 +82,15 @@ pub record Start : Type 0 where
   pub seen : Seen
   pub taken : Option (List ℕ)
   pub left : Option (List ℕ)
+  pub moments : Option (List ℕ)
   pub held : Option (List ℕ)
   pub queue : List Stored
 
--- what its source tells later, and how many bytes were taken
+-- what its source and its clock tell later, and how many bytes were taken
 pub record Taken : Type 0 where
   pub taken : Option (List ℕ)
   pub left : Option (List ℕ)
+  pub moments : Option (List ℕ)
   pub size : ℕ
 
 -- what else changed since
@@ -105,13 +108,14 @@ telnet_to_come unread more = map Telnet (to_come unread more)
 abbrev pub http_to_come : http.Unread → List ℕ → List ConnRequest
 http_to_come unread more = map Http (calls.to_come unread more)
 
--- these exchanges were done, their replies were given or wait, and these requests are to come of more bytes
+-- these exchanges were done, the clock gave their moments, their replies were given or wait, and these requests are to come of more bytes
 pub record Told (c : Config) (from : Start) (t : Taken) (done : List Exchange) (now : Stand) (come : List ℕ → List ConnRequest) : Type 0 where
   pub input : List ℕ
   pub output : List ℕ
   pub takes : Appends from.taken t.taken input
   pub leaves : Consumes from.left t.left input
   pub gives : Appends from.held now.held output
+  pub ticks : Gave from.moments (moments_in done) t.moments
   pub size : length input ≡ t.size
   pub since : Since from.seen now.seen
   pub ran : InEach now.seen (λ h. Ran c h from.seen.caller from.seen.length done now.seen.length)
@@ -127,23 +131,30 @@ pub record Talks (c : Config) (from : Start) (t : Taken) (now : Stand) (come : L
   pub open_still : list_any closes_conn (requests_in done) ≡ false
 
 -- the connection was served to this end
-pub record Ends (c : Config) (from : Start) (taken left : Option (List ℕ)) (result : Served) (seen : Seen) (held : Option (List ℕ)) (queue : List Stored) : Type 0 where
+pub record Ends (c : Config) (from : Start) (taken left moments : Option (List ℕ)) (result : Served) (seen : Seen) (held : Option (List ℕ)) (queue : List Stored) : Type 0 where
   pub input : List ℕ
   pub output : List ℕ
+  pub times : List ℕ
   pub takes : Appends from.taken taken input
   pub leaves : Consumes from.left left input
   pub gives : Appends from.held held output
+  pub ticks : Gave from.moments times moments
   pub since : Since from.seen seen
-  pub served : InEach seen (λ h. IsQueued c h from.seen.caller from.seen.length seen.length input output result from.queue queue)
+  pub served : InEach seen (λ h. IsQueued c h from.seen.caller from.seen.length seen.length input output times result from.queue queue)
   pub fills : Fills result (length input)
 
 abbrev pub GoesOn : Config → Start → Taken → Stand → (List ℕ → List ConnRequest) → Option Served → Type 0
 GoesOn c from t new come None = Talks c from t new come
-GoesOn c from t new come (Some result) = Ends c from t.taken t.left result new.seen new.held new.queue
+GoesOn c from t new come (Some result) = Ends c from t.taken t.left t.moments result new.seen new.held new.queue
 
 -- however the connection came here, it goes on or ended so
 abbrev pub Moves : Config → Stand → (List ℕ → List ConnRequest) → Stand → (List ℕ → List ConnRequest) → Option Served → Type 0
 Moves c old come new come' result = (from : Start) (t : Taken) → t.size ≤ 2 ^ 40 → Talks c from t old come → GoesOn c from t new come' result
+
+-- the same where the clock may give moments, too
+abbrev pub ClockMoves : Config → Option (List ℕ) → Stand → (List ℕ → List ConnRequest) → Option (List ℕ) → Stand → (List ℕ → List ConnRequest) → Option Served → Type 0
+ClockMoves c moments old come moments' new come' result =
+    (from : Start) (t : Taken) → t.size ≤ 2 ^ 40 → Talks c from (record t { moments = moments }) old come → GoesOn c from (record t { moments = moments' }) new come' result
 
 -- the same where more was taken, too
 abbrev pub MovesOn : Config → Taken → Stand → (List ℕ → List ConnRequest) → Taken → Stand → (List ℕ → List ConnRequest) → Type 0
@@ -155,10 +166,10 @@ PieceMoves taken taken' left left' held held' waiting old (Err answer.WriteFault
 PieceMoves taken taken' left left' held held' waiting old result new = Gives held held' waiting [] × TakesNext taken taken' left left' old result new
 
 -- a connection whose first piece was taken was served to an end, however it came there, where this is what bytes ask
-abbrev pub SessionServed : (List ℕ → List ConnRequest) → Config → Seen → Option (List ℕ) → List Stored → PieceTaken → Option (List ℕ) → Option (List ℕ) → Served → Seen → Option (List ℕ) → List Stored → Option (List ℕ) → Option (List ℕ) → Type 0
-SessionServed asks c seen held queue input taken left result seen' held' queue' taken' left' =
-    (from : Start) → Talks c from (record { taken = taken; left = left; size = input.taken }) (record { seen = seen; held = held; queue = queue; waiting = []; counts = no_counts }) (λ more. asks (input.piece ++ more))
-    → Ends c from taken' left' result seen' held' queue'
+abbrev pub SessionServed : (List ℕ → List ConnRequest) → Config → Seen → Option (List ℕ) → List Stored → PieceTaken → Option (List ℕ) → Option (List ℕ) → Option (List ℕ) → Served → Seen → Option (List ℕ) → List Stored → Option (List ℕ) → Option (List ℕ) → Option (List ℕ) → Type 0
+SessionServed asks c seen held queue input taken left moments result seen' held' queue' taken' left' moments' =
+    (from : Start) → Talks c from (record { taken = taken; left = left; moments = moments; size = input.taken }) (record { seen = seen; held = held; queue = queue; waiting = []; counts = no_counts }) (λ more. asks (input.piece ++ more))
+    → Ends c from taken' left' moments' result seen' held' queue'
 
 -- this request is the next, whatever more bytes come; behind one that closes none is
 pub record IsNext (request : ConnRequest) (come come' : List ℕ → List ConnRequest) : Type 0 where
@@ -188,3 +199,14 @@ pub record Causes (faults faults' stops stops' : ℕ) (result : Option Served) :
   pub later : faults ≤ faults'
   pub grows : stops ≤ stops'
   pub cause : HasEndCause faults faults' stops stops' result
+
+-- the same where the clock may be asked, which failed only where its count of faults rose
+abbrev pub HasClockCause : ℕ → ℕ → ℕ → ℕ → ℕ → ℕ → Option Served → Type 0
+HasClockCause faults faults' stops stops' ticks ticks' (Some answer.ClockFault) = Rose ticks ticks'
+HasClockCause faults faults' stops stops' ticks ticks' result = HasEndCause faults faults' stops stops' result
+
+pub record ClockCauses (faults faults' stops stops' ticks ticks' : ℕ) (result : Option Served) : Type 0 where
+  pub later : faults ≤ faults'
+  pub grows : stops ≤ stops'
+  pub asked : ticks ≤ ticks'
+  pub cause : HasClockCause faults faults' stops stops' ticks ticks' result

@@ -1,9 +1,12 @@
 //! Working one call of an HTTP connection.
-ghost use Rattle.std.specs.Prelude.{◌≡◌, ℕ, List, []};
+ghost use Rattle.std.specs.Prelude.{◌≡◌, ℕ, true, List, [], Option, option_to_list, IfOk, OnErr};
 ghost use Rattle.http_routes.specs.Routes.{route_table, valued};
-ghost use Rattle.tsd_daemon.specs.ConnRequests.{ConnRequest};
+ghost use Rattle.tsd_io.specs.Causes.{HasCause};
+ghost use Rattle.tsd_daemon.specs.ConnClocks.{Gave};
+ghost use Rattle.tsd_daemon.specs.ConnRequests.{ConnRequest, asks_clock};
 ghost use Rattle.tsd_daemon.specs.ConnRequests.ConnRequest.{Http};
-ghost use Rattle.tsd_daemon.specs.Talks.{Causes, IsNext, Moves};
+ghost use Rattle.tsd_daemon.specs.Exchanges.{moment_for};
+ghost use Rattle.tsd_daemon.specs.Talks.{Causes, ClockCauses, ClockMoves, IsNext};
 
 use crate::counts::Counted;
 use crate::served::Served;
@@ -11,80 +14,129 @@ use crate::session::{Session, tell_last};
 use cell_model::answers::RowsFault;
 use cell_model::rows::Rows;
 use compactor::queue::Queue;
-use http_api::answer;
+use http_api::{answer, asks_clock};
 use http_exchange::http_call::Call;
 use http_routes::routes::Route;
 use matchit::Router;
 use point_put::Config;
 use std::alloc::Global;
-use tsd_io::ports::Sink;
+use tsd_io::clock::Clock;
+use tsd_io::ports::{Failed, Sink};
 use uid_table::uids::Uids;
 
 /// Works one call, and lets go of it. The connection may end with it.
-pub fn exchange_call<R: Rows + Drop, K: Sink>(
+pub fn exchange_call<R: Rows + Drop, K: Sink, C: Clock>(
     alloc: Global,
     router: &Router<Route>,
     names: &mut Uids<R>,
     config: &Config,
     queue: &mut Queue,
     sink: &mut K,
+    clock: &mut C,
     session: &mut Session,
     call: Call,
 ) -> Option<Served>
     requires { valued router.now ≡ route_table }
     ensures moves { (come come' : List ℕ → List ConnRequest) → IsNext (Http call) come come'
-        → Moves config.now (record { seen = R.seen names.old; held = K.held sink.old; queue = queue.old; waiting = session.old.replies; counts = session.old.counts }) come
-        (record { seen = R.seen names.new; held = K.held sink.new; queue = queue.new; waiting = session.new.replies; counts = session.new.counts }) come' result }
-    ensures causes { Causes (K.faults sink.old) (K.faults sink.new) (R.stops names.old) (R.stops names.new) result }
+        → ClockMoves config.now (C.moments clock.old) (record { seen = R.seen names.old; held = K.held sink.old; queue = queue.old; waiting = session.old.replies; counts = session.old.counts }) come
+        (C.moments clock.new) (record { seen = R.seen names.new; held = K.held sink.new; queue = queue.new; waiting = session.new.replies; counts = session.new.counts }) come' result }
+    ensures causes { ClockCauses (K.faults sink.old) (K.faults sink.new) (R.stops names.old) (R.stops names.new) (C.faults clock.old) (C.faults clock.new) result }
     ensures number { K.number sink.new ≡ K.number sink.old }
 {
-    work_call(alloc, router, names, config, queue, sink, session, &call)
+    work_call(
+        alloc, router, names, config, queue, sink, clock, session, &call,
+    )
 }
 
 /// Works one call. Replies that wait are given before it, since it may make a step.
-fn work_call<R: Rows + Drop, K: Sink>(
+fn work_call<R: Rows + Drop, K: Sink, C: Clock>(
     alloc: Global,
     router: &Router<Route>,
     names: &mut Uids<R>,
     config: &Config,
     queue: &mut Queue,
     sink: &mut K,
+    clock: &mut C,
     session: &mut Session,
     call: &Call,
 ) -> Option<Served>
     requires { valued router.now ≡ route_table }
     ensures moves { (come come' : List ℕ → List ConnRequest) → IsNext (Http call.now) come come'
-        → Moves config.now (record { seen = R.seen names.old; held = K.held sink.old; queue = queue.old; waiting = session.old.replies; counts = session.old.counts }) come
-        (record { seen = R.seen names.new; held = K.held sink.new; queue = queue.new; waiting = session.new.replies; counts = session.new.counts }) come' result }
-    ensures causes { Causes (K.faults sink.old) (K.faults sink.new) (R.stops names.old) (R.stops names.new) result }
+        → ClockMoves config.now (C.moments clock.old) (record { seen = R.seen names.old; held = K.held sink.old; queue = queue.old; waiting = session.old.replies; counts = session.old.counts }) come
+        (C.moments clock.new) (record { seen = R.seen names.new; held = K.held sink.new; queue = queue.new; waiting = session.new.replies; counts = session.new.counts }) come' result }
+    ensures causes { ClockCauses (K.faults sink.old) (K.faults sink.new) (R.stops names.old) (R.stops names.new) (C.faults clock.old) (C.faults clock.new) result }
     ensures number { K.number sink.new ≡ K.number sink.old }
 {
     match session.replies.give(sink) {
-        Ok(()) => call_in_turn(alloc, router, names, config, queue, sink, session, call),
+        Ok(()) => call_in_turn(
+            alloc, router, names, config, queue, sink, clock, session, call,
+        ),
         Err(_) => Some(Served::WriteFault),
     }
 }
 
-/// Works one call, where no reply waits.
-fn call_in_turn<R: Rows + Drop, K: Sink>(
+/// Works one call, where no reply waits. The clock is asked before it is worked, where the call asks for the moment.
+fn call_in_turn<R: Rows + Drop, K: Sink, C: Clock>(
     alloc: Global,
     router: &Router<Route>,
     names: &mut Uids<R>,
     config: &Config,
     queue: &mut Queue,
     sink: &mut K,
+    clock: &mut C,
     session: &mut Session,
     call: &Call,
 ) -> Option<Served>
     requires router { valued router.now ≡ route_table }
     requires quiet { session.old.replies ≡ [] }
     ensures moves { (come come' : List ℕ → List ConnRequest) → IsNext (Http call.now) come come'
-        → Moves config.now (record { seen = R.seen names.old; held = K.held sink.old; queue = queue.old; waiting = session.old.replies; counts = session.old.counts }) come
-        (record { seen = R.seen names.new; held = K.held sink.new; queue = queue.new; waiting = session.new.replies; counts = session.new.counts }) come' result }
+        → ClockMoves config.now (C.moments clock.old) (record { seen = R.seen names.old; held = K.held sink.old; queue = queue.old; waiting = session.old.replies; counts = session.old.counts }) come
+        (C.moments clock.new) (record { seen = R.seen names.new; held = K.held sink.new; queue = queue.new; waiting = session.new.replies; counts = session.new.counts }) come' result }
+    ensures causes { ClockCauses (K.faults sink.old) (K.faults sink.new) (R.stops names.old) (R.stops names.new) (C.faults clock.old) (C.faults clock.new) result }
+    ensures number { K.number sink.new ≡ K.number sink.old }
+{
+    match moment_of(clock, call) {
+        Ok(now) => call_at(
+            alloc, router, names, config, queue, sink, session, call, now,
+        ),
+        Err(_) => Some(Served::ClockFault),
+    }
+}
+
+/// The moment at which a call is worked, in milliseconds since 1970: the clock's where the call asks it, else 0.
+fn moment_of<C: Clock>(clock: &mut C, call: &Call) -> Result<u64, Failed>
+    ensures ok { IfOk result (λ now. Gave (C.moments clock.old) (option_to_list (moment_for call.now now)) (C.moments clock.new)) }
+    ensures err { OnErr result ((asks_clock (Http call.now) ≡ true) × (C.moments clock.new ≡ C.moments clock.old)) }
+    ensures cause { HasCause (C.faults clock.old) (C.faults clock.new) result }
+{
+    if asks_clock(call) {
+        return clock.now();
+    }
+    Ok(0)
+}
+
+/// Works one call at this moment, where no reply waits.
+fn call_at<R: Rows + Drop, K: Sink>(
+    alloc: Global,
+    router: &Router<Route>,
+    names: &mut Uids<R>,
+    config: &Config,
+    queue: &mut Queue,
+    sink: &mut K,
+    session: &mut Session,
+    call: &Call,
+    now: u64,
+) -> Option<Served>
+    requires router { valued router.now ≡ route_table }
+    requires quiet { session.old.replies ≡ [] }
+    ensures moves { (come come' : List ℕ → List ConnRequest) → IsNext (Http call.now) come come'
+        → (moments moments' : Option (List ℕ)) → Gave moments (option_to_list (moment_for call.now now)) moments'
+        → ClockMoves config.now moments (record { seen = R.seen names.old; held = K.held sink.old; queue = queue.old; waiting = session.old.replies; counts = session.old.counts }) come
+        moments' (record { seen = R.seen names.new; held = K.held sink.new; queue = queue.new; waiting = session.new.replies; counts = session.new.counts }) come' result }
     ensures causes { Causes (K.faults sink.old) (K.faults sink.new) (R.stops names.old) (R.stops names.new) result }
     ensures number { K.number sink.new ≡ K.number sink.old }
 {
-    let reply = match answer(alloc, router, names, config, queue, call) {
+    let reply = match answer(alloc, router, names, config, queue, call, now) {
         Ok(reply) => reply,
         Err(RowsFault::OutOfMemory) => return Some(Served::OutOfMemory),
         Err(RowsFault::Stopped) => return Some(Served::Stopped),

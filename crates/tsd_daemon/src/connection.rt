@@ -24,7 +24,7 @@ use uid_table::uids::Uids;
 ///
 /// Replies may wait to be given together, at most 64 KiB of them, but not while a point is put, not while an HTTP request is worked, and not
 /// while bytes are taken.
-/// The clock isn't asked yet.
+/// The clock is asked once for each HTTP request to `/api/query` that isn't refused, before it is worked, and for no other request.
 pub fn serve_conn<R: Rows + Drop, S: Source, K: Sink, C: Clock>(
     alloc: Global,
     names: &mut Uids<R>,
@@ -34,18 +34,15 @@ pub fn serve_conn<R: Rows + Drop, S: Source, K: Sink, C: Clock>(
     clock: &mut C,
     queue: &mut Queue,
 ) -> Served
-    ensures served { Passes (S.taken source.old) (S.taken source.new) (S.left source.old) (S.left source.new) (K.held sink.old) (K.held sink.new)
+    ensures served { Passes (S.taken source.old) (S.taken source.new) (S.left source.old) (S.left source.new) (K.held sink.old) (K.held sink.new) (C.moments clock.old) (C.moments clock.new)
         (ServesBytes config.now (R.seen names.old) result (R.seen names.new)) }
-    ensures queue { Passes (S.taken source.old) (S.taken source.new) (S.left source.old) (S.left source.new) (K.held sink.old) (K.held sink.new)
+    ensures queue { Passes (S.taken source.old) (S.taken source.new) (S.left source.old) (S.left source.new) (K.held sink.old) (K.held sink.new) (C.moments clock.old) (C.moments clock.new)
         (QueuesBytes config.now (R.seen names.old) queue.old result (R.seen names.new) queue.new) }
     ensures end { result ≡ Served.End → IsAtEnd (S.left source.new) }
-    ensures causes { ConnCauses (S.faults source.old) (S.faults source.new) (K.faults sink.old) (K.faults sink.new) (R.stops names.old) (R.stops names.new) result }
+    ensures causes { ConnCauses (S.faults source.old) (S.faults source.new) (K.faults sink.old) (K.faults sink.new) (R.stops names.old) (R.stops names.new) (C.faults clock.old) (C.faults clock.new) result }
     ensures source { S.number source.new ≡ S.number source.old }
     ensures sink { K.number sink.new ≡ K.number sink.old }
-    ensures clock { clock.new ≡ clock.old }
 {
-    // No request that is built asks it.
-    let _ = clock;
     let Ok(mut input) = ConnInput::make(alloc) else {
         return Served::OutOfMemory;
     };
@@ -54,7 +51,7 @@ pub fn serve_conn<R: Rows + Drop, S: Source, K: Sink, C: Clock>(
         Err(end) => return end,
     }
     if begins_http(input.piece()) {
-        return serve_http(alloc, names, config, queue, source, sink, &mut input);
+        return serve_http(alloc, names, config, queue, source, sink, clock, &mut input);
     }
     serve_telnet(alloc, names, config, queue, source, sink, &mut input)
 }

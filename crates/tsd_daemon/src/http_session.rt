@@ -4,7 +4,7 @@ ghost use Rattle.std.specs.Io.KnownBytes.{IsAtEnd};
 ghost use Rattle.http_routes.specs.Routes.{route_table, valued};
 ghost use Rattle.tsd_daemon.specs.ConnRequests.{http_asks};
 ghost use Rattle.tsd_daemon.specs.ServedConns.{ConnCauses};
-ghost use Rattle.tsd_daemon.specs.Talks.{Causes, Moves, SessionServed, http_to_come};
+ghost use Rattle.tsd_daemon.specs.Talks.{ClockCauses, ClockMoves, SessionServed, http_to_come};
 
 use crate::call_exchange::exchange_call;
 use crate::conn_input::ConnInput;
@@ -18,24 +18,26 @@ use http_routes::routes::{Route, make_router};
 use matchit::Router;
 use point_put::Config;
 use std::alloc::Global;
+use tsd_io::clock::Clock;
 use tsd_io::ports::{Sink, Source};
 use uid_table::uids::Uids;
 
 /// Serves an HTTP connection whose first piece was taken, and isn't empty.
-pub fn serve_http<R: Rows + Drop, S: Source, K: Sink>(
+pub fn serve_http<R: Rows + Drop, S: Source, K: Sink, C: Clock>(
     alloc: Global,
     names: &mut Uids<R>,
     config: &Config,
     queue: &mut Queue,
     source: &mut S,
     sink: &mut K,
+    clock: &mut C,
     input: &mut ConnInput,
 ) -> Served
     requires { input.old.taken ≤ 2 ^ 40 }
-    ensures served { SessionServed http_asks config.now (R.seen names.old) (K.held sink.old) queue.old input.old (S.taken source.old) (S.left source.old)
-        result (R.seen names.new) (K.held sink.new) queue.new (S.taken source.new) (S.left source.new) }
+    ensures served { SessionServed http_asks config.now (R.seen names.old) (K.held sink.old) queue.old input.old (S.taken source.old) (S.left source.old) (C.moments clock.old)
+        result (R.seen names.new) (K.held sink.new) queue.new (S.taken source.new) (S.left source.new) (C.moments clock.new) }
     ensures end { result ≡ Served.End → IsAtEnd (S.left source.new) }
-    ensures causes { ConnCauses (S.faults source.old) (S.faults source.new) (K.faults sink.old) (K.faults sink.new) (R.stops names.old) (R.stops names.new) result }
+    ensures causes { ConnCauses (S.faults source.old) (S.faults source.new) (K.faults sink.old) (K.faults sink.new) (R.stops names.old) (R.stops names.new) (C.faults clock.old) (C.faults clock.new) result }
     ensures source { S.number source.new ≡ S.number source.old }
     ensures sink { K.number sink.new ≡ K.number sink.old }
 {
@@ -56,6 +58,7 @@ pub fn serve_http<R: Rows + Drop, S: Source, K: Sink>(
             config,
             queue,
             sink,
+            clock,
             &mut session,
             &mut calls,
         ) {
@@ -69,21 +72,22 @@ pub fn serve_http<R: Rows + Drop, S: Source, K: Sink>(
 }
 
 /// Answers the calls that have come whole.
-fn answer_calls<R: Rows + Drop, K: Sink>(
+fn answer_calls<R: Rows + Drop, K: Sink, C: Clock>(
     alloc: Global,
     router: &Router<Route>,
     names: &mut Uids<R>,
     config: &Config,
     queue: &mut Queue,
     sink: &mut K,
+    clock: &mut C,
     session: &mut Session,
     calls: &mut Exchange,
 ) -> Option<Served>
     requires { valued router.now ≡ route_table }
-    ensures moves { Moves config.now (record { seen = R.seen names.old; held = K.held sink.old; queue = queue.old; waiting = session.old.replies; counts = session.old.counts }) (http_to_come calls.old)
-        (record { seen = R.seen names.new; held = K.held sink.new; queue = queue.new; waiting = session.new.replies; counts = session.new.counts }) (http_to_come calls.new) result }
+    ensures moves { ClockMoves config.now (C.moments clock.old) (record { seen = R.seen names.old; held = K.held sink.old; queue = queue.old; waiting = session.old.replies; counts = session.old.counts }) (http_to_come calls.old)
+        (C.moments clock.new) (record { seen = R.seen names.new; held = K.held sink.new; queue = queue.new; waiting = session.new.replies; counts = session.new.counts }) (http_to_come calls.new) result }
     ensures none { result ≡ None → http_to_come calls.new [] ≡ [] }
-    ensures causes { Causes (K.faults sink.old) (K.faults sink.new) (R.stops names.old) (R.stops names.new) result }
+    ensures causes { ClockCauses (K.faults sink.old) (K.faults sink.new) (R.stops names.old) (R.stops names.new) (C.faults clock.old) (C.faults clock.new) result }
     ensures number { K.number sink.new ≡ K.number sink.old }
 {
     loop {
@@ -92,7 +96,7 @@ fn answer_calls<R: Rows + Drop, K: Sink>(
             Ok(None) => return None,
             Ok(Some(call)) => {
                 if let Some(end) = exchange_call(
-                    alloc, router, names, config, queue, sink, session, call,
+                    alloc, router, names, config, queue, sink, clock, session, call,
                 ) {
                     return Some(end);
                 }

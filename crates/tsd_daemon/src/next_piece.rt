@@ -19,7 +19,7 @@ pub fn next_piece<S: Source, K: Sink>(
     ensures moves { PieceMoves (S.taken source.old) (S.taken source.new) (S.left source.old) (S.left source.new) (K.held sink.old) (K.held sink.new) replies.old input.old result input.new }
     ensures none { OnOk result (replies.new ≡ []) }
     ensures end { result ≡ Err Served.End → IsAtEnd (S.left source.new) }
-    ensures causes { IfErr result (λ end. (stops : ℕ) → ConnCauses (S.faults source.old) (S.faults source.new) (K.faults sink.old) (K.faults sink.new) stops stops end) }
+    ensures causes { IfErr result (λ end. (stops ticks : ℕ) → ConnCauses (S.faults source.old) (S.faults source.new) (K.faults sink.old) (K.faults sink.new) stops stops ticks ticks end) }
     ensures later { (S.faults source.old ≤ S.faults source.new) × (K.faults sink.old ≤ K.faults sink.new) }
     ensures source { S.number source.new ≡ S.number source.old }
     ensures sink { K.number sink.new ≡ K.number sink.old }

@@ -1,5 +1,5 @@
 //! The answer to a put of a point.
-ghost use Rattle.std.specs.Prelude.{◌≡◌, [], Err, IfOk, OnErr};
+ghost use Rattle.std.specs.Prelude.{◌≡◌, [], None, Err, IfOk, OnErr};
 ghost use Rattle.tsd_base.specs.Points.{data_point};
 ghost use Rattle.cell_model.specs.Stops.{CountsStops, is_stop};
 ghost use Rattle.tsd_daemon.specs.declared.counts.Counts.{Counts};
@@ -34,8 +34,8 @@ pub fn answer_point<R: Rows + Drop>(
     queue: &mut Queue,
     point: &Point,
 ) -> Result<Answer, RowsFault>
-    ensures ok { IfOk result (λ answer. (counts : Counts) → Replied config.now counts (put_of (data_point point.now)) (R.seen names.old) queue.old answer.reply.items answer.counted (R.seen names.new) queue.new) }
-    ensures err { OnErr result (WasBegun config.now (put_of (data_point point.now)) (R.seen names.old) queue.old (R.seen names.new) queue.new) }
+    ensures ok { IfOk result (λ answer. (counts : Counts) → Replied config.now counts None (put_of (data_point point.now)) (R.seen names.old) queue.old answer.reply.items answer.counted (R.seen names.new) queue.new) }
+    ensures err { OnErr result (WasBegun config.now None (put_of (data_point point.now)) (R.seen names.old) queue.old (R.seen names.new) queue.new) }
     ensures stops { CountsStops is_stop result (R.stops names.old) (R.stops names.new) }
 {
     match put_queued(alloc, names, config, queue, point) {

@@ -16,7 +16,7 @@ pub enum Served {
     ReadFault,
     /// The sink failed.
     WriteFault,
-    /// The clock failed.
+    /// The clock failed, which was asked for the next request.
     ClockFault,
     /// The caller was stopped before a step of a request.
     Stopped,

@@ -1,5 +1,5 @@
 //! A telnet session, from its bytes to its replies.
-ghost use Rattle.std.specs.Prelude.{◌≡◌, ℕ, ◌^◌, ◌<◌, ◌≤◌, [], length, None};
+ghost use Rattle.std.specs.Prelude.{◌≡◌, ℕ, ◌^◌, ◌<◌, ◌≤◌, List, [], length, Option, None};
 ghost use Rattle.std.specs.Io.KnownBytes.{IsAtEnd};
 ghost use Rattle.tsd_daemon.specs.ConnRequests.{telnet_asks};
 ghost use Rattle.tsd_daemon.specs.ServedConns.{ConnCauses};
@@ -29,10 +29,10 @@ pub fn serve_telnet<R: Rows + Drop, S: Source, K: Sink>(
     input: &mut ConnInput,
 ) -> Served
     requires { input.old.taken ≤ 2 ^ 40 }
-    ensures served { SessionServed telnet_asks config.now (R.seen names.old) (K.held sink.old) queue.old input.old (S.taken source.old) (S.left source.old)
-        result (R.seen names.new) (K.held sink.new) queue.new (S.taken source.new) (S.left source.new) }
+    ensures served { (moments : Option (List ℕ)) → SessionServed telnet_asks config.now (R.seen names.old) (K.held sink.old) queue.old input.old (S.taken source.old) (S.left source.old) moments
+        result (R.seen names.new) (K.held sink.new) queue.new (S.taken source.new) (S.left source.new) moments }
     ensures end { result ≡ Served.End → IsAtEnd (S.left source.new) }
-    ensures causes { ConnCauses (S.faults source.old) (S.faults source.new) (K.faults sink.old) (K.faults sink.new) (R.stops names.old) (R.stops names.new) result }
+    ensures causes { (ticks : ℕ) → ConnCauses (S.faults source.old) (S.faults source.new) (K.faults sink.old) (K.faults sink.new) (R.stops names.old) (R.stops names.new) ticks ticks result }
     ensures source { S.number source.new ≡ S.number source.old }
     ensures sink { K.number sink.new ≡ K.number sink.old }
 {

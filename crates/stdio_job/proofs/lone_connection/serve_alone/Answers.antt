@@ -1,4 +1,4 @@
-use Rattle.std.proofs.Common.{[]}
+use Rattle.std.proofs.Common.{[], refl}
 use Rattle.std.proofs.KnownBytes.{Appends-nil, Consumes-nil}
 use Rattle.stdio_job.proofs.Alone.{none_served, nothing_fills, served_alone}
 use Rattle.stdio_job.proofs.lone_connection.serve_alone.Goals as goal
@@ -9,10 +9,12 @@ returns-in-Ok-clause-served g c =
     record {
       input = s.input;
       output = s.output;
+      times = s.times;
       takes = s.takes;
       leaves = s.leaves;
       gives = s.gives;
-      so = (served_alone c.args.config.now _ _ s.input s.output c.serve_conn-served.result c.in-Ok.ensures.fresh s.so.0, s.so.1);
+      ticks = s.ticks;
+      so = (served_alone c.args.config.now _ _ s.input s.output s.times c.serve_conn-served.result c.in-Ok.ensures.fresh s.so.0, s.so.1);
     }
 
 pub returns-in-Err-clause-served : goal.returns-in-Err-clause-served
@@ -21,8 +23,10 @@ returns-in-Err-clause-served g c =
     record {
       input = [];
       output = [];
+      times = [];
       takes = Appends-nil (s.taken c.args.source.now);
       leaves = Consumes-nil (s.left c.args.source.now);
       gives = Appends-nil (g.K.Sink.held c.args.sink.now);
+      ticks = refl;
       so = (none_served c.args.config.now, nothing_fills);
     }

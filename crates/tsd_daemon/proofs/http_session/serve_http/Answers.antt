@@ -6,7 +6,7 @@ use Rattle.tsd_daemon.specs.ConnRequests.ConnRequest.{Http}
 use Rattle.tsd_daemon.specs.Talks.{Taken, Talks, http_to_come}
 use Rattle.tsd_daemon.proofs.Calls.{fed_calls}
 use Rattle.tsd_daemon.proofs.Pieces.{conn_causes, later_causes, talk_no_piece, talk_piece}
-use Rattle.tsd_daemon.proofs.Serving.{not_end}
+use Rattle.tsd_daemon.proofs.Serving.{not_clock_end}
 use Rattle.tsd_daemon.proofs.Talking.{talk_come, talk_memory}
 use Rattle.tsd_daemon.proofs.http_session.serve_http.Goals as goal
 
@@ -25,22 +25,22 @@ returns-in-Some-clause-served g c = λ from k.
     let l = c.loop-session in
     let fed = talk_come c.args.config.now from _ (record { seen = g.R.Rows.seen l.names; held = g.K.Sink.held l.sink; queue = l.queue; waiting = l.session.replies; counts = l.session.counts })
     (λ more. http_to_come l.calls (l.input.piece ++ more)) (http_to_come c.feed.new.self) (l.invariant.talks from k) (fed_calls l.calls c.feed.new.self c.piece.result.now l.input.piece c.piece.ensures c.in-Ok-feed.ensures.ok) in
-    c.in-Some.ensures.moves from _ l.invariant.most fed
+    c.in-Some.ensures.moves from (record { taken = g.S.Source.taken l.source; left = g.S.Source.left l.source; moments = g.C.Clock.moments l.clock; size = l.input.taken }) l.invariant.most fed
 
 pub returns-in-Some-clause-end : goal.returns-in-Some-clause-end
-returns-in-Some-clause-end g c = λ same. not_end _ _ _ _ c.in-Some.end c.in-Some.ensures.causes.cause same
+returns-in-Some-clause-end g c = λ same. not_clock_end _ _ _ _ _ _ c.in-Some.end c.in-Some.ensures.causes.cause same
 
 pub returns-in-Some-clause-causes : goal.returns-in-Some-clause-causes
 returns-in-Some-clause-causes g c =
     let l = c.loop-session in
-    conn_causes _ _ _ _ _ _ _ _ c.in-Some.end l.invariant.reads l.invariant.writes l.invariant.stops c.in-Some.ensures.causes
+    conn_causes _ _ _ _ _ _ _ _ _ _ _ c.in-Some.end l.invariant.reads l.invariant.writes l.invariant.stops l.invariant.ticks c.in-Some.ensures.causes
 
 pub loop-session-init : goal.loop-session-init
 loop-session-init g c = record {
   talks = λ from k.
       let seen = g.R.Rows.seen c.args.names.now in
       let held = g.K.Sink.held c.args.sink.now in
-      let t : Taken = record { taken = g.S.Source.taken c.args.source.now; left = g.S.Source.left c.args.source.now; size = c.args.input.now.taken } in
+      let t : Taken = record { taken = g.S.Source.taken c.args.source.now; left = g.S.Source.left c.args.source.now; moments = g.C.Clock.moments c.args.clock.now; size = c.args.input.now.taken } in
       let come = talk_come c.args.config.now from t (record { seen = seen; held = held; queue = c.args.queue.now; waiting = []; counts = no_counts })
       (λ more. http_asks (c.args.input.now.piece ++ more)) (λ more. http_to_come c.make-calls.result (c.args.input.now.piece ++ more)) k (λ more. ap (map Http) (c.make-calls.ensures (c.args.input.now.piece ++ more))) in
       subst (λ (n : Counts). Talks c.args.config.now from t (record { seen = seen; held = held; queue = c.args.queue.now; waiting = c.make-session.result.replies; counts = n }) (λ more. http_to_come c.make-calls.result (c.args.input.now.piece ++ more))) (sym c.make-session.ensures.counts)
@@ -50,6 +50,7 @@ loop-session-init g c = record {
   reads = omega arith;
   writes = omega arith;
   stops = omega arith;
+  ticks = omega arith;
   source = refl;
   sink = refl;
 }
@@ -62,16 +63,17 @@ returns-in-Err-next_piece-clause-served g c = λ from k.
     let s = g.S.Source in
     let fed = talk_come c.args.config.now from _ (record { seen = seen l.names; held = held l.sink; queue = l.queue; waiting = l.session.replies; counts = l.session.counts })
     (λ more. http_to_come l.calls (l.input.piece ++ more)) (http_to_come c.feed.new.self) (l.invariant.talks from k) (fed_calls l.calls c.feed.new.self c.piece.result.now l.input.piece c.piece.ensures c.in-Ok-feed.ensures.ok) in
-    talk_no_piece c.args.config.now from (s.taken l.source) (s.left l.source) (s.taken c.next_piece.new.source) (s.left c.next_piece.new.source)
+    talk_no_piece c.args.config.now from (s.taken l.source) (s.left l.source) (s.taken c.next_piece.new.source) (s.left c.next_piece.new.source) (g.C.Clock.moments c.answer_calls.new.clock)
     (record { seen = seen c.answer_calls.new.names; held = held c.answer_calls.new.sink; queue = c.answer_calls.new.queue; waiting = c.answer_calls.new.session.replies; counts = c.answer_calls.new.session.counts })
-    (held c.next_piece.new.sink) l.input c.next_piece.new.input c.in-Err-next_piece.end (http_to_come c.answer_calls.new.calls) l.invariant.most (c.in_default-answer_calls.ensures.moves from _ l.invariant.most fed) (c.in_default-answer_calls.ensures.none refl) c.in-Err-next_piece.ensures.moves
+    (held c.next_piece.new.sink) l.input c.next_piece.new.input c.in-Err-next_piece.end (http_to_come c.answer_calls.new.calls) l.invariant.most (c.in_default-answer_calls.ensures.moves from (record { taken = s.taken l.source; left = s.left l.source; moments = g.C.Clock.moments l.clock; size = l.input.taken }) l.invariant.most fed) (c.in_default-answer_calls.ensures.none refl) c.in-Err-next_piece.ensures.moves
 
 pub returns-in-Err-next_piece-clause-causes : goal.returns-in-Err-next_piece-clause-causes
 returns-in-Err-next_piece-clause-causes g c =
     let l = c.loop-session in
     let stops = g.R.Rows.stops in
-    later_causes _ _ _ _ _ _ _ _ c.in-Err-next_piece.end l.invariant.reads (let a = l.invariant.writes in let b = c.in_default-answer_calls.ensures.causes.later in omega (arith, a, b))
-    (let a = l.invariant.stops in let b = c.in_default-answer_calls.ensures.causes.grows in omega (arith, a, b)) (c.in-Err-next_piece.ensures.causes (stops c.answer_calls.new.names))
+    later_causes _ _ _ _ _ _ _ _ _ _ c.in-Err-next_piece.end l.invariant.reads (let a = l.invariant.writes in let b = c.in_default-answer_calls.ensures.causes.later in omega (arith, a, b))
+    (let a = l.invariant.stops in let b = c.in_default-answer_calls.ensures.causes.grows in omega (arith, a, b)) (let a = l.invariant.ticks in let b = c.in_default-answer_calls.ensures.causes.asked in omega (arith, a, b))
+    (c.in-Err-next_piece.ensures.causes (stops c.answer_calls.new.names) (g.C.Clock.faults c.answer_calls.new.clock))
 
 pub loop-session-preserved : goal.loop-session-preserved
 loop-session-preserved g c =
@@ -86,10 +88,10 @@ loop-session-preserved g c =
       talks = λ from k.
           let fed = talk_come c.args.config.now from _ (record { seen = seen l.names; held = held l.sink; queue = l.queue; waiting = l.session.replies; counts = l.session.counts })
           (λ more. http_to_come l.calls (l.input.piece ++ more)) (http_to_come c.feed.new.self) (i.talks from k) (fed_calls l.calls c.feed.new.self c.piece.result.now l.input.piece c.piece.ensures c.in-Ok-feed.ensures.ok) in
-          let talked = talk_piece c.args.config.now from (s.taken l.source) (s.left l.source) (s.taken c.next_piece.new.source) (s.left c.next_piece.new.source)
+          let talked = talk_piece c.args.config.now from (s.taken l.source) (s.left l.source) (s.taken c.next_piece.new.source) (s.left c.next_piece.new.source) (g.C.Clock.moments c.answer_calls.new.clock)
           (record { seen = seen c.answer_calls.new.names; held = held c.answer_calls.new.sink; queue = c.answer_calls.new.queue; waiting = c.answer_calls.new.session.replies; counts = c.answer_calls.new.session.counts })
-          (held c.next_piece.new.sink) l.input c.next_piece.new.input (http_to_come c.answer_calls.new.calls) (asked.moves from _ i.most fed) piece.moves in
-          subst (λ (w : List ℕ). Talks c.args.config.now from (record { taken = s.taken c.next_piece.new.source; left = s.left c.next_piece.new.source; size = c.next_piece.new.input.taken })
+          (held c.next_piece.new.sink) l.input c.next_piece.new.input (http_to_come c.answer_calls.new.calls) (asked.moves from (record { taken = s.taken l.source; left = s.left l.source; moments = g.C.Clock.moments l.clock; size = l.input.taken }) i.most fed) piece.moves in
+          subst (λ (w : List ℕ). Talks c.args.config.now from (record { taken = s.taken c.next_piece.new.source; left = s.left c.next_piece.new.source; moments = g.C.Clock.moments c.answer_calls.new.clock; size = c.next_piece.new.input.taken })
           (record { seen = seen c.answer_calls.new.names; held = held c.next_piece.new.sink; queue = c.answer_calls.new.queue; waiting = w; counts = c.answer_calls.new.session.counts }) (λ more. http_to_come c.answer_calls.new.calls (c.next_piece.new.input.piece ++ more)))
           (sym piece.none) talked;
       quiet = piece.none;
@@ -97,6 +99,7 @@ loop-session-preserved g c =
       reads = let a = i.reads in let b = piece.later.0 in omega (arith, a, b);
       writes = let a = i.writes in let b = piece.later.1 in let d = asked.causes.later in omega (arith, a, b, d);
       stops = let a = i.stops in let b = asked.causes.grows in omega (arith, a, b);
+      ticks = let a = i.ticks in let b = asked.causes.asked in omega (arith, a, b);
       source = piece.source ∙ i.source;
       sink = piece.sink ∙ asked.number ∙ i.sink;
     }

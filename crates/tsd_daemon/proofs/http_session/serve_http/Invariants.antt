@@ -11,15 +11,16 @@ invariant-loop-session g l =
     let held = g.K.Sink.held in
     let s = g.S.Source in
     record {
-      talks : MovesOn l.config (record { taken = s.taken l.fn.source; left = s.left l.fn.source; size = l.fn.input.taken })
+      talks : MovesOn l.config (record { taken = s.taken l.fn.source; left = s.left l.fn.source; moments = g.C.Clock.moments l.fn.clock; size = l.fn.input.taken })
           (record { seen = seen l.fn.names; held = held l.fn.sink; queue = l.fn.queue; waiting = []; counts = no_counts }) (λ more. http_asks (l.fn.input.piece ++ more))
-          (record { taken = s.taken l.source; left = s.left l.source; size = l.input.taken })
+          (record { taken = s.taken l.source; left = s.left l.source; moments = g.C.Clock.moments l.clock; size = l.input.taken })
           (record { seen = seen l.names; held = held l.sink; queue = l.queue; waiting = l.session.replies; counts = l.session.counts }) (λ more. http_to_come l.calls (l.input.piece ++ more));
       quiet : l.session.replies ≡ [];
       most : l.input.taken ≤ 2 ^ 40;
       reads : s.faults l.fn.source ≤ s.faults l.source;
       writes : g.K.Sink.faults l.fn.sink ≤ g.K.Sink.faults l.sink;
       stops : g.R.Rows.stops l.fn.names ≤ g.R.Rows.stops l.names;
+      ticks : g.C.Clock.faults l.fn.clock ≤ g.C.Clock.faults l.clock;
       source : s.number l.source ≡ s.number l.fn.source;
       sink : g.K.Sink.number l.sink ≡ g.K.Sink.number l.fn.sink;
     }

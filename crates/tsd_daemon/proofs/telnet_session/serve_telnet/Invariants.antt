@@ -1,4 +1,5 @@
-use Rattle.std.proofs.Common.{◌≡◌, ◌-◌, ◌^◌, ◌≤◌, ◌++◌, []}
+use Rattle.std.proofs.Common.{◌≡◌, ℕ, ◌-◌, ◌^◌, ◌≤◌, ◌++◌, List, []}
+use Rattle.std.specs.Prelude.{Option}
 use Rattle.tsd_daemon.specs.ConnReplies.{no_counts}
 use Rattle.tsd_daemon.specs.ConnRequests.{telnet_asks}
 use Rattle.tsd_daemon.specs.Talks.{MovesOn, telnet_to_come}
@@ -11,9 +12,9 @@ invariant-loop-session g l =
     let held = g.K.Sink.held in
     let s = g.S.Source in
     record {
-      talks : MovesOn l.config (record { taken = s.taken l.fn.source; left = s.left l.fn.source; size = l.fn.input.taken })
+      talks : (moments : Option (List ℕ)) → MovesOn l.config (record { taken = s.taken l.fn.source; left = s.left l.fn.source; moments = moments; size = l.fn.input.taken })
           (record { seen = seen l.fn.names; held = held l.fn.sink; queue = l.fn.queue; waiting = []; counts = no_counts }) (λ more. telnet_asks (l.fn.input.piece ++ more))
-          (record { taken = s.taken l.source; left = s.left l.source; size = l.input.taken })
+          (record { taken = s.taken l.source; left = s.left l.source; moments = moments; size = l.input.taken })
           (record { seen = seen l.names; held = held l.sink; queue = l.queue; waiting = l.session.replies; counts = l.session.counts }) (λ more. telnet_to_come l.lines (l.input.piece ++ more));
       quiet : l.session.replies ≡ [];
       most : l.input.taken ≤ 2 ^ 40;
