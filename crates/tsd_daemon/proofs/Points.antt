@@ -29,7 +29,7 @@ point_replied : (c : Config) (counts : Counts) (point : DataPoint) (old new : Se
 point_replied c counts point old new before after outcome reply stored (own, made, asked) told rows = record {
   stored = stored;
   since = made.since;
-  answered = λ h l f. (refl, outcome, subst (λ own. PointAsked c point (first new.length h) own outcome) (sym (made.made h f)) (asked h l f), told);
+  answered = λ h l f. (refl, (outcome, subst (λ own. PointAsked c point (first new.length h) own outcome) (sym (made.made h f)) (asked h l f), told));
   rows = rows;
   how_is = refl;
 }
@@ -61,7 +61,7 @@ failed_begun c point old new before after fault says same = at fault says
     begun : (outcome : Result Stored PutFault) → PutSays c point old outcome new → WasBegun c None (put_of point) old before new after
     begun outcome (own, made, asked) = record {
       since = made.since;
-      begun = λ h l f. (refl, outcome, subst (λ own. PointAsked c point (first new.length h) own outcome) (sym (made.made h f)) (asked h l f));
+      begun = λ h l f. (refl, (outcome, subst (λ own. PointAsked c point (first new.length h) own outcome) (sym (made.made h f)) (asked h l f)));
       rows = λ h l f. may_have before [] after (deeds h old.caller old.length new.length) (subst (λ (queue : List Stored). HasRows before [] queue) (sym same) (rows_none before));
     }
 

@@ -1,5 +1,5 @@
 -- How a connection goes on by one request, by bytes that are given and by bytes that are taken, and how it ends.
-use Rattle.std.proofs.Common.{◌≡◌, inl, inr, ℕ, ◌+◌, ◌^◌, ◌≤◌, ◌<◌, List, [], ◌∷◌, ◌++◌, length, length-append, refl, sym, ap, subst, ◌∙◌, append_assoc, append-nil, arith}
+use Rattle.std.proofs.Common.{◌≡◌, inl, inr, ℕ, ◌+◌, ◌^◌, ◌≤◌, ◌<◌, true, List, [], ◌∷◌, ◌++◌, length, length-append, refl, sym, ap, subst, ◌∙◌, append_assoc, append-nil, arith}
 use Rattle.std.specs.Prelude.{Option, None, Some, option_to_list, Err}
 use Rattle.std.specs.Io.KnownBytes.{Appends, Consumes}
 use Rattle.std.proofs.KnownBytes.{Appends-nil, Appends-trans, Consumes-nil, Consumes-trans}
@@ -171,9 +171,9 @@ pub talk_closed : (c : Config) (from : Start) (t : Taken) (moments : Option (Lis
     → Ends c from t.taken t.left moments end seen held queue
 talk_closed c from t moments old seen held queue come come' moment request reply how end le k given next r g ends =
     let so = closes_so request end ends in
-    let later : Taken = record t { moments = moments } in
-    let m = told_gave c from later _ _ held [] come' (told_answered c from t moments k.done old seen queue come come' moment request reply how k.told given next r) g in
-    told_rests c from later _ _ come' end m (λ h none. so.table c h from.seen.caller seen.length seen.length _ m.input m.output _ (record {
+    let t' : Taken = record t { moments = moments } in
+    let m = told_gave c from t' _ _ held [] come' (told_answered c from t moments k.done old seen queue come come' moment request reply how k.told given next r) g in
+    told_rests c from t' _ _ come' end m (λ h none. so.table c h from.seen.caller seen.length seen.length _ m.input m.output (moments_in (k.done ++ exchange moment request reply r.stored ∷ [])) (record {
       all = record { requests = only_of m.input _ (come' []) (m.requests []) (next.last so.closes []); replies = sym (append-nil m.output) ∙ m.replies; moments = refl; no_later = none };
       before = requests_in k.done;
       last = request;
@@ -197,7 +197,7 @@ pub talk_begun : (c : Config) (from : Start) (t : Taken) (moments : Option (List
 talk_begun c from t moments old seen queue come come' moment request end le k given next b none so =
     told_ends c from t moments k.done old come end seen queue (moments_in k.done ++ option_to_list moment) k.told b.since
     (moments_joined from.moments t.moments moments (moments_in k.done) (option_to_list moment) k.told.ticks given)
-    (λ h l f. so.table c h from.seen.caller old.seen.length seen.length k.done k.told.input k.told.output _ (record {
+    (λ h l f. so.table c h from.seen.caller old.seen.length seen.length k.done k.told.input k.told.output (moments_in k.done ++ option_to_list moment) (record {
       rest = request ∷ come' [];
       requests = next_of_all k.told.input k.done request come come' k.told.requests next;
       replies = all_given k.told.output old.waiting _ k.told.replies none;

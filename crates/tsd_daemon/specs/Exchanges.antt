@@ -72,7 +72,7 @@ abbrev pub AnsweredBy : Config → History → List Placed → Counts → Reques
 AnsweredBy c h own counts request (Some point) reply stored = (outcome : Result Stored PutFault) × PointAsked c point h own outcome × IsTold outcome reply stored
 AnsweredBy c h own counts request None reply stored = (own ≡ []) × (reply ≡ fixed_reply counts request) × (stored ≡ [])
 
--- the moment that the clock gave for a call, where it asks the clock and it was this moment
+-- what the clock gave for a call that is worked at this moment: the moment where the call asks it, else nothing
 abbrev pub moment_for : Call → ℕ → Option ℕ
 moment_for call now = if asks_clock (Http call) then Some now else None
 
@@ -87,7 +87,7 @@ abbrev pub BegunBy : Config → History → List Placed → Option DataPoint →
 BegunBy c h own (Some point) = (outcome : Result Stored PutFault) × PointAsked c point h own outcome
 BegunBy c h own None = own ≡ []
 
--- A request was begun between two lengths of the history, and the clock gave this moment for it. A call may have been left before the clock was asked.
+-- A request was begun between two lengths of the history, and the clock gave this moment for it. A call may have been given up before the clock was asked.
 abbrev pub BegunBetween : Config → History → ℕ → ℕ → ℕ → Option ℕ → ConnRequest → Type 0
 BegunBetween c h caller n n2 moment (Telnet request) = (moment ≡ None) × BegunBy c (first n2 h) (deeds h caller n n2) (point_asked request)
 BegunBetween c h caller n n2 moment (Http call) =
