@@ -7,6 +7,8 @@ mod calls;
 mod case;
 mod case_lines;
 mod compactions;
+mod connections;
+mod devices;
 mod report;
 mod run_cases;
 mod store_case;

@@ -1,6 +1,7 @@
 //! What differs from what is wanted.
 
 use crate::case_lines::Line;
+use crate::devices::Pieces;
 use case_readers::text::{Bad, bytes};
 use std::alloc::Global;
 
@@ -12,6 +13,7 @@ pub struct Report {
     wrong: bool,
     differs: bool,
     order: String,
+    pieces: String,
     case: String,
     /// How many cases there were.
     pub cases: u64,
@@ -30,6 +32,7 @@ impl Report {
             wrong: false,
             differs: false,
             order: String::new(alloc),
+            pieces: String::new(alloc),
             case: String::new(alloc),
             cases: 0,
             failed: 0,
@@ -54,6 +57,22 @@ impl Report {
             write!(self.order, " ({digits})")?;
         }
         Ok(())
+    }
+
+    /// In which pieces the inputs of the case come from here on.
+    pub fn in_pieces(&mut self, pieces: Pieces) -> Result<(), Bad> {
+        self.pieces.clear();
+        match pieces {
+            Pieces::Written => {}
+            Pieces::CutAt(place) => write!(self.pieces, " (cut at {place})")?,
+            Pieces::Bytes => self.pieces.push_str(" (byte by byte)")?,
+        }
+        Ok(())
+    }
+
+    /// Whether the case differs so far.
+    pub fn differs(&self) -> bool {
+        self.differs
     }
 
     /// Adds a line and what it gave, where that isn't what is wanted.
@@ -101,7 +120,8 @@ impl Report {
         let verb = line.verb.as_str();
         let rest = line.rest.as_str();
         let order = self.order.as_str();
-        Ok(writeln!(self.case, "{file}:{number}{order}: {verb} {rest}")?)
+        let pieces = self.pieces.as_str();
+        Ok(writeln!(self.case, "{file}:{number}{order}{pieces}: {verb} {rest}")?)
     }
 
     /// Ends a case that begins with this line.
@@ -116,6 +136,7 @@ impl Report {
             self.text.push_str(self.case.as_str())?;
         }
         self.case.clear();
+        self.pieces.clear();
         self.differs = false;
         Ok(())
     }

@@ -4,6 +4,8 @@ ghost use Rattle.std.specs.Prelude.{◌≤◌};
 use crate::acts::{act, tell_acted};
 use crate::calls::{Names, call};
 use crate::case_lines::{Line, joined};
+use crate::connections::serve;
+use crate::devices::{Devices, Pieces};
 use crate::report::Report;
 use case_readers::cell_cases::tell_hex;
 use case_readers::text::{Bad, bytes, first_word, hex, number, small};
@@ -27,6 +29,8 @@ enum Role {
     Start,
     /// It is a step of another caller.
     Act(u8),
+    /// It changes what the next connection is over.
+    Device,
     /// Caller 1 makes a call.
     Call,
     /// It asks for something of the store at the end.
@@ -35,10 +39,18 @@ enum Role {
 
 fn role_of(verb: &str) -> Role {
     match verb {
-        "case" | "setup" | "base" | "load" | "cap" | "order" => Role::Start,
+        "case" | "setup" | "base" | "load" | "cap" | "order" | "pieces" => Role::Start,
         "2" => Role::Act(2),
         "3" => Role::Act(3),
         "4" => Role::Act(4),
+        "input"
+        | "tail"
+        | "cuts"
+        | "source_fails"
+        | "sink_fails"
+        | "room"
+        | "clock"
+        | "clock_fails" => Role::Device,
         "steps" | "tally" | "list" => Role::End,
         _ => Role::Call,
     }
@@ -227,33 +239,81 @@ fn end(alloc: Global, names: Names, first: [u64; 4]) -> Result<Ended, Bad> {
     })
 }
 
+/// What a case keeps beside its store: the rows to compact, and what its connections are over.
+#[derive(Drop)]
+struct Kept {
+    queue: Queue,
+    devices: Devices,
+    pieces: Pieces,
+}
+
+/// Makes the call of a line, or serves a connection.
+fn make_call(
+    alloc: Global,
+    names: &mut Names,
+    kept: &mut Kept,
+    line: &Line,
+    out: &mut String,
+) -> Result<(), Bad> {
+    let rest = line.rest.as_str();
+    match line.verb.as_str() {
+        "serve" => serve(
+            alloc,
+            names,
+            &mut kept.queue,
+            &mut kept.devices,
+            kept.pieces,
+            rest,
+            out,
+        ),
+        verb => call(alloc, names, &mut kept.queue, verb, rest, out),
+    }
+}
+
+/// Does a line that isn't the end's, and reports what differs.
+fn do_line(
+    alloc: Global,
+    names: &mut Names,
+    kept: &mut Kept,
+    line: &Line,
+    report: &mut Report,
+) -> Result<(), Bad> {
+    let mut out = String::new(alloc);
+    match role_of(line.verb.as_str()) {
+        Role::Call => {
+            let done = make_call(alloc, names, kept, line, &mut out);
+            report.settle(line, done, out.as_str())
+        }
+        Role::Device => {
+            let changed = kept
+                .devices
+                .change(alloc, line.verb.as_str(), line.rest.as_str());
+            report.settle(line, changed.map(|_| ()), "")
+        }
+        Role::Start if !line.wanted.is_empty() => report.refuse(line, "it gives no answer"),
+        Role::Start | Role::Act(_) | Role::End => Ok(()),
+    }
+}
+
 /// Makes the calls of the lines, and reports what differs.
 fn make_calls(
     alloc: Global,
     names: &mut Names,
     lines: &[Line],
+    pieces: Pieces,
     report: &mut Report,
 ) -> Result<(), Bad> {
-    let mut queue = Queue::make(alloc);
+    let mut kept = Kept {
+        queue: Queue::make(alloc),
+        devices: Devices::of(alloc),
+        pieces,
+    };
     let mut ended = false;
     for line in lines {
         match role_of(line.verb.as_str()) {
-            Role::Call if ended => report.refuse(line, "a call behind the end")?,
-            Role::Call => {
-                let mut out = String::new(alloc);
-                let done = call(
-                    alloc,
-                    names,
-                    &mut queue,
-                    line.verb.as_str(),
-                    line.rest.as_str(),
-                    &mut out,
-                );
-                report.settle(line, done, out.as_str())?;
-            }
             Role::End => ended = true,
-            Role::Start if !line.wanted.is_empty() => report.refuse(line, "it gives no answer")?,
-            Role::Start | Role::Act(_) => {}
+            Role::Call if ended => report.refuse(line, "a call behind the end")?,
+            _ => do_line(alloc, names, &mut kept, line, report)?,
         }
     }
     Ok(())
@@ -364,19 +424,63 @@ fn report_end(
     Ok(())
 }
 
-/// Does the lines of a case in one order.
-fn play(alloc: Global, lines: &[Line], order: Vec<u8>, report: &mut Report) -> Result<(), Bad> {
+/// Does the lines of a case in one order, with the inputs of its connections in these pieces.
+fn play(
+    alloc: Global,
+    lines: &[Line],
+    order: &[u8],
+    pieces: Pieces,
+    report: &mut Report,
+) -> Result<(), Bad> {
+    report.in_pieces(pieces)?;
     let shared = loaded(alloc, lines)?;
     let first = entries(&shared);
+    let order = Vec::from_slice(alloc, order)?;
     let script = Script::of(parts_of(alloc, lines)?, order);
     let rows = Scripted::of(alloc, shared, script);
     let mut names = named(alloc, rows, cap_of(lines)?)?;
-    make_calls(alloc, &mut names, lines, report)?;
+    make_calls(alloc, &mut names, lines, pieces, report)?;
     let ended = end(alloc, names, first)?;
     report_end(alloc, lines, &ended, report)
 }
 
-/// The same, and ends the case, which begins with `head`. What can't be begun is reported there.
+/// At how many places the inputs are cut: what the last line `pieces N` says, if there is one.
+fn places_of(lines: &[Line]) -> Result<Option<u32>, Bad> {
+    let mut places = None;
+    for line in lines {
+        if line.verb.as_str() == "pieces" {
+            places = Some(small(line.rest.as_str())?);
+        }
+    }
+    Ok(places)
+}
+
+/// The same once with the inputs as they are written, and where there is a line `pieces N` also with each cut once at each of its first N
+/// places, and byte by byte, up to the first difference.
+fn play_pieces(
+    alloc: Global,
+    lines: &[Line],
+    order: &[u8],
+    report: &mut Report,
+) -> Result<(), Bad> {
+    play(alloc, lines, order, Pieces::Written, report)?;
+    let Some(places) = places_of(lines)? else {
+        return Ok(());
+    };
+    for place in 1..=places {
+        if report.differs() {
+            return Ok(());
+        }
+        play(alloc, lines, order, Pieces::CutAt(place as usize), report)?;
+    }
+    if report.differs() {
+        return Ok(());
+    }
+    play(alloc, lines, order, Pieces::Bytes, report)
+}
+
+/// Does the lines of a case in the order of these digits, or as they stand, and ends the case, which begins with `head`. What can't be
+/// begun is reported there.
 fn once(
     alloc: Global,
     setup: &[Line],
@@ -404,7 +508,7 @@ fn begin(
 ) -> Result<(), Bad> {
     let order = order_of(alloc, setup, lines, digits)?;
     let all = joined(alloc, setup, lines)?;
-    play(alloc, all.as_slice(), order, report)
+    play_pieces(alloc, all.as_slice(), order.as_slice(), report)
 }
 
 /// Does the lines of a case, once for each of its orders.
