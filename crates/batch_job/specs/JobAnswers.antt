@@ -25,7 +25,7 @@ pub record CanAsk (query : Query) : Type 0 where
   pub sub : Sub
   pub subs_are : query.subs ≡ sub ∷ []
   pub order : query.start ≤ query.end
-  pub most : query.end ≤ 4294967295000
+  pub most : query.end ≤ 4294967295999
   pub down : CanDown query.ms sub
 
 -- the names of points, each of which has its id

@@ -1,16 +1,15 @@
 -- What words ask for: `clap` gives the words of a command their places, and they have to be in their forms.
-use Rattle.std.specs.Prelude.{ℕ, Bool, false, ◌&&◌, not, nat_le, List, [], ◌∷◌, codes, Option, None, Some, option_map, if◌then◌else◌}
+use Rattle.std.specs.Prelude.{ℕ, Bool, false, not, nat_le, List, [], ◌∷◌, codes, Option, None, Some, option_map, if◌then◌else◌}
 use Rattle.std.specs.Option.{option_map_or}
-use Rattle.std.specs.Str.Parse.{digits_value}
 use Rattle.clap.specs.Kinds.{Kinds}
 use Rattle.clap.specs.Walk.{Row, Text, first_of}
 use Rattle.clap.specs.Simple.{subcommand_of}
 use Rattle.clap.specs.Faults.{fault_of}
-use Rattle.tsd_base.specs.Digits.{is_number}
 use Rattle.tsd_base.specs.Tags.{is_same}
+use Rattle.query_times.specs.QueryTimes.{fixed_time}
 use Rattle.command_words.specs.Grammar.{grammar}
 
--- what `batch` is asked: a range of seconds, the text of a query, and whether times are told in milliseconds
+-- what `batch` is asked: a range of milliseconds, the text of a query, and whether times are told in milliseconds
 pub record Batch : Type 0 where
   pub start : ℕ
   pub end : ℕ
@@ -27,16 +26,17 @@ pub data Asked : Type 0 where
   BatchAsked : Batch → Asked
   StdioAsked : Stdio → Asked
 
--- digits alone, from 0 to 4294967295
-abbrev pub is_second : List ℕ → Bool
-is_second word = is_number word && nat_le (digits_value 10 word) 4294967295
+-- a range ends at its start or behind it
+abbrev pub range_between : Option ℕ → Option ℕ → Option (ℕ × ℕ)
+range_between (Some start) (Some end) = if nat_le start end then Some (start, end) else None
+range_between _ _ = None
 
-abbrev pub is_range : List ℕ → List ℕ → Bool
-is_range start end = is_second start && (is_second end && nat_le (digits_value 10 start) (digits_value 10 end))
+-- the range of two times, in milliseconds; a time in seconds is its second's first millisecond, also at the end
+abbrev pub range_of : List ℕ → List ℕ → Option (ℕ × ℕ)
+range_of start end = range_between (fixed_time start) (fixed_time end)
 
 abbrev pub batch_from : List ℕ → List ℕ → List ℕ → Bool → Option Batch
-batch_from start end query ms =
-    if is_range start end then Some (record { start = digits_value 10 start; end = digits_value 10 end; query = query; ms = ms }) else None
+batch_from start end query ms = option_map (λ range. record { start = range.0; end = range.1; query = query; ms = ms }) (range_of start end)
 
 -- the option is among the words
 abbrev pub is_given : Text → List Row → Bool

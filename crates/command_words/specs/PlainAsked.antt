@@ -23,7 +23,7 @@ batch_of b = option_map plain_batch b
 abbrev pub what_asked : Option code.Asked → Option Asked
 what_asked a = option_map plain_asked a
 
--- a range ends at its start or behind it, and at the last second of a time or before
+-- a range ends at its start or behind it, and at the last time or before
 abbrev pub InRange : code.Asked → Type 0
-InRange (asked.Batch b) = (b.start ≤ b.end) × (b.end ≤ 4294967295)
+InRange (asked.Batch b) = (b.start ≤ b.end) × (b.end ≤ 4294967295999)
 InRange (asked.Stdio s) = Unit {0}

@@ -1,7 +1,7 @@
 //! What words ask for.
 
-/// What `batch` is asked: a range of seconds, both ends included, the text of a query, and whether times are told in
-/// milliseconds.
+/// What `batch` is asked: a range of milliseconds since 1970, both ends included, the text of a query, and whether times
+/// are told in milliseconds.
 #[derive(Clone, Copy, Drop)]
 pub struct Batch<'a> {
     pub start: u64,

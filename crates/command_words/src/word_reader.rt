@@ -1,26 +1,24 @@
 //! Reading words.
-ghost use Rattle.std.specs.Prelude.{◌≡◌, ◌≤◌, true, false, map, option_map, string_bytes, IfOk, IfSome, MatchOption};
-ghost use Rattle.std.specs.Str.Parse.{digits_value};
+ghost use Rattle.std.specs.Prelude.{◌≡◌, ◌≤◌, map, option_map, string_bytes, IfOk, IfSome};
 ghost use Rattle.clap.specs.Matches.{found_of};
 ghost use Rattle.clap.specs.Walk.{first_of, rows_of};
 ghost use Rattle.clap.specs.Simple.{subcommand_rows_of};
-ghost use Rattle.command_words.specs.CommandWords.{asked_by, asked_in, asked_of, batch_from, batch_in, is_given, is_second, stdio_in};
+ghost use Rattle.command_words.specs.CommandWords.{asked_by, asked_in, asked_of, batch_from, batch_in, is_given, stdio_in};
 ghost use Rattle.command_words.specs.PlainAsked.{InRange, batch_of, plain_stdio, what_asked};
 
 use crate::asked::{Asked, Batch, Stdio};
 use crate::grammar::grammar;
 use clap::ArgMatches;
 use clap::error::ErrorKind;
+use query_times::query_times::read_fixed_time;
 use std::alloc::{AllocError, Global};
-use tsd_base::digits::read_digits;
-use tsd_base::times::LAST_SECOND;
 
 /// Reads the words of a command, without the program's name. None where they are none, also where they ask for help or
 /// for a version. It fails only for want of memory.
 ///
-/// `batch START END M` may have the option `--ms`, with START and END in digits alone up to 4294967295, and END not below
-/// START. `stdio` may have the options `--auto-metric`, `--no-auto-tagk` and `--no-auto-tagv`. An option is given at most
-/// once, and `clap` says where it may stand.
+/// `batch START END M` may have the option `--ms`, with START and END times as `read_fixed_time` reads them, and END not
+/// below START. An END in seconds is that second's first millisecond. `stdio` may have the options `--auto-metric`,
+/// `--no-auto-tagk` and `--no-auto-tagv`. An option is given at most once, and `clap` says where it may stand.
 pub fn read_words<'a>(alloc: Global, words: &'a [String]) -> Result<Option<Asked<'a>>, AllocError>
     ensures asked { IfOk result (λ found. what_asked found ≡ asked_of (map string_bytes words.entry.now)) }
     ensures range { IfOk result (λ found. IfSome found InRange) }
@@ -65,7 +63,7 @@ fn asked_by<'a>(name: &[u8], words: &ArgMatches<'a>) -> Option<Asked<'a>>
 /// What `batch` is asked.
 fn batch_in<'a>(words: &ArgMatches<'a>) -> Option<Batch<'a>>
     ensures asked { batch_of result ≡ batch_in (rows_of (found_of words.now)) }
-    ensures range { IfSome result (λ batch. (batch.start ≤ batch.end) × (batch.end ≤ 4294967295)) }
+    ensures range { IfSome result (λ batch. (batch.start ≤ batch.end) × (batch.end ≤ 4294967295999)) }
 {
     let start = text(words, "start")?;
     let end = text(words, "end")?;
@@ -111,10 +109,10 @@ fn is_given(words: &ArgMatches<'_>, id: &str) -> bool
 /// Reads the words of `batch`.
 fn read_batch<'a>(start: &[u8], end: &[u8], query: &'a [u8], ms: bool) -> Option<Batch<'a>>
     ensures asked { batch_of result ≡ batch_from start.now end.now query.entry.now ms }
-    ensures range { IfSome result (λ batch. (batch.start ≤ batch.end) × (batch.end ≤ 4294967295)) }
+    ensures range { IfSome result (λ batch. (batch.start ≤ batch.end) × (batch.end ≤ 4294967295999)) }
 {
-    let start = read_second(start)?;
-    let end = read_second(end)?;
+    let start = read_fixed_time(start)?;
+    let end = read_fixed_time(end)?;
     if end < start {
         return None;
     }
@@ -124,13 +122,4 @@ fn read_batch<'a>(start: &[u8], end: &[u8], query: &'a [u8], ms: bool) -> Option
         query,
         ms,
     })
-}
-
-/// A second of a range: digits alone, up to the last second of a time.
-fn read_second(word: &[u8]) -> Option<u64>
-    ensures reads { MatchOption result (is_second word.now ≡ false) (λ second. (is_second word.now ≡ true) × (second ≡ digits_value 10 word.now)) }
-    ensures most { IfSome result (λ second. second ≤ 4294967295) }
-{
-    let second = read_digits(word)?;
-    (second <= LAST_SECOND).then_some(second)
 }
