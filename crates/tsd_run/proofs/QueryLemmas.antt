@@ -1,5 +1,5 @@
 -- The query of a batch.
-use Rattle.std.proofs.Common.{◌≡◌, ◌*◌, ◌≤◌, Bool, [], ◌∷◌, sym, subst, arith}
+use Rattle.std.proofs.Common.{◌≡◌, ◌≤◌, Bool, [], ◌∷◌, sym, subst, arith}
 use Rattle.std.specs.Prelude.{Ok, Err}
 use Rattle.query_text.specs.Subs.{GivesSub, sub_of}
 use Rattle.query_text.specs.declared.queries.Query.{Query}
@@ -11,11 +11,11 @@ use Rattle.batch_job.specs.JobAnswers.{CanAsk}
 use Rattle.command_words.specs.CommandWords.{Batch}
 use Rattle.tsd_run.specs.BatchQueries.{GivesQuery, IsQueryOf}
 
-module _ (query : Query) (batch : Batch) (s : Sub) (start : query.start ≡ batch.start * 1000) (end : query.end ≡ batch.end * 1000) (ms : query.ms ≡ batch.ms) (subs : query.subs ≡ s ∷ []) (is : sub_of batch.ms batch.query ≡ Ok s) where
+module _ (query : Query) (batch : Batch) (s : Sub) (start : query.start ≡ batch.start) (end : query.end ≡ batch.end) (ms : query.ms ≡ batch.ms) (subs : query.subs ≡ s ∷ []) (is : sub_of batch.ms batch.query ≡ Ok s) where
   pub is_query_of : IsQueryOf query batch
   is_query_of = record { sub = s; sub_is = is; query_is = λ i. record { start = start i; end = end i; ms = ms i; subs = subs i } }
 
-  pub can_ask : CanDown batch.ms s → batch.start ≤ batch.end → batch.end ≤ 4294967295 → CanAsk query
+  pub can_ask : CanDown batch.ms s → batch.start ≤ batch.end → batch.end ≤ 4294967295999 → CanAsk query
   can_ask can range last = record {
     sub = s;
     subs_are = subs;

@@ -1,5 +1,5 @@
 -- The query of a command.
-use Rattle.std.specs.Prelude.{◌≡◌, ◌*◌, [], ◌∷◌, Result, Ok, Err}
+use Rattle.std.specs.Prelude.{◌≡◌, [], ◌∷◌, Result, Ok, Err}
 use Rattle.query_text.specs.Subs.{sub_of}
 use Rattle.query_text.specs.declared.queries.Query.{Query}
 use Rattle.query_text.specs.declared.queries.QueryFault.{QueryFault}
@@ -7,9 +7,9 @@ use Rattle.query_text.specs.declared.queries.QueryFault.TheVariants.{OutOfMemory
 use Rattle.query_text.specs.declared.queries.Sub.{Sub}
 use Rattle.command_words.specs.CommandWords.{Batch}
 
--- one sub query over the range, with its times in milliseconds; those of the answer are told so with ms, and else in seconds
+-- one sub query over the range; the times of the answer are told in milliseconds with ms, and else in seconds
 abbrev pub query_of : Batch → Sub → Query
-query_of batch s = record { start = batch.start * 1000; end = batch.end * 1000; ms = batch.ms; subs = s ∷ [] }
+query_of batch s = record { start = batch.start; end = batch.end; ms = batch.ms; subs = s ∷ [] }
 
 -- the query of a batch, whose text is a sub query
 pub record IsQueryOf (query : Query) (batch : Batch) : Type 0 where

@@ -2,7 +2,7 @@
 use Rattle.std.specs.Prelude.{◌≡◌, ℕ, ◌^◌, ◌<◌, ◌≤◌, ◌⊎◌, Bool, true, false, List, [], ◌++◌, length, Option, None, Some, Result, Ok, Err}
 use Rattle.std.specs.Io.KnownBytes.{Appends, Consumes, IsAtEnd}
 use Rattle.tsd_run.specs.declared.status.Status.{Status}
-use Rattle.tsd_run.specs.declared.status.Status.TheVariants.{Done, Usage, Refused, ReadFault, WriteFault, Memory, Stopped as Halted, SessionFull}
+use Rattle.tsd_run.specs.declared.status.Status.TheVariants.{Done, Usage, Refused, ReadFault, WriteFault, Memory, Stopped as Halted, SessionFull, ClockFault}
 use Rattle.tsd_run.specs.declared.run_fault.RunFault.{RunFault}
 use Rattle.tsd_run.specs.declared.run_fault.RunFault.TheVariants.{Failed, Full, OutOfMemory, Stopped}
 use Rattle.tsd_run.specs.declared.output_text.Printed.{Printed}
@@ -77,6 +77,7 @@ Answers command input ended output SessionFull = AsksOn command input × (length
 Answers command input ended output WriteFault = (o : Outcome) × Decides command input ended o × IsFront output o.text
 Answers command input ended output Memory = output ≡ []
 Answers command input ended output Halted = output ≡ []
+Answers command input ended output ClockFault = ⊥
 
 -- A run that prints at its end took these bytes and gave those, where source and sink tell them, and its status is right for them.
 pub record RunsPrinted (command : Option Batch) (taken taken' left left' held held' : Option (List ℕ)) (status : Status) : Type 0 where
@@ -87,7 +88,7 @@ pub record RunsPrinted (command : Option Batch) (taken taken' left left' held he
   pub gives : Appends held held' output
   pub answers : Answers command input ended output status
 
--- Of each status how the serving of a connection ended. That the clock failed is none: no request that is built asks it.
+-- Of each status how the serving of a connection ended.
 abbrev pub HasStatus : Served → Status → Type 0
 HasStatus served.End status = status ≡ Done
 HasStatus served.Exit status = status ≡ Done
@@ -95,7 +96,7 @@ HasStatus served.Die status = status ≡ Done
 HasStatus served.Closed status = status ≡ Done
 HasStatus served.ReadFault status = status ≡ ReadFault
 HasStatus served.WriteFault status = status ≡ WriteFault
-HasStatus served.ClockFault status = ⊥
+HasStatus served.ClockFault status = status ≡ ClockFault
 HasStatus served.Stopped status = status ≡ Halted
 HasStatus served.SessionFull status = status ≡ SessionFull
 HasStatus served.OutOfMemory status = status ≡ Memory
@@ -104,12 +105,18 @@ HasStatus served.OutOfMemory status = status ≡ Memory
 abbrev pub config_of : Stdio → Config
 config_of s = record { auto_metric = s.auto_metric; auto_tag_key = s.auto_tag_key; auto_tag_value = s.auto_tag_value }
 
--- One connection was served over an empty store that nobody else steps: these bytes were taken and these given, and the status is that of its end.
-abbrev pub ServesStdio : Stdio → Status → List ℕ → List ℕ → Type 0
-ServesStdio s status input output = (result : Served) × ServesAlone (config_of s) result input output × HasStatus result status
+-- One connection was served over an empty store that nobody else steps: these bytes were taken and these given, the clock gave these moments, and the
+-- status is that of its end.
+abbrev pub ServesStdio : Stdio → Status → List ℕ → List ℕ → List ℕ → Type 0
+ServesStdio s status input output times = (result : Served) × ServesAlone (config_of s) result input output times × HasStatus result status
 
--- What a run of these words took and gave, and its status. Words that are no command print the usage line.
-abbrev pub Runs : Option Asked → (taken taken' left left' held held' : Option (List ℕ)) → Status → Type 0
-Runs (Some (BatchAsked batch)) taken taken' left left' held held' status = RunsPrinted (Some batch) taken taken' left left' held held' status
-Runs (Some (StdioAsked s)) taken taken' left left' held held' status = Passes taken taken' left left' held held' (ServesStdio s status)
-Runs None taken taken' left left' held held' status = RunsPrinted None taken taken' left left' held held' status
+-- the words ask for a connection
+abbrev pub is_stdio : Option Asked → Bool
+is_stdio (Some (StdioAsked s)) = true
+is_stdio asked = false
+
+-- What a run of these words took and gave, the moments that its clock gives before and after, and its status. Words that are no command print the usage line.
+abbrev pub Runs : Option Asked → (taken taken' left left' held held' moments moments' : Option (List ℕ)) → Status → Type 0
+Runs (Some (BatchAsked batch)) taken taken' left left' held held' moments moments' status = RunsPrinted (Some batch) taken taken' left left' held held' status × (moments' ≡ moments)
+Runs (Some (StdioAsked s)) taken taken' left left' held held' moments moments' status = Passes taken taken' left left' held held' moments moments' (ServesStdio s status)
+Runs None taken taken' left left' held held' moments moments' status = RunsPrinted None taken taken' left left' held held' status × (moments' ≡ moments)

@@ -1,5 +1,5 @@
 //! The query of a batch.
-ghost use Rattle.std.specs.Prelude.{◌≡◌, ◌≤◌, ◌*◌, [], ◌∷◌, IfOk};
+ghost use Rattle.std.specs.Prelude.{◌≡◌, ◌≤◌, [], ◌∷◌, IfOk};
 ghost use Rattle.batch_job.specs.JobAnswers.{CanAsk};
 ghost use Rattle.command_words.specs.PlainAsked.{plain_batch};
 ghost use Rattle.tsd_run.specs.BatchQueries.{GivesQuery};
@@ -12,7 +12,7 @@ use std::alloc::{AllocError, Global};
 /// Reads the query of a batch: one sub query over its range. It answers why its text is none.
 pub fn read_query(alloc: Global, batch: &Batch<'_>) -> Result<Query, QueryFault>
     requires range { batch.now.start ≤ batch.now.end }
-    requires end { batch.now.end ≤ 4294967295 }
+    requires end { batch.now.end ≤ 4294967295999 }
     ensures gives { GivesQuery result (plain_batch batch.now) }
     ensures can { IfOk result CanAsk }
 {
@@ -24,18 +24,16 @@ pub fn read_query(alloc: Global, batch: &Batch<'_>) -> Result<Query, QueryFault>
 
 /// The query of this sub query over the range of a batch.
 fn query_of(alloc: Global, sub: Sub, batch: &Batch<'_>) -> Result<Query, AllocError>
-    requires start { batch.now.start ≤ 4294967295 }
-    requires end { batch.now.end ≤ 4294967295 }
-    ensures start { IfOk result (λ query. query.start ≡ batch.now.start * 1000) }
-    ensures end { IfOk result (λ query. query.end ≡ batch.now.end * 1000) }
+    ensures start { IfOk result (λ query. query.start ≡ batch.now.start) }
+    ensures end { IfOk result (λ query. query.end ≡ batch.now.end) }
     ensures ms { IfOk result (λ query. query.ms ≡ batch.now.ms) }
     ensures subs { IfOk result (λ query. query.subs ≡ sub ∷ []) }
 {
     let mut subs = Vec::new(alloc);
     subs.push(sub)?;
     Ok(Query {
-        start: batch.start * 1000,
-        end: batch.end * 1000,
+        start: batch.start,
+        end: batch.end,
         ms: batch.ms,
         subs: SubList::of(subs),
     })

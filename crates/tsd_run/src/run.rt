@@ -1,5 +1,5 @@
 //! The top call: everything that the program does.
-ghost use Rattle.std.specs.Prelude.{◌≡◌, ◌≢◌, ◌≤◌, map, string_bytes, Some, IfErr, IfOk, IfSome};
+ghost use Rattle.std.specs.Prelude.{◌≡◌, ◌≢◌, ◌≤◌, false, map, string_bytes, Some, IfErr, IfOk, IfSome};
 ghost use Rattle.query_text.specs.QueryFaultTexts.{query_fault_text};
 ghost use Rattle.tsd_io.specs.Causes.{Rose};
 ghost use Rattle.batch_job.specs.JobAnswers.{CanAsk};
@@ -13,7 +13,7 @@ ghost use Rattle.tsd_run.specs.Outcomes.{refused_line, refused_query as plain_re
 ghost use Rattle.tsd_run.specs.OutputText.{outcome_of};
 ghost use Rattle.tsd_run.specs.BatchQueries.{IsQueryOf};
 ghost use Rattle.tsd_run.specs.RunFaults.{RunCause};
-ghost use Rattle.tsd_run.specs.Runs.{HasStatus, Runs, RunsPrinted, ServesStdio, Works};
+ghost use Rattle.tsd_run.specs.Runs.{HasStatus, Runs, RunsPrinted, ServesStdio, Works, is_stdio};
 
 use crate::input::{BadLine, read_points};
 use crate::output_text::Printed;
@@ -60,14 +60,15 @@ struct Decided<H> {
 /// Runs the command that the words ask for, over an input and an output. Each step of its store asks the halt first.
 ///
 /// `batch START END M [--ms]` reads points, one a line, to the end of the input, and prints the answer of the sub query M
-/// over the seconds from START to END as one JSON array, with times in seconds, or in milliseconds with `--ms`. The first
-/// thing that is wrong is told: the query, then the first line that is refused, then too many buckets, a name that no point
-/// has, two values of one series at one time, or a sum outside `i64`.
+/// from START to END, both included, as one JSON array, with times in seconds, or in milliseconds with `--ms`. START and END
+/// are times as `query_times::query_times::read_fixed_time` reads them. The first thing that is wrong is told: the query,
+/// then the first line that is refused, then too many buckets, a name that no point has, two values of one series at one
+/// time, or a sum outside `i64`.
 ///
 /// `stdio [--auto-metric] [--no-auto-tagk] [--no-auto-tagv]` serves one connection over an empty store, whose requests come
 /// from the input and whose replies go to the output.
 ///
-/// Words that are no command print the usage line. No command that is built asks the clock.
+/// Words that are no command print the usage line. No command but `stdio` asks the clock.
 pub fn run<S: Source, K: Sink, C: Clock, H: Halt + Drop>(
     alloc: Global,
     words: &[String],
@@ -76,19 +77,21 @@ pub fn run<S: Source, K: Sink, C: Clock, H: Halt + Drop>(
     clock: &mut C,
     halt: H,
 ) -> Ended<H>
-    // The status, and the bytes taken and given.
-    ensures runs { Runs (asked_of (map string_bytes words.now)) (S.taken input.old) (S.taken input.new) (S.left input.old) (S.left input.new) (K.held output.old) (K.held output.new) result.status }
+    // The status, the bytes taken and given, and the moments of the clock.
+    ensures runs { Runs (asked_of (map string_bytes words.now)) (S.taken input.old) (S.taken input.new) (S.left input.old) (S.left input.new) (K.held output.old) (K.held output.new) (C.moments clock.old) (C.moments clock.new) result.status }
 
     // The causes of faults.
     ensures reads_later { S.faults input.old ≤ S.faults input.new }
     ensures writes_later { K.faults output.old ≤ K.faults output.new }
+    ensures clock_later { C.faults clock.old ≤ C.faults clock.new }
     ensures stops_later { H.stops halt ≤ H.stops result.halt }
     ensures read_fault { result.status ≡ Status.ReadFault → Rose (S.faults input.old) (S.faults input.new) }
     ensures write_fault { result.status ≡ Status.WriteFault → Rose (K.faults output.old) (K.faults output.new) }
+    ensures clock_fault { result.status ≡ Status.ClockFault → Rose (C.faults clock.old) (C.faults clock.new) }
     ensures stopped { result.status ≡ Status.Stopped → Rose (H.stops halt) (H.stops result.halt) }
 
-    // The clock stands as it was.
-    ensures clock { clock.new ≡ clock.old }
+    // No command but `stdio` asks the clock.
+    ensures clock { is_stdio (asked_of (map string_bytes words.now)) ≡ false → clock.new ≡ clock.old }
 {
     match read_words(alloc, words) {
         Ok(asked) => act(alloc, asked, input, output, clock, halt),
@@ -117,14 +120,16 @@ fn act<S: Source, K: Sink, C: Clock, H: Halt + Drop>(
     halt: H,
 ) -> Ended<H>
     requires range { IfSome asked InRange }
-    ensures runs { Runs (what_asked asked.entry) (S.taken input.old) (S.taken input.new) (S.left input.old) (S.left input.new) (K.held output.old) (K.held output.new) result.status }
+    ensures runs { Runs (what_asked asked.entry) (S.taken input.old) (S.taken input.new) (S.left input.old) (S.left input.new) (K.held output.old) (K.held output.new) (C.moments clock.old) (C.moments clock.new) result.status }
     ensures reads_later { S.faults input.old ≤ S.faults input.new }
     ensures writes_later { K.faults output.old ≤ K.faults output.new }
+    ensures clock_later { C.faults clock.old ≤ C.faults clock.new }
     ensures stops_later { H.stops halt ≤ H.stops result.halt }
     ensures read_fault { result.status ≡ Status.ReadFault → Rose (S.faults input.old) (S.faults input.new) }
     ensures write_fault { result.status ≡ Status.WriteFault → Rose (K.faults output.old) (K.faults output.new) }
+    ensures clock_fault { result.status ≡ Status.ClockFault → Rose (C.faults clock.old) (C.faults clock.new) }
     ensures stopped { result.status ≡ Status.Stopped → Rose (H.stops halt) (H.stops result.halt) }
-    ensures clock { clock.new ≡ clock.old }
+    ensures clock { is_stdio (what_asked asked.entry) ≡ false → clock.new ≡ clock.old }
 {
     match asked {
         Some(Asked::Stdio { stdio }) => serve(alloc, &stdio, input, output, clock, halt),
@@ -142,14 +147,15 @@ fn serve<S: Source, K: Sink, C: Clock, H: Halt + Drop>(
     clock: &mut C,
     halt: H,
 ) -> Ended<H>
-    ensures serves { Passes (S.taken input.old) (S.taken input.new) (S.left input.old) (S.left input.new) (K.held output.old) (K.held output.new) (ServesStdio (plain_stdio stdio.now) result.status) }
+    ensures serves { Passes (S.taken input.old) (S.taken input.new) (S.left input.old) (S.left input.new) (K.held output.old) (K.held output.new) (C.moments clock.old) (C.moments clock.new) (ServesStdio (plain_stdio stdio.now) result.status) }
     ensures reads_later { S.faults input.old ≤ S.faults input.new }
     ensures writes_later { K.faults output.old ≤ K.faults output.new }
+    ensures clock_later { C.faults clock.old ≤ C.faults clock.new }
     ensures stops_later { H.stops halt ≤ H.stops result.halt }
     ensures read_fault { result.status ≡ Status.ReadFault → Rose (S.faults input.old) (S.faults input.new) }
     ensures write_fault { result.status ≡ Status.WriteFault → Rose (K.faults output.old) (K.faults output.new) }
+    ensures clock_fault { result.status ≡ Status.ClockFault → Rose (C.faults clock.old) (C.faults clock.new) }
     ensures stopped { result.status ≡ Status.Stopped → Rose (H.stops halt) (H.stops result.halt) }
-    ensures clock { clock.new ≡ clock.old }
 {
     let config = Config {
         auto_metric: stdio.auto_metric,
@@ -163,14 +169,13 @@ fn serve<S: Source, K: Sink, C: Clock, H: Halt + Drop>(
 
 /// The status of how the serving of a connection ended.
 fn status_of(served: Served) -> Status
-    requires { served ≢ Served.ClockFault }
     ensures { HasStatus served result }
 {
     match served {
         Served::End | Served::Exit | Served::Die | Served::Closed => Status::Done,
         Served::ReadFault => Status::ReadFault,
         Served::WriteFault => Status::WriteFault,
-        Served::ClockFault => unreachable!(),
+        Served::ClockFault => Status::ClockFault,
         Served::Stopped => Status::Stopped,
         Served::SessionFull => Status::SessionFull,
         Served::OutOfMemory => Status::Memory,
@@ -185,7 +190,7 @@ fn print<S: Source, K: Sink, H: Halt + Drop>(
     output: &mut K,
     halt: H,
 ) -> Ended<H>
-    requires range { IfSome batch (λ b. (b.start ≤ b.end) × (b.end ≤ 4294967295)) }
+    requires range { IfSome batch (λ b. (b.start ≤ b.end) × (b.end ≤ 4294967295999)) }
     ensures runs { RunsPrinted (batch_of batch.entry) (S.taken input.old) (S.taken input.new) (S.left input.old) (S.left input.new) (K.held output.old) (K.held output.new) result.status }
     ensures reads_later { S.faults input.old ≤ S.faults input.new }
     ensures writes_later { K.faults output.old ≤ K.faults output.new }
@@ -232,7 +237,7 @@ fn decide<S: Source, H: Halt + Drop>(
     input: &mut S,
     halt: H,
 ) -> Decided<H>
-    requires range { IfSome batch (λ b. (b.start ≤ b.end) × (b.end ≤ 4294967295)) }
+    requires range { IfSome batch (λ b. (b.start ≤ b.end) × (b.end ≤ 4294967295999)) }
     ensures works { Works (batch_of batch.entry) (S.taken input.old) (S.taken input.new) (S.left input.old) (S.left input.new) result.printed }
     ensures later { S.faults input.old ≤ S.faults input.new }
     ensures grows { H.stops halt ≤ H.stops result.halt }
@@ -267,7 +272,7 @@ fn run_batch<S: Source, H: Halt + Drop>(
     halt: H,
 ) -> Decided<H>
     requires range { batch.now.start ≤ batch.now.end }
-    requires end { batch.now.end ≤ 4294967295 }
+    requires end { batch.now.end ≤ 4294967295999 }
     ensures works { Works (Some (plain_batch batch.now)) (S.taken input.old) (S.taken input.new) (S.left input.old) (S.left input.new) result.printed }
     ensures later { S.faults input.old ≤ S.faults input.new }
     ensures grows { H.stops halt ≤ H.stops result.halt }

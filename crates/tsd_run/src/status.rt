@@ -21,6 +21,8 @@ pub enum Status {
     Stopped,
     /// 2^40 bytes of input came without their end.
     SessionFull,
+    /// The clock failed.
+    ClockFault,
 }
 
 impl Status {
@@ -37,6 +39,7 @@ impl Status {
             Status::Memory => 5,
             Status::Stopped => 6,
             Status::SessionFull => 8,
+            Status::ClockFault => 9,
         }
     }
 }

@@ -10,6 +10,7 @@ pub returns-in-Err-clause-runs : goal.returns-in-Err-clause-runs
 returns-in-Err-clause-runs g c =
     let s = g.S.Source in
     let k = g.K.Sink in
+    let m = g.C.Clock.moments c.args.clock.now in
     let asked = asked_of (map string_bytes c.args.words.now) in
-    subst (λ (status : Status). Runs asked (s.taken c.args.input.now) (s.taken c.args.input.now) (s.left c.args.input.now) (s.left c.args.input.now) (k.held c.args.output.now) (k.held c.args.output.now) status) (sym c.no_memory.ensures.status)
-    (runs_unread (s.taken c.args.input.now) (s.left c.args.input.now) (k.held c.args.output.now) asked)
+    subst (λ (status : Status). Runs asked (s.taken c.args.input.now) (s.taken c.args.input.now) (s.left c.args.input.now) (s.left c.args.input.now) (k.held c.args.output.now) (k.held c.args.output.now) m m status) (sym c.no_memory.ensures.status)
+    (runs_unread (s.taken c.args.input.now) (s.left c.args.input.now) (k.held c.args.output.now) m asked)
