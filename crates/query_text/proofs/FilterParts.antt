@@ -7,7 +7,7 @@ use Rattle.std.proofs.lemmas.Bool.{cond-true, cond-false, ne_eqb}
 use Rattle.list_lemmas.proofs.BoolTests.{nat_eq-same}
 use Rattle.query_text.specs.declared.queries.Filter.{Filter}
 use Rattle.query_text.specs.declared.queries.QueryFault.{QueryFault}
-use Rattle.query_text.specs.declared.queries.QueryFault.TheVariants.{BadM, UnknownAggregator, RateRefused, BadDownsample, BadFilter, OutOfMemory}
+use Rattle.query_text.specs.declared.queries.QueryFault.TheVariants.{BadM, UnknownAggregator, RateRefused, BadDownsample, BadFilter, BadTimes, BadQuery, TooManyQueries, OutOfMemory}
 use Rattle.tsd_base.specs.Alphabet.{is_name}
 use Rattle.query_text.specs.declared.queries.Test.{Test}
 use Rattle.query_text.specs.Cuts.{place_of, before, behind, parts_by, is_byte}
@@ -72,6 +72,9 @@ filters_not group old text filters rest one more UnknownAggregator now new kept 
 filters_not group old text filters rest one more RateRefused now new kept parts g = no_filter group old text filters rest one more RateRefused kept parts g.0 g.1
 filters_not group old text filters rest one more BadDownsample now new kept parts g = no_filter group old text filters rest one more BadDownsample kept parts g.0 g.1
 filters_not group old text filters rest one more (BadFilter index) now new kept parts g = no_filter group old text filters rest one more (BadFilter index) kept parts g.0 g.1
+filters_not group old text filters rest one more BadTimes now new kept parts g = no_filter group old text filters rest one more BadTimes kept parts g.0 g.1
+filters_not group old text filters rest one more BadQuery now new kept parts g = no_filter group old text filters rest one more BadQuery kept parts g.0 g.1
+filters_not group old text filters rest one more (TooManyQueries count) now new kept parts g = no_filter group old text filters rest one more (TooManyQueries count) kept parts g.0 g.1
 filters_not group old text filters rest one more OutOfMemory now new kept parts g = tt
 
 -- a key and a test that were read are a filter
@@ -117,6 +120,9 @@ module _ (text : List ℕ) (at : ℕ) (filters : List Filter) (end : ℕ) (read 
   second_fails more brace RateRefused all g = to_second more brace ∙ ap (last_part text filters) g
   second_fails more brace BadDownsample all g = to_second more brace ∙ ap (last_part text filters) g
   second_fails more brace (BadFilter index) all g = to_second more brace ∙ ap (last_part text filters) g
+  second_fails more brace BadTimes all g = to_second more brace ∙ ap (last_part text filters) g
+  second_fails more brace BadQuery all g = to_second more brace ∙ ap (last_part text filters) g
+  second_fails more brace (TooManyQueries count) all g = to_second more brace ∙ ap (last_part text filters) g
   second_fails more brace OutOfMemory all g = tt
 
 pub apart : (m n : ℕ) → m ≢ n → nat_eq m n ≡ false

@@ -4,8 +4,8 @@ ghost use Rattle.http_forms.specs.Forms.{all_values, first_value};
 ghost use Rattle.query_text.specs.FormQueries.{end_in, is_set, query_by_form, query_of_form, start_in, subs_of};
 ghost use Rattle.query_text.specs.QueryReadings.{CanDown, CanWork, Gives, GivesQuery};
 
-use crate::query_parts::{check_count, check_order, last_moment, time_in};
 use crate::queries::{Query, QueryFault, Sub, SubList};
+use crate::query_parts::{check_count, check_order, last_moment, time_in};
 use crate::subs::read_m;
 use http_forms::form::Form;
 use std::alloc::Global;

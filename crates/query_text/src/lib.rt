@@ -14,3 +14,5 @@ pub mod queries;
 mod query_faults;
 mod query_parts;
 pub mod subs;
+#[cfg(test)]
+mod tests;
