@@ -42,11 +42,7 @@ pub(crate) fn answer_query<R: Rows + Drop>(
 }
 
 /// The reply to a query that was asked. It fails for want of memory, or where the caller was stopped.
-fn tell(
-    alloc: Global,
-    closing: bool,
-    asked: Result<Reply, AskFault>,
-) -> Result<Vec<u8>, RowsFault>
+fn tell(alloc: Global, closing: bool, asked: Result<Reply, AskFault>) -> Result<Vec<u8>, RowsFault>
     requires { IfOk asked (λ reply. All IsReady reply.groups.items) }
     ensures ok { IfOk result (λ reply. IsReplyTo (plain_result asked) closing reply.items) }
     ensures stops { (before now : ℕ) → CountsStops ask_faults.is_stop asked before now → CountsStops is_stop result before now }
