@@ -2,4 +2,3 @@ mod Answering
 mod Bodies
 mod Moments
 mod QueryTellings
-pub mod CallerLemmas
