@@ -4,7 +4,7 @@ use Rattle.std.specs.Prelude.{Ok, Err}
 use Rattle.query_text.specs.Subs.{GivesSub, sub_of}
 use Rattle.query_text.specs.declared.queries.Query.{Query}
 use Rattle.query_text.specs.declared.queries.QueryFault.{QueryFault}
-use Rattle.query_text.specs.declared.queries.QueryFault.TheVariants.{BadM, UnknownAggregator, RateRefused, BadDownsample, BadFilter, OutOfMemory}
+use Rattle.query_text.specs.declared.queries.QueryFault.TheVariants.{BadM, UnknownAggregator, RateRefused, BadDownsample, BadFilter, BadTimes, BadQuery, TooManyQueries, OutOfMemory}
 use Rattle.query_text.specs.declared.queries.Sub.{Sub}
 use Rattle.query_run.specs.AskedQueries.{CanDown}
 use Rattle.batch_job.specs.JobAnswers.{CanAsk}
@@ -30,4 +30,7 @@ told_fault UnknownAggregator batch is = is
 told_fault RateRefused batch is = is
 told_fault BadDownsample batch is = is
 told_fault (BadFilter index) batch is = is
+told_fault BadTimes batch is = is
+told_fault BadQuery batch is = is
+told_fault (TooManyQueries count) batch is = is
 told_fault OutOfMemory batch is = tt

@@ -9,7 +9,7 @@ use Rattle.json_reply.specs.Replies.{Group}
 use Rattle.query_text.specs.Subs.{sub_of}
 use Rattle.query_text.specs.declared.queries.Query.{Query}
 use Rattle.query_text.specs.declared.queries.QueryFault.{QueryFault}
-use Rattle.query_text.specs.declared.queries.QueryFault.TheVariants.{BadM, UnknownAggregator, RateRefused, BadDownsample, BadFilter, OutOfMemory as NoMemory}
+use Rattle.query_text.specs.declared.queries.QueryFault.TheVariants.{BadM, UnknownAggregator, RateRefused, BadDownsample, BadFilter, BadTimes, BadQuery, TooManyQueries, OutOfMemory as NoMemory}
 use Rattle.query_text.specs.declared.queries.Sub.{Sub}
 use Rattle.query_run.specs.declared.fault.AskFault.{AskFault}
 use Rattle.tsd_run.specs.declared.status.Status.{Status}
@@ -130,6 +130,9 @@ module _ (taken left : Option (List ℕ)) (batch : Batch) (printed : Printed) wh
   refuses_query RateRefused told asked is = refuses_text RateRefused asked is
   refuses_query BadDownsample told asked is = refuses_text BadDownsample asked is
   refuses_query (BadFilter index) told asked is = refuses_text (BadFilter index) asked is
+  refuses_query BadTimes told asked is = refuses_text BadTimes asked is
+  refuses_query BadQuery told asked is = refuses_text BadQuery asked is
+  refuses_query (TooManyQueries count) told asked is = refuses_text (TooManyQueries count) asked is
   refuses_query NoMemory told asked is = absurd (told refl)
 
 -- ---- the input of a good query was read
