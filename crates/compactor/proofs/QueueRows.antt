@@ -1,18 +1,28 @@
 -- The rows of a queue, and the keys of its set.
-use Rattle.std.proofs.Common.{◌≡◌, ◌⊎◌, inl, inr, ℕ, ◌<◌, ◌≤◌, Bool, true, false, List, [], ◌∷◌, length, refl, sym, ap, subst, ◌∙◌, arith}
-use Rattle.std.specs.Prelude.{◌↔◌, Contains, IsTrue, Some, Result, Ok, Err, OnErr, map, not, slice_get}
+use Rattle.std.proofs.Common.{◌≡◌, ◌⊎◌, inl, inr, ℕ, ◌<◌, ◌≤◌, Bool, true, false, List, [], ◌∷◌, length, refl, sym, ap, subst, ◌∙◌, nat_eq, arith}
+use Rattle.std.specs.Prelude.{◌↔◌, ◌&&◌, All, Contains, IsTrue, Some, Result, Ok, Err, IfOk, OnErr, map, not, slice_get}
 use Rattle.std.specs.declared.alloc.AllocError.{AllocError}
 use Rattle.std.specs.Bool.{OnFalse}
 use Rattle.std.specs.declared.cmp.Ordering.{Ordering}
 use Rattle.std.specs.declared.cmp.Ordering.TheVariants.{Less, Equal, Greater}
 use Rattle.std.specs.Ordering.{nat_cmp, ordering_then, match_ordering}
-use Rattle.std.specs.Cmp.{IsTotalOrder, ranked, then_total, on_total, nat_cmp_total}
-use Rattle.std.specs.Cmp.Lexicographic.{slice_cmp, nat_list_cmp_total}
+use Rattle.std.specs.Cmp.{IsTotalOrder, IsEquivalence, ranked, then_total, on_total, nat_cmp_total, and_equiv, on_equiv, nat_eq_equiv}
+use Rattle.std.specs.Cmp.Lexicographic.{slice_cmp, pointwise, nat_list_cmp_total, nat_list_eq_equiv}
 use Rattle.std.specs.BTreeSet.{BTreeSet, IsOrdered, IsUnchanged, contains, insert_key}
+use Rattle.std.specs.HashSet.{HashSet}
+use Rattle.std.specs.HashSet as hashed
+use Rattle.std.specs.Set.{remove_key}
+use Rattle.std.specs.List.{list_any}
+use Rattle.std.specs.List.Sorted.{IsPermutation}
+use Rattle.std.proofs.lemmas.Bool.Decides.{nat_tests}
 use Rattle.std.proofs.lemmas.List.{get_or-map, length-map}
+use Rattle.std.proofs.lemmas.List.Elements.{All-cons}
+use Rattle.std.proofs.lemmas.List.Sorted.{All-permutation}
 use Rattle.std.proofs.lemmas.Map.Keys.{Less-from_sorted}
 use Rattle.std.proofs.lemmas.Map.Lookups.{CmpEqualImpliesEq, exact_pairs, exact_unsigned, exact_bytes}
-use Rattle.std.proofs.lemmas.Map.Views.{btree_set_contains_iff}
+use Rattle.std.proofs.lemmas.Map.Views.{btree_set_contains_iff, All-remove_key, Contains-from_any, list_any-from_Contains}
+use Rattle.list_lemmas.proofs.BoolTests.{both_true}
+use Rattle.short_bytes.specs.Alike.{same_list}
 use Rattle.row_key.specs.declared.tables.Table.TheVariants.{Points}
 use Rattle.cell_model.specs.declared.row.Row.{Row}
 use Rattle.cell_model.specs.declared.answers.Stored.{Stored}
@@ -69,7 +79,7 @@ to_inserted (y ∷ ks) k x c = at (key_cmp k y) refl c (to_inserted ks k x)
     at Greater e (inr is) go = lower.there y x (insert_key key_cmp ks k) (go (inr is))
 
 -- a stored point row is that of its key
-same_stored : (s : Stored) → s.row.table ≡ Points → stored_of (s.base, s.row.bytes) ≡ s
+pub same_stored : (s : Stored) → s.row.table ≡ Points → stored_of (s.base, s.row.bytes) ≡ s
 same_stored s points i = record { row = record { table = sym points i; bytes = s.row.bytes }; base = s.base }
 
 key_in : (ks : List Key) (s : Stored) → Contains (map stored_of ks) s → Contains ks (s.base, s.row.bytes)
@@ -108,6 +118,57 @@ was_added old new s added points is keys unchanged = at added (contains key_cmp 
     at true false h e u = record { absent = λ c. let t : contains key_cmp old k ≡ true = there.1 (key_in old.keys s c) in cc; each = each }
     at false true h e u = (stored_in old.keys s points (there.0 h), ap (map stored_of) u)
     at false false h e u = cc
+
+-- ---- rows that are found by their hash
+
+abbrev key_eq : Key → Key → Bool
+key_eq a b = nat_eq a.0 b.0 && pointwise nat_eq a.1 b.1
+
+same_number : (a b : ℕ) → nat_eq a b ≡ true → a ≡ b
+same_number a b e = grind (arith, nat_tests)
+
+same_key : (k j : Key) → key_eq k j ≡ true → k ≡ j
+same_key k j e =
+    let p = both_true _ _ e in
+    let base = same_number k.0 j.0 p.0 in
+    let bytes = same_list k.1 j.1 p.1 in
+    λ i. (base i, bytes i)
+
+keys_equiv : IsEquivalence key_eq
+keys_equiv = and_equiv (on_equiv (λ (k : Key). k.0) nat_eq_equiv) (on_equiv (λ (k : Key). k.1) nat_list_eq_equiv)
+
+-- a row that is found is queued
+pub found_there : (ks known : List Key) (s : Stored) → s.row.table ≡ Points → All (Contains ks) known → list_any (key_eq (s.base, s.row.bytes)) known ≡ true → Contains (map stored_of ks) s
+found_there ks known s points all found = stored_in ks s points (lower.all_in (Contains ks) (s.base, s.row.bytes) known all (Contains-from_any same_key (s.base, s.row.bytes) known found))
+
+pub still_known : (old new : BTreeSet Key) (known : List Key) → IsUnchanged old new → All (Contains old.keys) known → All (Contains new.keys) known
+still_known old new known same all = subst (λ (l : List Key). All (Contains l) known) (sym same) all
+
+-- after an insert into both sets, whether or not there was memory for the second
+pub more_known : {S E : Type 0} (old new : BTreeSet Key) (known after : HashSet Key S) (k copy : Key) (r : Result Bool E) → copy ≡ k → new.keys ≡ insert_key key_cmp old.keys k → IfOk r (hashed.PutsKey known after copy) → OnErr r (hashed.IsUnchanged known after)
+    → All (Contains old.keys) known.keys → All (Contains new.keys) after.keys
+more_known {E = E} old new known after k copy r is keys put same all = at r put same
+  where
+    stay : All (Contains new.keys) known.keys
+    stay = lower.all_of (Contains new.keys) known.keys (λ x c. subst (λ (l : List Key). Contains l x) (sym keys) (to_inserted old.keys k x (inl (lower.all_in (Contains old.keys) x known.keys all c))))
+
+    one : Contains new.keys copy
+    one = subst (λ (l : List Key). Contains l copy) (sym keys) (to_inserted old.keys k copy (inr is))
+
+    at : (r : Result Bool E) → IfOk r (hashed.PutsKey known after copy) → OnErr r (hashed.IsUnchanged known after) → All (Contains new.keys) after.keys
+    at (Ok true) p e = All-permutation (Contains new.keys) (copy ∷ known.keys) after.keys p (All-cons (Contains new.keys) copy known.keys one stay)
+    at (Ok false) p e = subst (All (Contains new.keys)) (sym p) stay
+    at (Err f) p e = subst (All (Contains new.keys)) (sym e) stay
+
+-- after the first is taken out of both
+pub rest_known : {S : Type 0} (ks rest : List Key) (k : Key) (known after : HashSet Key S) → ks ≡ k ∷ rest → All (Contains ks) known.keys → IsPermutation (remove_key (key_eq k) known.keys) after.keys → hashed.contains_by (key_eq k) after ≡ false → All (Contains rest) after.keys
+rest_known ks rest k known after parts all less gone =
+    let were : All (Contains (k ∷ rest)) known.keys = subst (λ (l : List Key). All (Contains l) known.keys) parts all in
+    let kept : All (Contains (k ∷ rest)) after.keys = All-permutation (Contains (k ∷ rest)) (remove_key (key_eq k) known.keys) after.keys less (All-remove_key (key_eq k) (Contains (k ∷ rest)) known.keys were) in
+    lower.all_of (Contains rest) after.keys (λ x c. elim (lower.split k x rest (lower.all_in (Contains (k ∷ rest)) x after.keys kept c)) [
+      | inl same ↦ (let found : list_any (key_eq k) after.keys ≡ true = list_any-from_Contains keys_equiv k after.keys (subst (Contains after.keys) (sym same) c) in cc)
+      | inr later ↦ later
+    ])
 
 -- ---- the first of the queue
 

@@ -3,7 +3,7 @@ ghost use Rattle.std.specs.Prelude.{◌≡◌, ◌∷◌, [], length, IfOk, OnEr
 ghost use Rattle.row_key.specs.declared.tables.Table.TheVariants.{Points};
 ghost use Rattle.cell_model.specs.declared.answers.Stored.{Stored};
 ghost use Rattle.cell_model.specs.declared.row.Row.{Row};
-ghost use Rattle.compactor.specs.Queues.{AddMade, AreQueued};
+ghost use Rattle.compactor.specs.Queues.{AddMade, AreQueued, stored_of};
 ghost use Rattle.compactor.specs.Drains.{IsNextBelow, NoneBelow};
 
 use cell_model::answers::Stored;
@@ -11,7 +11,7 @@ use cell_model::row::Row;
 use qual_codec::Bytes;
 use row_key::Table;
 use std::alloc::{AllocError, Global};
-use std::collections::BTreeSet;
+use std::collections::{BTreeSet, HashSet};
 use std::marker::Model;
 
 /// Point rows that are to be compacted, each once, in order of the second at which their hour begins, and then of their bytes.
@@ -20,10 +20,13 @@ use std::marker::Model;
 #[derive(Drop)]
 pub struct Queue {
     rows: BTreeSet<(u32, Bytes), Global>,
+    // Rows of `rows`, found by their hash: most that are added are there already.
+    known: HashSet<(u32, Bytes)>,
+    alloc: Global,
 }
 
 impl Model for Queue {
-    ghost use Rattle.std.specs.Prelude.{List, map};
+    ghost use Rattle.std.specs.Prelude.{List, map, All, Contains};
     ghost use Rattle.cell_model.specs.declared.answers.Stored.{Stored};
 
     ghost Value = { List Stored };
@@ -32,7 +35,7 @@ impl Model for Queue {
 
     ghost view = { λ q. map stored_of q.rows.keys };
 
-    ghost invariant = { λ q. AreQueued (map stored_of q.rows.keys) };
+    ghost invariant = { λ q. AreQueued (map stored_of q.rows.keys) × All (Contains q.rows.keys) q.known.keys };
 }
 
 impl Queue {
@@ -42,6 +45,8 @@ impl Queue {
     {
         Queue {
             rows: BTreeSet::new(alloc),
+            known: HashSet::new(alloc),
+            alloc,
         }
     }
 
@@ -54,7 +59,23 @@ impl Queue {
         ensures err { OnErr result (self.new ≡ self.old) }
     {
         let Stored { row, base } = stored;
-        let added = self.rows.insert((base, row.bytes))?;
+        let key = (base, row.bytes);
+        if self.known.contains(&key) {
+            return Ok(false);
+        }
+        self.insert(key)
+    }
+
+    /// Adds the row of a base and bytes.
+    fn insert(&mut self, key: (u32, Bytes)) -> Result<bool, AllocError>
+        ensures ok { IfOk result (λ added. AddMade self.old (stored_of key) added self.new) }
+        ensures rising { AreQueued self.new }
+        ensures err { OnErr result (self.new ≡ self.old) }
+    {
+        let copy = (key.0, key.1.again(self.alloc)?);
+        let added = self.rows.insert(key)?;
+        // Where there is no memory for it, it is searched for in `rows` the next time.
+        let _ = self.known.insert(copy);
         Ok(added)
     }
 
@@ -71,7 +92,9 @@ impl Queue {
         ensures first { MatchOption result ((self.old ≡ []) × (self.new ≡ [])) (λ first. self.old ≡ first ∷ self.new) }
         ensures rising { AreQueued self.old }
     {
-        let (base, bytes) = self.rows.pop_first()?;
+        let key = self.rows.pop_first()?;
+        let _ = self.known.remove(&key);
+        let (base, bytes) = key;
         Some(Stored {
             row: Row {
                 table: Table::Points,
