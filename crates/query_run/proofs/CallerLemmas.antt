@@ -1,7 +1,6 @@
 -- What a caller's proof cites of queries.
-use Rattle.std.proofs.Common.{◌≡◌, ℕ, refl, sym, subst}
+use Rattle.std.proofs.Common.{sym, subst}
 use Rattle.std.specs.Prelude.{Result, Ok, Err}
-use Rattle.cell_model.specs.declared.events.Placed.{Placed}
 use Rattle.cell_model.specs.Seen.{Seen, InEach}
 use Rattle.cell_model.specs.Deeds.{Since}
 use Rattle.json_reply.specs.declared.reply.Reply.{Reply}
@@ -12,23 +11,29 @@ use Rattle.query_run.specs.AskedQueries.{QuerySays, QueryAsked, plain_result}
 
 -- what is said of a query by what its caller saw before and after it holds of each history that is possible then
 pub query_asked : (q : Query) (old new : Seen) (result : Result Reply AskFault) → QuerySays q old result new → Since old new × InEach new (λ h. QueryAsked h old.caller old.length q (plain_result result) new.length)
-query_asked q old new (Ok reply) says = says.made.since, λ h lawful fits. record {
-  parts = says.parts;
-  made = says.made.made h fits;
-  steps = subst AreQuerySteps (sym (says.made.made h fits)) says.steps;
-  answers = says.answers h lawful fits;
-}
-query_asked q old new (Err fault) says = says.made.since, λ h lawful fits. record {
-  done = says.done;
-  sub = says.sub;
-  rest = says.rest;
-  cut = says.cut;
-  parts = says.parts;
-  part = says.part;
-  groups = says.groups;
-  made = says.made.made h fits;
-  steps = subst AreQuerySteps (sym (says.made.made h fits)) says.steps;
-  before = says.before h lawful fits;
-  cause = says.cause h lawful fits;
-  few = says.few h lawful fits;
-}
+query_asked q old new (Ok reply) says = (
+  says.made.since,
+  λ h lawful fits. record {
+    parts = says.parts;
+    made = says.made.made h fits;
+    steps = subst AreQuerySteps (sym (says.made.made h fits)) says.steps;
+    answers = says.answers h lawful fits;
+  },
+)
+query_asked q old new (Err fault) says = (
+  says.made.since,
+  λ h lawful fits. record {
+    done = says.done;
+    sub = says.sub;
+    rest = says.rest;
+    cut = says.cut;
+    parts = says.parts;
+    part = says.part;
+    groups = says.groups;
+    made = says.made.made h fits;
+    steps = subst AreQuerySteps (sym (says.made.made h fits)) says.steps;
+    before = says.before h lawful fits;
+    cause = says.cause h lawful fits;
+    few = says.few h lawful fits;
+  },
+)
