@@ -1,4 +1,4 @@
 mod Answering
 mod Bodies
-mod Moments
+mod CallMoments
 mod QueryTellings

@@ -1,6 +1,6 @@
 use Rattle.std.proofs.Common.{rules, ◌≡◌, ◌∙◌, sym}
 use Rattle.http_api.specs.CallWork.{asks_clock}
-use Rattle.http_api.proofs.Moments.{work_alike}
+use Rattle.http_api.proofs.CallMoments.{work_alike}
 use Rattle.http_api.proofs.call_task.asks_clock.Goals as goal
 
 pub returns-then-is_none-clause-alike : goal.returns-then-is_none-clause-alike

@@ -1,4 +1,4 @@
-use Rattle.std.proofs.Common.{◌≡◌, List, ℕ, map, refl, sym, subst, Result, Ok}
+use Rattle.std.proofs.Common.{List, ℕ, map, refl, sym, subst, Result}
 use Rattle.http_reply.specs.ReplyBytes.{reply_bytes}
 use Rattle.http_reply.specs.declared.reply_status.Status.TheVariants as status
 use Rattle.json_reply.specs.Replies.{plain, text_of}
