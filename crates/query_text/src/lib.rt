@@ -14,5 +14,3 @@ pub mod queries;
 mod query_faults;
 mod query_parts;
 pub mod subs;
-#[cfg(test)]
-mod tests;

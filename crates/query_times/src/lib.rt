@@ -3,6 +3,4 @@
 
 pub mod civil_dates;
 pub mod query_times;
-#[cfg(test)]
-mod tests;
 pub mod time_units;
