@@ -1,0 +1,10 @@
+//! What an operator decides, as functions that are kept beside the fact of what they answer.
+#![tactic(auto)]
+
+pub mod name_patterns;
+#[cfg(test)]
+mod tests;
+pub mod uid_rule;
+
+pub use name_patterns::Patterns;
+pub use uid_rule::UidRule;
