@@ -1,6 +1,6 @@
 -- The answer of a query over stored points.
 use Rattle.std.proofs.Common.{◌≡◌, ◌⊎◌, inl, inr, ⊎_elim, ℕ, ℤ, zero, suc, ◌-◌, Bool, true, false, List, [], ◌∷◌, ◌++◌, length, refl, sym, ap, subst, ◌∙◌, arith, append-nil}
-use Rattle.std.specs.Prelude.{◌≢◌, ◌&&◌, if◌then◌else◌, Option, None, Some, Result, Ok, Err, IfOk, IsOk, IsTrue, Contains, find, is_some, map, nat_le, not, option_and_then, option_map, slice_index_or}
+use Rattle.std.specs.Prelude.{◌≢◌, ◌&&◌, if◌then◌else◌, Option, None, Some, Result, Ok, Err, IsTrue, Contains, find, is_some, map, nat_le, not, option_and_then, option_map, slice_index_or}
 use Rattle.std.specs.List.{flat_map, list_any}
 use Rattle.std.proofs.lemmas.Bool.{and_parts}
 use Rattle.tsd_base.specs.Alphabet.{IsName}

@@ -11,6 +11,7 @@ use Rattle.tsd_base.specs.Alphabet.{IsName}
 use Rattle.tsd_base.specs.TagList.{Pair, is_same}
 use Rattle.tsd_base.specs.declared.kinds.Kind.{Kind}
 use Rattle.tsd_base.specs.declared.kinds.Kind.TheVariants.{Metric, TagKey, TagValue}
+use Rattle.tsd_hooks.specs.declared.name_patterns.Patterns.{Patterns}
 use Rattle.cell_model.specs.declared.answers.Bumped.TheVariants.{Given, Full}
 use Rattle.cell_model.specs.declared.answers.Claimed.{Claimed}
 use Rattle.cell_model.specs.declared.answers.Claimed.TheVariants.{Done, Held}
@@ -29,12 +30,13 @@ use Rattle.cell_model.specs.Seen.{Seen}
 use Rattle.cell_model.specs.Store.{place_of, value_at}
 use Rattle.uid_table.specs.declared.id_answers.Assigned.{Assigned}
 use Rattle.uid_table.specs.declared.id_answers.Assigned.TheVariants.{Fresh, Existing, Lost}
-use Rattle.uid_table.specs.declared.id_answers.AssignFault.TheVariants.{Exhausted}
+use Rattle.uid_table.specs.declared.id_answers.AssignFault.TheVariants.{Exhausted, Filtered}
 use Rattle.uid_table.specs.IdAnswers.{answered_id}
 use Rattle.uid_table.specs.Shown.{HasShown}
 use Rattle.uid_table.specs.IdSteps.{MadeSo, AssignMade, LookedOrKept, DidLook, DidBump, DidReverse, DidForward}
 use Rattle.batch_job.specs.NotedIds.{Names, id_in, list_of, with_list, with_listed, noted_all, and_then_noted}
 use Rattle.cell_model.specs.Layout.{tag_names}
+use Rattle.batch_job.specs.OpenRules.{AllowsAll}
 use Rattle.batch_job.specs.Storing.{HasIds, IsNaming, IsNumbered, IsUnmerged, Notes, WasPut}
 use Rattle.batch_job.proofs.LastPoints.{same_bytes}
 use Rattle.batch_job.proofs.Entering.{PutNothing, bump_keeps, claim_keeps, looked, no_counter_row, nothing_by, nothing_more, nothing_nil, put_nothing, quals_differ, read_keeps, rows_differ, tables_differ, unmerged_follow}
@@ -292,11 +294,11 @@ module _ (old new : Seen) (kind : Kind) (name : List ℕ) (is_name : IsName name
   lost wasted id r b n f made look bumped reversed forwarded =
       at_some (r ∷ b ∷ n ∷ f ∷ []) made (λ h lawful num. not_held h r b n f kind name wasted (Held (id_bytes id)) names is_name lawful look bumped reversed forwarded num (id_bytes id) refl)
 
-  assigned : (a : Assigned) → MadeSo old (AssignMade kind name (Ok a)) new → HasShown new kind name (answered_id a) → Noted
-  assigned (Existing id) (list, made, kept) shown = existing id list made kept shown
-  assigned (Fresh id) (list, made, (d, rest, list_is, look, gave)) shown =
+  assigned : (patterns : Patterns) (a : Assigned) → MadeSo old (AssignMade patterns kind name (Ok a)) new → HasShown new kind name (answered_id a) → Noted
+  assigned patterns (Existing id) (list, made, kept) shown = existing id list made kept shown
+  assigned patterns (Fresh id) (list, made, (d, rest, list_is, look, (admitted, gave))) shown =
       given_new id d gave.bump gave.reverse gave.forward (cut list (d ∷ gave.bump ∷ gave.reverse ∷ gave.forward ∷ []) (list_is ∙ ap (λ xs. d ∷ xs) gave.list_is) made) look gave.bumped gave.reversed gave.forwarded shown.is_id
-  assigned (Lost wasted id) (list, made, (d, rest, list_is, look, gave)) shown =
+  assigned patterns (Lost wasted id) (list, made, (d, rest, list_is, look, (admitted, gave))) shown =
       absurd (lost wasted id d gave.bump gave.reverse gave.forward (cut list (d ∷ gave.bump ∷ gave.reverse ∷ gave.forward ∷ []) (list_is ∙ ap (λ xs. d ∷ xs) gave.list_is) made) look gave.bumped gave.reversed gave.forwarded)
 
   -- the counter was full
@@ -307,8 +309,8 @@ module _ (old new : Seen) (kind : Kind) (name : List ℕ) (is_name : IsName name
       at true e = cc
       at false e = refl
 
-  exhausted : (k : Kind) → MadeSo old (AssignMade kind name (Err (Exhausted k))) new → noted_all names ((kind, name) ∷ []) ≡ Err k
-  exhausted k (list, made, (d, rest, list_is, look, (same, (b, rest_is, bumped)))) =
+  exhausted : (patterns : Patterns) (k : Kind) → MadeSo old (AssignMade patterns kind name (Err (Exhausted k))) new → noted_all names ((kind, name) ∷ []) ≡ Err k
+  exhausted patterns k (list, made, (d, rest, list_is, look, (admitted, (same, (b, rest_is, bumped))))) =
       at_some (d ∷ b ∷ []) (cut list (d ∷ b ∷ []) (list_is ∙ ap (λ xs. d ∷ xs) rest_is) made) (λ h lawful n.
       let h1 : History = Then h d.entry in
       let unknown : is_some (id_in (list_of names kind) name) ≡ false = ap is_some (sym (n.ids kind name is_name) ∙ ap (option_and_then id_number) (looked h d kind name None lawful.0.2 look)) in
@@ -317,11 +319,15 @@ module _ (old new : Seen) (kind : Kind) (name : List ℕ) (is_name : IsName name
       one_full names kind name unknown (ap (λ n. nat_lt n MOST_IDS) (sym counter) ∙ full) ∙ ap Err (sym same))
 
 -- what an assignment notes
-pub assign_notes : (old new : Seen) (kind : Kind) (name : List ℕ) → IsName name → (a : Assigned) → MadeSo old (AssignMade kind name (Ok a)) new → HasShown new kind name (answered_id a) → Notes old ((kind, name) ∷ []) None new
-assign_notes old new kind name is_name a made shown = λ names naming. assigned old new kind name is_name names naming a made shown
+pub assign_notes : (patterns : Patterns) (old new : Seen) (kind : Kind) (name : List ℕ) → IsName name → (a : Assigned) → MadeSo old (AssignMade patterns kind name (Ok a)) new → HasShown new kind name (answered_id a) → Notes old ((kind, name) ∷ []) None new
+assign_notes patterns old new kind name is_name a made shown = λ names naming. assigned old new kind name is_name names naming patterns a made shown
 
-pub assign_full : (old new : Seen) (kind : Kind) (name : List ℕ) → IsName name → (k : Kind) → MadeSo old (AssignMade kind name (Err (Exhausted k))) new → Notes old ((kind, name) ∷ []) (Some k) new
-assign_full old new kind name is_name k made = λ names naming. exhausted old new kind name is_name names naming k made
+pub assign_full : (patterns : Patterns) (old new : Seen) (kind : Kind) (name : List ℕ) → IsName name → (k : Kind) → MadeSo old (AssignMade patterns kind name (Err (Exhausted k))) new → Notes old ((kind, name) ∷ []) (Some k) new
+assign_full patterns old new kind name is_name k made = λ names naming. exhausted old new kind name is_name names naming patterns k made
+
+-- where each name is allowed none is filtered
+pub never_filtered : (patterns : Patterns) (old new : Seen) (kind : Kind) (name : List ℕ) → AllowsAll patterns → (k : Kind) → MadeSo old (AssignMade patterns kind name (Err (Filtered k))) new → ⊥
+never_filtered patterns old new kind name all k (list, made, (d, rest, list_is, look, (same, off, none))) = true≢false (sym (all.allows kind name) ∙ off)
 
 -- ---- names one after the other
 pub notes_none : (s : Seen) → Notes s [] None s

@@ -1,6 +1,7 @@
 -- Putting points whose names have ids.
 use Rattle.std.proofs.Common.{◌≡◌, ◌⊎◌, inl, inr, ⊎_elim, ℕ, ℤ, Bool, List, [], ◌∷◌, ◌++◌, refl, sym, ap, subst, ◌∙◌}
 use Rattle.std.specs.Prelude.{◌↔◌, None, Some, Ok, Err, Contains, option_and_then}
+use Rattle.std.proofs.lemmas.Bool.{true≢false}
 use Rattle.std.proofs.lemmas.List.Elements.{Contains-append_cases, Contains-append_left, Contains-append_right}
 use Rattle.tsd_base.specs.declared.kinds.Kind.{Kind}
 use Rattle.tsd_base.specs.Points.{DataPoint}
@@ -19,13 +20,15 @@ use Rattle.cell_model.specs.Lawful.{IsLawful}
 use Rattle.cell_model.specs.Machine.{kind_qual}
 use Rattle.cell_model.specs.Seen.{Seen, Fits}
 use Rattle.cell_model.specs.Store.{Store, value_at}
-use Rattle.point_put.specs.declared.config.Config.{Config}
-use Rattle.point_put.specs.declared.fault.PutFault.TheVariants.{Exhausted}
+use Rattle.point_put.specs.Admissions.{Admission}
+use Rattle.point_put.specs.declared.fault.PutFault.{PutFault}
+use Rattle.point_put.specs.declared.fault.PutFault.TheVariants.{Exhausted, Filtered}
 use Rattle.point_put.specs.Entries.{ForName, ForNames}
 use Rattle.point_put.specs.Entries.ForName.{none, look, full, bump, reverse, forward}
 use Rattle.point_put.specs.Entries.ForNames.{nil, more}
 use Rattle.point_put.specs.PutPoint.{DidPut, PutSays, WasStored as PutSo}
 use Rattle.uid_table.specs.IdSteps.{DidLook}
+use Rattle.batch_job.specs.OpenRules.{AllowsAll}
 use Rattle.batch_job.specs.PendingPuts.{Adds, AddsSome, AreResolved, points_in}
 use Rattle.batch_job.specs.Storing.{IsAlone, IsUnmerged, Puts, WasPut}
 use Rattle.batch_job.proofs.Entering.{Ids_Points, PutNothing, looked, nothing_by, put_before, put_keeps, put_last, put_nothing, puts_stay, read_keeps, rows_differ, tables_differ, unmerged_follow, unmerged_then}
@@ -62,7 +65,7 @@ lawful_front h [] l = l
 lawful_front h (d ∷ list) l = (lawful_front (Then h d.entry) list l).0
 
 -- ---- the entries for names that have ids
-module _ (c : Config) where
+module _ (c : Admission) where
   abbrev HasId : History → Kind → List ℕ → Type 0
   HasId h kind name = (id : ℕ) × (id_of h kind name ≡ Some id)
 
@@ -87,7 +90,7 @@ module _ (c : Config) where
       (names_read (follow h part) rest (λ n has. let found = res n (Contains-append_right ((kind, name) ∷ []) names n has) in (found.0, ap (λ (s : Store). option_and_then id_number (value_at s (name_row n.1) (kind_qual n.0))) same ∙ found.1)) lawful)
 
 -- ---- one point
-module _ (old new : Seen) (c : Config) (point : DataPoint) (resolved : AreResolved old (names_of point)) where
+module _ (old new : Seen) (c : Admission) (point : DataPoint) (resolved : AreResolved old (names_of point)) where
   module _ (list : List Placed) (made : Made old list new) (h : History) (lawful : IsLawful h) (fits : Fits new h) where
     w : Went old list new h
     w = went old new list h made resolved.by lawful fits
@@ -148,9 +151,19 @@ module _ (old new : Seen) (c : Config) (point : DataPoint) (resolved : AreResolv
     unmerged = λ h lawful fits. unmerged_one list made h lawful fits stored (asked h lawful fits);
   }
 
+  -- where each name is allowed none is filtered
+  not_filtered : AllowsAll c.patterns → (kind : Kind) (name : List ℕ) → PutSays c point old (Err (Filtered kind name)) new → ⊥
+  not_filtered all kind name (list, made, asked) =
+      let p = made.since.lives resolved.by.possible in
+      let x = asked p.history p.lawful p.fits in
+      true≢false (sym (all.allows kind name) ∙ x.1.1)
+
+  pub never_filtered : AllowsAll c.patterns → (fault : PutFault) (kind : Kind) (name : List ℕ) → fault ≡ Filtered kind name → PutSays c point old (Err fault) new → ⊥
+  never_filtered all fault kind name is says = not_filtered all kind name (subst (λ (f : PutFault). PutSays c point old (Err f) new) is says)
+
   -- all names have ids, so no counter is asked
-  pub never_exhausted : (kind : Kind) → PutSays c point old (Err (Exhausted kind)) new → ⊥
-  never_exhausted kind (list, made, asked) =
+  not_exhausted : (kind : Kind) → PutSays c point old (Err (Exhausted kind)) new → ⊥
+  not_exhausted kind (list, made, asked) =
       let p = made.since.lives resolved.by.possible in
       let x = asked p.history p.lawful p.fits in
       let reads = refused list made p.history p.lawful p.fits x.0 in
@@ -160,6 +173,9 @@ module _ (old new : Seen) (c : Config) (point : DataPoint) (resolved : AreResolv
     where
       not_a_bump : (row : Row) (kind : Kind) → Read row ≡ Bump kind → ⊥
       not_a_bump row kind e = cc
+
+  pub never_exhausted : (fault : PutFault) (kind : Kind) → fault ≡ Exhausted kind → PutSays c point old (Err fault) new → ⊥
+  never_exhausted fault kind is says = not_exhausted kind (subst (λ (f : PutFault). PutSays c point old (Err f) new) is says)
 
 -- ---- point after point
 pub adds_none : (s : Seen) → IsAlone s → AddsSome s (Contains []) s

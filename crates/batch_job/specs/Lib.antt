@@ -1,3 +1,4 @@
+pub mod OpenRules
 pub mod PendingIds
 pub mod NotedIds
 pub mod SeriesValues

@@ -6,6 +6,7 @@ ghost use Rattle.query_run.specs.AskFaults.{is_stop};
 ghost use Rattle.query_text.specs.declared.queries.Sub.{Sub};
 ghost use Rattle.tsd_base.specs.Points.{DataPoint};
 ghost use Rattle.batch_job.specs.JobAnswers.{CanAsk, GivesAnswer, answered};
+ghost use Rattle.batch_job.specs.OpenRules.{AllowsAll};
 ghost use Rattle.batch_job.specs.Pending.{Gathers, so_far};
 ghost use Rattle.batch_job.specs.Storing.{IsStored};
 
@@ -17,19 +18,22 @@ use query_run::laws::answer_is_unordered;
 use query_run::{AskFault, ask};
 use query_text::queries::Query;
 use std::alloc::Global;
+use tsd_hooks::UidRule;
 use uid_table::Uids;
 
 /// Answers a query of one sub query over the points that were read: they are put into the store that has the ids of
-/// their names, and the query is asked there.
+/// their names, and the query is asked there. The rule for new names is one that allows each of them.
 ///
 /// The first fault is told, want of memory and a stop where they come.
 pub fn answer<R: Rows + Drop>(
     alloc: Global,
     query: &Query,
     store: &mut Uids<R>,
+    rule: &UidRule,
     gathered: Gathered,
 ) -> Result<Reply, AskFault>
     requires can { CanAsk query.now }
+    requires allows { AllowsAll rule.now.patterns }
     requires gathers { (points : List DataPoint) × Gathers points (so_far (R.seen store.old) gathered) }
     ensures answers { (s : Sub) (points : List DataPoint) → query.now.subs ≡ s ∷ [] → Gathers points (so_far (R.seen store.old) gathered) → GivesAnswer result (answered query.now s points) }
     ensures ready { IfOk result (λ reply. All IsReady reply.groups.items) }
@@ -38,7 +42,7 @@ pub fn answer<R: Rows + Drop>(
     let Gathered { series } = gathered;
     // For the proof: no two series are the same.
     let _ = series.iter();
-    put_all(alloc, store, series)?;
+    put_all(alloc, store, rule, series)?;
     answer_from(alloc, query, store)
 }
 

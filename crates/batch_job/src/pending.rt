@@ -4,6 +4,7 @@ ghost use Rattle.std.specs.HashMap.{get};
 ghost use Rattle.tsd_base.specs.Points.{data_point};
 ghost use Rattle.cell_model.specs.Seen.{Seen};
 ghost use Rattle.cell_model.specs.Stops.{CountsStops, is_stop};
+ghost use Rattle.batch_job.specs.OpenRules.{AllowsAll};
 ghost use Rattle.batch_job.specs.Pending.{Gathers, AddsPoint, so_far};
 ghost use Rattle.batch_job.specs.PendingIds.{no_names};
 ghost use Rattle.batch_job.specs.SeriesValues.{Series, is_same_series};
@@ -19,6 +20,7 @@ use tsd_base::kinds::Kind;
 use tsd_base::names::Name;
 use tsd_base::points::Point;
 use tsd_base::tags::Tags;
+use tsd_hooks::UidRule;
 use uid_table::Uids;
 
 /// The points that were read so far. The names in them have their ids in a store.
@@ -39,13 +41,15 @@ impl Gathered {
     }
 
     /// Reads one more point. The answer is a kind that has no id left for one of the point's names: that of the
-    /// first such name.
+    /// first such name. The rule for new names is one that allows each of them.
     pub fn add<R: Rows + Drop>(
         &mut self,
         alloc: Global,
         store: &mut Uids<R>,
+        rule: &UidRule,
         point: Point,
     ) -> Result<Option<Kind>, RowsFault>
+        requires allows { AllowsAll rule.now.patterns }
         ensures adds { IfOk result (λ full. AddsPoint (so_far (R.seen store.old) self.old) (data_point point) full (so_far (R.seen store.new) self.new)) }
         ensures stops { CountsStops is_stop result (R.stops store.old) (R.stops store.new) }
     {
@@ -66,7 +70,7 @@ impl Gathered {
             };
             return Ok(None);
         }
-        if let Some(kind) = note_series(alloc, store, &series.0.0, &series.0.1)? {
+        if let Some(kind) = note_series(alloc, store, rule, &series.0.0, &series.0.1)? {
             return Ok(Some(kind));
         }
         let Ok(()) = begin(alloc, &mut self.series, series, time, value) else {

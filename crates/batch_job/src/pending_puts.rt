@@ -4,6 +4,7 @@ ghost use Rattle.cell_model.specs.Layout.{names_of};
 ghost use Rattle.cell_model.specs.Stops.{CountsStops, is_stop};
 ghost use Rattle.tsd_base.specs.Moments.{IsTime};
 ghost use Rattle.tsd_base.specs.Points.{data_point};
+ghost use Rattle.batch_job.specs.OpenRules.{AllowsAll};
 ghost use Rattle.batch_job.specs.PendingPuts.{Adds, AreResolved, MayPut, PutsAll, points_in};
 ghost use Rattle.batch_job.specs.Storing.{IsAlone};
 
@@ -17,6 +18,7 @@ use std::collections::HashMap;
 use tsd_base::names::Name;
 use tsd_base::points::Point;
 use tsd_base::tags::Tags;
+use tsd_hooks::UidRule;
 use uid_table::Uids;
 
 /// Names of each kind are given ids, which all of them have already.
@@ -26,12 +28,14 @@ const ALL_KINDS: Config = Config {
     auto_tag_value: true,
 };
 
-/// Puts the points of all series: of each series at each time in each form the last value.
+/// Puts the points of all series: of each series at each time in each form the last value. The rule is one that allows each name.
 pub fn put_all<R: Rows + Drop>(
     alloc: Global,
     store: &mut Uids<R>,
+    rule: &UidRule,
     series: HashMap<((Name, Tags), bool), Values>,
 ) -> Result<(), RowsFault>
+    requires allows { AllowsAll rule.now.patterns }
     requires by { IsAlone (R.seen store.old) }
     requires may { All (MayPut (R.seen store.old)) series.entries }
     ensures puts { OnOk result (PutsAll (R.seen store.old) series.entries (R.seen store.new)) }
@@ -39,7 +43,7 @@ pub fn put_all<R: Rows + Drop>(
 {
     for (name, values) in series {
         let ((metric, tags), fine) = name;
-        put_series(alloc, store, metric, tags, fine, &values)?;
+        put_series(alloc, store, rule, metric, tags, fine, &values)?;
     }
     Ok(())
 }
@@ -48,11 +52,13 @@ pub fn put_all<R: Rows + Drop>(
 fn put_series<R: Rows + Drop>(
     alloc: Global,
     store: &mut Uids<R>,
+    rule: &UidRule,
     metric: Name,
     tags: Tags,
     fine: bool,
     values: &Values,
 ) -> Result<(), RowsFault>
+    requires allows { AllowsAll rule.now.patterns }
     requires may { MayPut (R.seen store.old) (((metric, tags), fine), values.now) }
     ensures puts { OnOk result (PutsAll (R.seen store.old) ((((metric, tags), fine), values.now) ∷ []) (R.seen store.new)) }
     ensures stops { CountsStops is_stop result (R.stops store.old) (R.stops store.new) }
@@ -69,7 +75,7 @@ fn put_series<R: Rows + Drop>(
     };
     for &(time, value) in dots.list() {
         set(&mut point, time, value);
-        put_point(alloc, store, &point)?;
+        put_point(alloc, store, rule, &point)?;
     }
     Ok(())
 }
@@ -92,15 +98,18 @@ fn set(point: &mut Point, time: u64, value: i64)
 fn put_point<R: Rows + Drop>(
     alloc: Global,
     store: &mut Uids<R>,
+    rule: &UidRule,
     point: &Point,
 ) -> Result<(), RowsFault>
+    requires allows { AllowsAll rule.now.patterns }
     requires resolved { AreResolved (R.seen store.old) (names_of (data_point point.now)) }
     ensures adds { OnOk result (Adds (R.seen store.old) (data_point point.now ∷ []) (R.seen store.new)) }
     ensures stops { CountsStops is_stop result (R.stops store.old) (R.stops store.new) }
 {
-    match put(alloc, store, &ALL_KINDS, point) {
+    match put(alloc, store, rule, &ALL_KINDS, point) {
         Ok(_) => Ok(()),
         Err(PutFault::Unknown { .. }) => unreachable!(),
+        Err(PutFault::Filtered { .. }) => unreachable!(),
         Err(PutFault::Exhausted { .. }) => unreachable!(),
         Err(PutFault::OutOfMemory) => Err(RowsFault::OutOfMemory),
         Err(PutFault::Stopped) => Err(RowsFault::Stopped),

@@ -10,12 +10,22 @@ pub struct Batch<'a> {
     pub ms: bool,
 }
 
-/// What `stdio` is asked: of which kinds names that have no id are given one.
+/// The texts with which the names of each kind that have no id must begin to be given one. Of a kind without a text each
+/// name is allowed.
 #[derive(Clone, Copy, Drop)]
-pub struct Stdio {
+pub struct PatternTexts<'a> {
+    pub metric: Option<&'a [u8]>,
+    pub tag_key: Option<&'a [u8]>,
+    pub tag_value: Option<&'a [u8]>,
+}
+
+/// What `stdio` is asked: of which kinds names that have no id are given one, and how these must begin.
+#[derive(Clone, Copy, Drop)]
+pub struct Stdio<'a> {
     pub auto_metric: bool,
     pub auto_tag_key: bool,
     pub auto_tag_value: bool,
+    pub patterns: PatternTexts<'a>,
 }
 
 /// What words ask for.
@@ -24,5 +34,5 @@ pub enum Asked<'a> {
     /// The answer of a query over points.
     Batch { batch: Batch<'a> },
     /// One connection, over the input and the output.
-    Stdio { stdio: Stdio },
+    Stdio { stdio: Stdio<'a> },
 }

@@ -1,3 +1,6 @@
+ghost use Rattle.std.specs.Prelude.{◌≡◌};
+ghost use Rattle.tsd_hooks.specs.AllowedNames.{allowed};
+
 use crate::fused::Fused;
 use cell_model::Listing;
 use cell_solo::Solo;
@@ -6,6 +9,7 @@ use std::alloc::{AllocError, Global};
 use std::test::Fail;
 use tsd_base::kinds::Kind;
 use tsd_base::names::Name;
+use tsd_hooks::{Patterns, UidRule};
 use tsd_io::halt::MemHalt;
 use uid_table::{AssignFault, Assigned, Uids};
 
@@ -24,6 +28,15 @@ fn names(alloc: Global, refused: &[u64]) -> Result<Names, AllocError> {
 
 #[test]
 fn stopped_assignments(rt: HostRuntime) -> Result<(), Fail> {
+    let patterns = Patterns::none();
+    let kept = patterns.again(rt.alloc())?;
+    let test = Box::new(
+        rt.alloc(),
+        move |kind: Kind, name: &Name|
+            ensures { result ≡ allowed patterns kind name.now }
+        { patterns.allow(kind, name) },
+    )?;
+    let rule = UidRule::keep(kept, test);
     let stopped = Err(AssignFault::Stopped);
     // The step that is refused, what two assignments of one name answer, and the entries after them, the opening's too.
     let cases = [
@@ -42,7 +55,10 @@ fn stopped_assignments(rt: HostRuntime) -> Result<(), Fail> {
         let mut names = names(rt.alloc(), &[step])?;
         for assigned in [first, second] {
             let name = Name::read(rt.alloc(), b"m")?;
-            assert_eq!(rt; names.assign(rt.alloc(), Kind::Metric, &name), assigned);
+            assert_eq!(rt;
+                names.assign(rt.alloc(), &rule, Kind::Metric, &name),
+                assigned
+            );
         }
         let (rows, _halt) = names.part().part();
         assert_eq!(rt; rows.entries(1), entries);

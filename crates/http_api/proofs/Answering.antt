@@ -13,7 +13,7 @@ use Rattle.cell_model.specs.History.{History}
 use Rattle.cell_model.specs.Deeds.{Since, deeds}
 use Rattle.cell_laws.proofs.CallerLemmas.{nothing_made}
 use Rattle.compactor.proofs.CallerLemmas.{rows_none}
-use Rattle.point_put.specs.declared.config.Config.{Config}
+use Rattle.point_put.specs.Admissions.{Admission}
 use Rattle.queued_put.specs.PutRows.{MayHaveRows}
 use Rattle.queued_put.proofs.CallerLemmas.{may_have}
 use Rattle.http_put.specs.PutElements.{ElementsBegun, ElementsPut, Outcome}
@@ -42,14 +42,14 @@ none_since old new h since f = ap (λ n. deeds h n new.length new.length) (sym s
 
 -- ---- nothing was done
 
-pub nothing : (c : Config) (work : Work) (s : Seen) (queue : List Stored) → WorkBroken c work s queue s queue
+pub nothing : (c : Admission) (work : Work) (s : Seen) (queue : List Stored) → WorkBroken c work s queue s queue
 nothing c work s queue = record {
   since = (nothing_made s).since;
   begun = λ h l f. inl ((nothing_made s).made h f);
   rows = λ h l f. may_have queue [] queue (deeds h s.caller s.length s.length) (rows_none queue);
 }
 
-pub said : (c : Config) (status : Status) (body : List ℕ) (closing : Bool) (s : Seen) (queue : List Stored) → WorkReplied c (Says status body) closing s queue (reply_bytes status closing body) s queue
+pub said : (c : Admission) (status : Status) (body : List ℕ) (closing : Bool) (s : Seen) (queue : List Stored) → WorkReplied c (Says status body) closing s queue (reply_bytes status closing body) s queue
 said c status body closing s queue = record {
   stored = [];
   since = (nothing_made s).since;
@@ -59,7 +59,7 @@ said c status body closing s queue = record {
 
 -- ---- elements
 
-pub elements_replied : (c : Config) (flags : PutFlags) (elements : List Data) (closing : Bool) (old new : Seen) (before after : List Stored) (outcomes : List Outcome) → Since old new → ElementsPut c elements old before outcomes new after
+pub elements_replied : (c : Admission) (flags : PutFlags) (elements : List Data) (closing : Bool) (old new : Seen) (before after : List Stored) (outcomes : List Outcome) → Since old new → ElementsPut c elements old before outcomes new after
     → WorkReplied c (Puts flags elements) closing old before (reply_bytes (put_status flags.details flags.summary outcomes) closing (put_body flags.details flags.summary outcomes)) new after
 elements_replied c flags elements closing old new before after outcomes since put = record {
   stored = put.stored;
@@ -72,12 +72,12 @@ elements_replied c flags elements closing old new before after outcomes since pu
   rows = put.rows;
 }
 
-pub elements_broken : (c : Config) (flags : PutFlags) (elements : List Data) (old new : Seen) (before after : List Stored) → Since old new → ElementsBegun c elements old before new after
+pub elements_broken : (c : Admission) (flags : PutFlags) (elements : List Data) (old new : Seen) (before after : List Stored) → Since old new → ElementsBegun c elements old before new after
     → InEach new (λ h. MayHaveRows before [] (deeds h old.caller old.length new.length) after) → WorkBroken c (Puts flags elements) old before new after
 elements_broken c flags elements old new before after since begun rows = record { since = since; begun = λ h l f. inr (begun.stored, begun.begun h l f); rows = rows }
 
 -- all elements were put, and there was no memory for the reply
-ended : (c : Config) (elements : List Data) (old new : Seen) (before after : List Stored) (outcomes : List Outcome) → Since old new → ElementsPut c elements old before outcomes new after → ElementsBegun c elements old before new after
+ended : (c : Admission) (elements : List Data) (old new : Seen) (before after : List Stored) (outcomes : List Outcome) → Since old new → ElementsPut c elements old before outcomes new after → ElementsBegun c elements old before new after
 ended c elements old new before after outcomes since put = record {
   stored = put.stored;
   begun = λ h l f. record {
@@ -93,7 +93,7 @@ ended c elements old new before after outcomes since put = record {
   rows = put.rows;
 }
 
-pub elements_untold : (c : Config) (flags : PutFlags) (elements : List Data) (old new : Seen) (before after : List Stored) (outcomes : List Outcome) → Since old new → ElementsPut c elements old before outcomes new after
+pub elements_untold : (c : Admission) (flags : PutFlags) (elements : List Data) (old new : Seen) (before after : List Stored) (outcomes : List Outcome) → Since old new → ElementsPut c elements old before outcomes new after
     → WorkBroken c (Puts flags elements) old before new after
 elements_untold c flags elements old new before after outcomes since put =
     let begun = ended c elements old new before after outcomes since put in
@@ -115,8 +115,8 @@ same_names r = ap (λ names. of_kind Metric names ++ (of_kind TagKey (texts_in r
 pub as_named : (P : List NameOf → Type 0) (r : AssignRequest) → P (elements_in r.metric r.tagk r.tagv) → P (named_in (assign_lists r))
 as_named P r p = subst P (same_names r) p
 
-pub names_replied : (c : Config) (lists : AssignLists) (closing : Bool) (old new : Seen) (queue : List Stored) (answers : Assignment) → Since old new → HasTexts lists answers
-    → InEach new (λ h. AssignRan h old.caller old.length (named_in lists) (answers_in answers) new.length)
+pub names_replied : (c : Admission) (lists : AssignLists) (closing : Bool) (old new : Seen) (queue : List Stored) (answers : Assignment) → Since old new → HasTexts lists answers
+    → InEach new (λ h. AssignRan c.patterns h old.caller old.length (named_in lists) (answers_in answers) new.length)
     → WorkReplied c (Assigns lists) closing old queue (reply_bytes (assign_status answers) closing (assign_body answers)) new queue
 names_replied c lists closing old new queue answers since texts ran = record {
   stored = [];
@@ -129,7 +129,7 @@ names_replied c lists closing old new queue answers since texts ran = record {
   rows = rows_none queue;
 }
 
-pub names_broken : (c : Config) (lists : AssignLists) (old new : Seen) (queue : List Stored) → Since old new → InEach new (λ h. AssignBegun h old.caller old.length (named_in lists) new.length)
+pub names_broken : (c : Admission) (lists : AssignLists) (old new : Seen) (queue : List Stored) → Since old new → InEach new (λ h. AssignBegun c.patterns h old.caller old.length (named_in lists) new.length)
     → WorkBroken c (Assigns lists) old queue new queue
 names_broken c lists old new queue since begun = record {
   since = since;
@@ -137,8 +137,8 @@ names_broken c lists old new queue since begun = record {
   rows = λ h l f. may_have queue [] queue (deeds h old.caller old.length new.length) (rows_none queue);
 }
 
-pub names_untold : (c : Config) (lists : AssignLists) (old new : Seen) (queue : List Stored) (outcomes : List IdTold) → Since old new
-    → InEach new (λ h. AssignRan h old.caller old.length (named_in lists) outcomes new.length) → WorkBroken c (Assigns lists) old queue new queue
+pub names_untold : (c : Admission) (lists : AssignLists) (old new : Seen) (queue : List Stored) (outcomes : List IdTold) → Since old new
+    → InEach new (λ h. AssignRan c.patterns h old.caller old.length (named_in lists) outcomes new.length) → WorkBroken c (Assigns lists) old queue new queue
 names_untold c lists old new queue outcomes since ran = names_broken c lists old new queue since (λ h l f. record {
   done = named_in lists;
   rest = [];
@@ -152,7 +152,7 @@ names_untold c lists old new queue outcomes since ran = names_broken c lists old
 
 -- ---- suggestions
 
-pub suggestion_replied : (c : Config) (s : Suggestion) (closing : Bool) (old new : Seen) (queue : List Stored) (names : List (List ℕ)) → Since old new
+pub suggestion_replied : (c : Admission) (s : Suggestion) (closing : Bool) (old new : Seen) (queue : List Stored) (names : List (List ℕ)) → Since old new
     → InEach new (λ h. SuggestAsked h old.caller old.length s.kind s.prefix s.max names new.length)
     → WorkReplied c (Suggests s) closing old queue (reply_bytes status.Ok closing (names_text names)) new queue
 suggestion_replied c s closing old new queue names since asked = record {
@@ -162,20 +162,20 @@ suggestion_replied c s closing old new queue names since asked = record {
   rows = rows_none queue;
 }
 
-pub suggestion_broken : (c : Config) (s : Suggestion) (old new : Seen) (queue : List Stored) → Since old new → InEach new (λ h. SuggestBegun h old.caller old.length new.length) → WorkBroken c (Suggests s) old queue new queue
+pub suggestion_broken : (c : Admission) (s : Suggestion) (old new : Seen) (queue : List Stored) → Since old new → InEach new (λ h. SuggestBegun h old.caller old.length new.length) → WorkBroken c (Suggests s) old queue new queue
 suggestion_broken c s old new queue since begun = record {
   since = since;
   begun = λ h l f. inr (begun h l f);
   rows = λ h l f. may_have queue [] queue (deeds h old.caller old.length new.length) (rows_none queue);
 }
 
-pub suggestion_untold : (c : Config) (s : Suggestion) (old new : Seen) (queue : List Stored) (names : List (List ℕ)) → Since old new
+pub suggestion_untold : (c : Admission) (s : Suggestion) (old new : Seen) (queue : List Stored) (names : List (List ℕ)) → Since old new
     → InEach new (λ h. SuggestAsked h old.caller old.length s.kind s.prefix s.max names new.length) → WorkBroken c (Suggests s) old queue new queue
 suggestion_untold c s old new queue names since asked = suggestion_broken c s old new queue since (λ h l f. (asked h l f).looks)
 
 -- ---- queries
 
-pub query_replied : (c : Config) (q : Query) (closing : Bool) (old new : Seen) (queue : List Stored) (result : Result Reply AskFault) (reply : List ℕ) → QuerySays q old result new → IsReplyTo (plain_result result) closing reply
+pub query_replied : (c : Admission) (q : Query) (closing : Bool) (old new : Seen) (queue : List Stored) (result : Result Reply AskFault) (reply : List ℕ) → QuerySays q old result new → IsReplyTo (plain_result result) closing reply
     → WorkReplied c (Asks q) closing old queue reply new queue
 query_replied c q closing old new queue result reply says (t, tells, is) =
     let asked = query_asked q old new result says in
@@ -186,7 +186,7 @@ query_replied c q closing old new queue result reply says (t, tells, is) =
       rows = rows_none queue;
     }
 
-pub query_untold : (c : Config) (q : Query) (old new : Seen) (queue : List Stored) (result : Result Reply AskFault) → QuerySays q old result new → WorkBroken c (Asks q) old queue new queue
+pub query_untold : (c : Admission) (q : Query) (old new : Seen) (queue : List Stored) (result : Result Reply AskFault) → QuerySays q old result new → WorkBroken c (Asks q) old queue new queue
 query_untold c q old new queue result says =
     let asked = query_asked q old new result says in
     record {

@@ -8,7 +8,7 @@ use Rattle.cell_model.specs.IdRows.{NameOf}
 use Rattle.cell_model.specs.Deeds.{deeds, Since}
 use Rattle.cell_model.specs.Seen.{Seen, InEach}
 use Rattle.compactor.specs.Queues.{HasRows}
-use Rattle.point_put.specs.declared.config.Config.{Config}
+use Rattle.point_put.specs.Admissions.{Admission}
 use Rattle.queued_put.specs.PutRows.{MayHaveRows}
 use Rattle.json_reply.specs.ErrorBodies.{error_body}
 use Rattle.json_reply.specs.Replies.{Group, text_of}
@@ -79,19 +79,19 @@ QueryTells (Err fault) t = t ≡ told status.BadRequest (error_body (code_of sta
 
 -- Work was done between two lengths of the history, and so much is told of it; these rows are of the points that were accepted. A fixed answer makes no
 -- entry. Elements and names are asked one after the other, each between two lengths of its own.
-abbrev pub Done : Config → History → ℕ → ℕ → ℕ → Work → Told → List Stored → Type 0
+abbrev pub Done : Admission → History → ℕ → ℕ → ℕ → Work → Told → List Stored → Type 0
 Done c h caller n n2 (Says status body) t stored = (deeds h caller n n2 ≡ []) × (t ≡ told status body) × (stored ≡ [])
 Done c h caller n n2 (Puts flags elements) t stored =
     (outcomes : List Outcome) × PutRan c h caller n elements outcomes stored n2 × (t ≡ told (put_status flags.details flags.summary outcomes) (put_body flags.details flags.summary outcomes))
 Done c h caller n n2 (Assigns lists) t stored =
-    (answers : Assignment) × HasTexts lists answers × AssignRan h caller n (named_in lists) (answers_in answers) n2 × (t ≡ told (assign_status answers) (assign_body answers)) × (stored ≡ [])
+    (answers : Assignment) × HasTexts lists answers × AssignRan c.patterns h caller n (named_in lists) (answers_in answers) n2 × (t ≡ told (assign_status answers) (assign_body answers)) × (stored ≡ [])
 Done c h caller n n2 (Suggests s) t stored =
     (names : List (List ℕ)) × SuggestAsked h caller n s.kind s.prefix s.max names n2 × (t ≡ told status.Ok (names_text names)) × (stored ≡ [])
 Done c h caller n n2 (Asks query) t stored =
     (result : Result (List Group) AskFault) × QueryAsked h caller n query result n2 × QueryTells result t × (stored ≡ [])
 
 -- the reply to work that was done
-pub record WorkAnswered (c : Config) (h : History) (caller n n2 : ℕ) (work : Work) (closing : Bool) (reply : List ℕ) (stored : List Stored) : Type 0 where
+pub record WorkAnswered (c : Admission) (h : History) (caller n n2 : ℕ) (work : Work) (closing : Bool) (reply : List ℕ) (stored : List Stored) : Type 0 where
   pub tells : Told
   pub done : Done c h caller n n2 work tells stored
   pub reply_is : reply ≡ reply_bytes tells.status closing tells.body
@@ -101,42 +101,42 @@ abbrev pub IsReplyTo : Result (List Group) AskFault → Bool → List ℕ → Ty
 IsReplyTo result closing reply = (t : Told) × QueryTells result t × (reply ≡ reply_bytes t.status closing t.body)
 
 -- a call was answered at a moment, between two lengths of the history, with this reply, and these rows are of the points that were accepted
-abbrev pub CallAnswered : Config → History → ℕ → ℕ → ℕ → ℕ → Call → List ℕ → List Stored → Type 0
+abbrev pub CallAnswered : Admission → History → ℕ → ℕ → ℕ → ℕ → Call → List ℕ → List Stored → Type 0
 CallAnswered c h caller n n2 now call reply stored = WorkAnswered c h caller n n2 (work_of now call) call.closing reply stored
 
 -- elements, names or a query were begun between two lengths of the history
-abbrev pub WorkBegun : Config → History → ℕ → ℕ → ℕ → Work → Type 0
+abbrev pub WorkBegun : Admission → History → ℕ → ℕ → ℕ → Work → Type 0
 WorkBegun c h caller n n2 (Says status body) = ⊥
 WorkBegun c h caller n n2 (Puts flags elements) = (stored : List Stored) × PutBegun c h caller n elements stored n2
-WorkBegun c h caller n n2 (Assigns lists) = AssignBegun h caller n (named_in lists) n2
+WorkBegun c h caller n n2 (Assigns lists) = AssignBegun c.patterns h caller n (named_in lists) n2
 WorkBegun c h caller n n2 (Suggests s) = SuggestBegun h caller n n2
 WorkBegun c h caller n n2 (Asks query) = (result : Result (List Group) AskFault) × QueryAsked h caller n query result n2
 
 -- no entry was made, or the work was begun
-abbrev pub BegunAtMost : Config → History → ℕ → ℕ → ℕ → Work → Type 0
+abbrev pub BegunAtMost : Admission → History → ℕ → ℕ → ℕ → Work → Type 0
 BegunAtMost c h caller n n2 work = (deeds h caller n n2 ≡ []) ⊎ WorkBegun c h caller n n2 work
 
 -- a call was begun at a moment, between two lengths of the history
-abbrev pub CallBegun : Config → History → ℕ → ℕ → ℕ → ℕ → Call → Type 0
+abbrev pub CallBegun : Admission → History → ℕ → ℕ → ℕ → ℕ → Call → Type 0
 CallBegun c h caller n n2 now call = BegunAtMost c h caller n n2 (work_of now call)
 
 -- ---- what a caller sees of it
 
 -- work was answered with this reply in each lawful history that fits, and the queue got the rows of the points that were accepted
-pub record WorkReplied (c : Config) (work : Work) (closing : Bool) (old : Seen) (before : List Stored) (reply : List ℕ) (new : Seen) (after : List Stored) : Type 0 where
+pub record WorkReplied (c : Admission) (work : Work) (closing : Bool) (old : Seen) (before : List Stored) (reply : List ℕ) (new : Seen) (after : List Stored) : Type 0 where
   pub stored : List Stored
   pub since : Since old new
   pub answered : InEach new (λ h. WorkAnswered c h old.caller old.length new.length work closing reply stored)
   pub rows : HasRows before stored after
 
-abbrev pub CallReplied : Config → ℕ → Call → Seen → List Stored → List ℕ → Seen → List Stored → Type 0
+abbrev pub CallReplied : Admission → ℕ → Call → Seen → List Stored → List ℕ → Seen → List Stored → Type 0
 CallReplied c now call old before reply new after = WorkReplied c (work_of now call) call.closing old before reply new after
 
 -- work was begun, and the queue may have got rows that its entries put
-pub record WorkBroken (c : Config) (work : Work) (old : Seen) (before : List Stored) (new : Seen) (after : List Stored) : Type 0 where
+pub record WorkBroken (c : Admission) (work : Work) (old : Seen) (before : List Stored) (new : Seen) (after : List Stored) : Type 0 where
   pub since : Since old new
   pub begun : InEach new (λ h. BegunAtMost c h old.caller old.length new.length work)
   pub rows : InEach new (λ h. MayHaveRows before [] (deeds h old.caller old.length new.length) after)
 
-abbrev pub CallBroken : Config → ℕ → Call → Seen → List Stored → Seen → List Stored → Type 0
+abbrev pub CallBroken : Admission → ℕ → Call → Seen → List Stored → Seen → List Stored → Type 0
 CallBroken c now call old before new after = WorkBroken c (work_of now call) old before new after

@@ -2,6 +2,7 @@
 ghost use Rattle.std.specs.Prelude.{◌≡◌, ℕ, List, map, IfOk, IfErr, IsOk, OnErr};
 ghost use Rattle.cell_model.specs.declared.answers.Stored.{Stored};
 ghost use Rattle.point_put.specs.declared.config.Config.{Config};
+ghost use Rattle.point_put.specs.Admissions.{Admission, admission};
 ghost use Rattle.serde_json.specs.View.{view};
 ghost use Rattle.cell_model.specs.Seen.{Seen};
 ghost use Rattle.cell_model.specs.Stops.{CountsStops, is_stop};
@@ -38,30 +39,33 @@ use name_requests::suggest_request::SuggestRequest;
 use point_put::Config;
 use serde_json::Value;
 use std::alloc::{AllocError, Global};
+use tsd_hooks::UidRule;
 use uid_table::uids::Uids;
 
 /// Answers a request with the bytes of its reply, over any rows.
 ///
 /// A refusal is told first: of the head, then of the path, the method, and of what the path's requests read. A put asks its
-/// elements and an assignment its names one after the other; the row of each point that was accepted is added to the queue. `now` is the
-/// moment of the request in milliseconds since 1970, from which a query counts its times; no other request depends on it. It fails for
-/// want of memory, or where the caller was stopped before a step; what was done before stays done.
+/// elements and an assignment its names one after the other, and a new name of either is given an id only where the rule allows it;
+/// the row of each point that was accepted is added to the queue. `now` is the moment of the request in milliseconds since 1970, from
+/// which a query counts its times; no other request depends on it. It fails for want of memory, or where the caller was stopped before
+/// a step; what was done before stays done.
 pub fn answer<R: Rows + Drop>(
     alloc: Global,
     router: &Router<Route>,
     names: &mut Uids<R>,
+    rule: &UidRule,
     config: &Config,
     queue: &mut Queue,
     call: &Call,
     now: u64,
 ) -> Result<Vec<u8>, RowsFault>
     requires { valued router.now ≡ route_table }
-    ensures ok { IfOk result (λ reply. CallReplied config.now now call.now (R.seen names.old) queue.old reply.items (R.seen names.new) queue.new) }
-    ensures err { OnErr result (CallBroken config.now now call.now (R.seen names.old) queue.old (R.seen names.new) queue.new) }
+    ensures ok { IfOk result (λ reply. CallReplied (admission config.now rule.now.patterns) now call.now (R.seen names.old) queue.old reply.items (R.seen names.new) queue.new) }
+    ensures err { OnErr result (CallBroken (admission config.now rule.now.patterns) now call.now (R.seen names.old) queue.old (R.seen names.new) queue.new) }
     ensures stops { CountsStops is_stop result (R.stops names.old) (R.stops names.new) }
 {
     match task_of(alloc, router, call, now) {
-        Ok(task) => perform(alloc, names, config, queue, &task, call.closing),
+        Ok(task) => perform(alloc, names, rule, config, queue, &task, call.closing),
         Err(_) => Err(RowsFault::OutOfMemory),
     }
 }
@@ -70,14 +74,15 @@ pub fn answer<R: Rows + Drop>(
 fn perform<R: Rows + Drop>(
     alloc: Global,
     names: &mut Uids<R>,
+    rule: &UidRule,
     config: &Config,
     queue: &mut Queue,
     task: &Task,
     closing: bool,
 ) -> Result<Vec<u8>, RowsFault>
     requires { (work : Work) × IsTask work task.now }
-    ensures ok { IfOk result (λ reply. (work : Work) → IsTask work task.now → WorkReplied config.now work closing (R.seen names.old) queue.old reply.items (R.seen names.new) queue.new) }
-    ensures err { OnErr result ((work : Work) → IsTask work task.now → WorkBroken config.now work (R.seen names.old) queue.old (R.seen names.new) queue.new) }
+    ensures ok { IfOk result (λ reply. (work : Work) → IsTask work task.now → WorkReplied (admission config.now rule.now.patterns) work closing (R.seen names.old) queue.old reply.items (R.seen names.new) queue.new) }
+    ensures err { OnErr result ((work : Work) → IsTask work task.now → WorkBroken (admission config.now rule.now.patterns) work (R.seen names.old) queue.old (R.seen names.new) queue.new) }
     ensures stops { CountsStops is_stop result (R.stops names.old) (R.stops names.new) }
 {
     match task {
@@ -88,11 +93,11 @@ fn perform<R: Rows + Drop>(
             body,
         } => match elements_of(body) {
             Some(elements) => put_all(
-                alloc, names, config, queue, *details, *summary, closing, elements,
+                alloc, names, rule, config, queue, *details, *summary, closing, elements,
             ),
             None => unreachable!(),
         },
-        Task::Assign { request } => assign(alloc, names, closing, request),
+        Task::Assign { request } => assign(alloc, names, rule, closing, request),
         Task::Suggest { request } => suggest(alloc, names, closing, request),
         Task::Ask { query } => answer_query(alloc, names, closing, query),
     }
@@ -100,7 +105,7 @@ fn perform<R: Rows + Drop>(
 
 /// A fixed answer.
 fn say(alloc: Global, status: Status, closing: bool, body: &[u8]) -> Result<Vec<u8>, RowsFault>
-    ensures ok { IfOk result (λ reply. (config : Config) (seen : Seen) (queue : List Stored) → WorkReplied config (Says status body.now) closing seen queue reply.items seen queue) }
+    ensures ok { IfOk result (λ reply. (c : Admission) (seen : Seen) (queue : List Stored) → WorkReplied c (Says status body.now) closing seen queue reply.items seen queue) }
     ensures err { IfErr result (λ fault. fault ≡ rows_fault.OutOfMemory) }
 {
     told(reply(alloc, status, closing, body))
@@ -110,6 +115,7 @@ fn say(alloc: Global, status: Status, closing: bool, body: &[u8]) -> Result<Vec<
 fn put_all<R: Rows + Drop>(
     alloc: Global,
     names: &mut Uids<R>,
+    rule: &UidRule,
     config: &Config,
     queue: &mut Queue,
     details: bool,
@@ -117,11 +123,11 @@ fn put_all<R: Rows + Drop>(
     closing: bool,
     elements: &[Value],
 ) -> Result<Vec<u8>, RowsFault>
-    ensures ok { IfOk result (λ reply. WorkReplied config.now (Puts (record { details = details; summary = summary }) (map view elements.now)) closing (R.seen names.old) queue.old reply.items (R.seen names.new) queue.new) }
-    ensures err { OnErr result (WorkBroken config.now (Puts (record { details = details; summary = summary }) (map view elements.now)) (R.seen names.old) queue.old (R.seen names.new) queue.new) }
+    ensures ok { IfOk result (λ reply. WorkReplied (admission config.now rule.now.patterns) (Puts (record { details = details; summary = summary }) (map view elements.now)) closing (R.seen names.old) queue.old reply.items (R.seen names.new) queue.new) }
+    ensures err { OnErr result (WorkBroken (admission config.now rule.now.patterns) (Puts (record { details = details; summary = summary }) (map view elements.now)) (R.seen names.old) queue.old (R.seen names.new) queue.new) }
     ensures stops { CountsStops is_stop result (R.stops names.old) (R.stops names.new) }
 {
-    let outcomes = put_elements(alloc, names, config, queue, elements)?;
+    let outcomes = put_elements(alloc, names, rule, config, queue, elements)?;
     told(put_reply(alloc, closing, details, summary, outcomes.as_slice()))
 }
 
@@ -129,14 +135,22 @@ fn put_all<R: Rows + Drop>(
 fn assign<R: Rows + Drop>(
     alloc: Global,
     names: &mut Uids<R>,
+    rule: &UidRule,
     closing: bool,
     request: &AssignRequest,
 ) -> Result<Vec<u8>, RowsFault>
-    ensures ok { IfOk result (λ reply. (config : Config) (queue : List Stored) → WorkReplied config (Assigns (assign_lists request.now)) closing (R.seen names.old) queue reply.items (R.seen names.new) queue) }
-    ensures err { OnErr result ((config : Config) (queue : List Stored) → WorkBroken config (Assigns (assign_lists request.now)) (R.seen names.old) queue (R.seen names.new) queue) }
+    ensures ok { IfOk result (λ reply. (config : Config) (queue : List Stored) → WorkReplied (admission config rule.now.patterns) (Assigns (assign_lists request.now)) closing (R.seen names.old) queue reply.items (R.seen names.new) queue) }
+    ensures err { OnErr result ((config : Config) (queue : List Stored) → WorkBroken (admission config rule.now.patterns) (Assigns (assign_lists request.now)) (R.seen names.old) queue (R.seen names.new) queue) }
     ensures stops { CountsStops is_stop result (R.stops names.old) (R.stops names.new) }
 {
-    let ids = assign_lists(alloc, names, &request.metric, &request.tagk, &request.tagv)?;
+    let ids = assign_lists(
+        alloc,
+        names,
+        rule,
+        &request.metric,
+        &request.tagk,
+        &request.tagv,
+    )?;
     match assignment_of(alloc, request, ids) {
         Ok(answers) => told(assign_reply(alloc, closing, &answers)),
         Err(_) => Err(RowsFault::OutOfMemory),
@@ -151,8 +165,8 @@ fn suggest<R: Rows + Drop>(
     request: &SuggestRequest,
 ) -> Result<Vec<u8>, RowsFault>
     requires { IsMax request.now.max }
-    ensures ok { IfOk result (λ reply. (config : Config) (queue : List Stored) → WorkReplied config (Suggests (suggestion request.now)) closing (R.seen names.old) queue reply.items (R.seen names.new) queue) }
-    ensures err { OnErr result ((config : Config) (queue : List Stored) → WorkBroken config (Suggests (suggestion request.now)) (R.seen names.old) queue (R.seen names.new) queue) }
+    ensures ok { IfOk result (λ reply. (c : Admission) (queue : List Stored) → WorkReplied c (Suggests (suggestion request.now)) closing (R.seen names.old) queue reply.items (R.seen names.new) queue) }
+    ensures err { OnErr result ((c : Admission) (queue : List Stored) → WorkBroken c (Suggests (suggestion request.now)) (R.seen names.old) queue (R.seen names.new) queue) }
     ensures stops { CountsStops is_stop result (R.stops names.old) (R.stops names.new) }
 {
     let found = suggest_names(

@@ -2,7 +2,7 @@
 ghost use Rattle.std.specs.Prelude.{◌≡◌, ◌≢◌, ℕ, List, map, All, IfErr, IfOk, IsOk, OnErr, Err};
 ghost use Rattle.cell_model.specs.declared.answers.Stored.{Stored};
 ghost use Rattle.cell_model.specs.Stops.{CountsStops, is_stop};
-ghost use Rattle.point_put.specs.declared.config.Config.{Config};
+ghost use Rattle.point_put.specs.Admissions.{Admission};
 ghost use Rattle.json_reply.specs.ErrorBodies.{error_body};
 ghost use Rattle.json_reply.specs.Replies.{IsReady, plain, text_of};
 ghost use Rattle.http_reply.specs.ReplyBytes.{reply_bytes};
@@ -33,8 +33,8 @@ pub(crate) fn answer_query<R: Rows + Drop>(
     query: &Query,
 ) -> Result<Vec<u8>, RowsFault>
     requires { CanWork query.now }
-    ensures ok { IfOk result (λ reply. (config : Config) (queue : List Stored) → WorkReplied config (Asks query.now) closing (R.seen names.old) queue reply.items (R.seen names.new) queue) }
-    ensures err { OnErr result ((config : Config) (queue : List Stored) → WorkBroken config (Asks query.now) (R.seen names.old) queue (R.seen names.new) queue) }
+    ensures ok { IfOk result (λ reply. (c : Admission) (queue : List Stored) → WorkReplied c (Asks query.now) closing (R.seen names.old) queue reply.items (R.seen names.new) queue) }
+    ensures err { OnErr result ((c : Admission) (queue : List Stored) → WorkBroken c (Asks query.now) (R.seen names.old) queue (R.seen names.new) queue) }
     ensures stops { CountsStops is_stop result (R.stops names.old) (R.stops names.new) }
 {
     let asked = ask(alloc, names, query);

@@ -6,7 +6,7 @@ ghost use Rattle.cell_model.specs.Seen.{InEach};
 ghost use Rattle.cell_model.specs.Stops.{CountsStops, is_stop};
 ghost use Rattle.cell_model.specs.declared.answers.RowsFault.TheVariants as rows_fault;
 ghost use Rattle.uid_table.specs.declared.id_answers.AssignFault.TheVariants as assign_fault;
-ghost use Rattle.http_assign.specs.AssignLists.{AssignRan, AssignBegun, already_text, elements_in, exhausted_text, of_kind, outcome_of, outcomes_in, outcomes_of, texts_in};
+ghost use Rattle.http_assign.specs.AssignLists.{AssignRan, AssignBegun, already_text, elements_in, exhausted_text, filtered_text, of_kind, outcome_of, outcomes_in, outcomes_of, texts_in};
 ghost use Rattle.http_assign.specs.AssignTexts.{EndsEarly, GoesOn, IsAsLong, IsBadName, MadeSome, NameBegun, NameSays, TextBegun, TextSays, Tells};
 
 use cell_model::answers::RowsFault;
@@ -17,6 +17,7 @@ use short_bytes::short::Bytes;
 use std::alloc::{AllocError, Global};
 use tsd_base::kinds::Kind;
 use tsd_base::names::{Name, NameFault};
+use tsd_hooks::UidRule;
 use uid_table::{AssignFault, Assigned, Uids};
 
 /// The id that a text was given, or the text of its error.
@@ -33,26 +34,28 @@ pub struct IdLists {
 /// Gives ids to the names that texts are: first the metrics, then the tag keys, then the tag values, each list from its start. A kind
 /// that isn't asked for has None.
 ///
-/// A name that has no id is given one, whatever is configured for puts. Where another caller was faster, the name's id is told. It
-/// is an error where the text is no name, where the name had an id already, and where all ids of its kind were given.
+/// A name that has no id is given one where the rule allows it, whatever is configured for puts. Where another caller was faster, the
+/// name's id is told. It is an error where the text is no name, where the name had an id already, where the rule doesn't allow it,
+/// and where all ids of its kind were given. A name that has an id is never asked of the rule.
 ///
 /// A fault ends the assignment. Names before it keep their ids; of the next one some steps may be done.
 pub fn assign_lists<R: Rows + Drop>(
     alloc: Global,
     names: &mut Uids<R>,
+    rule: &UidRule,
     metric: &Option<Vec<Bytes>>,
     tagk: &Option<Vec<Bytes>>,
     tagv: &Option<Vec<Bytes>>,
 ) -> Result<IdLists, RowsFault>
     ensures since { Since (R.seen names.old) (R.seen names.new) }
-    ensures ok { IfOk result (λ ids. InEach (R.seen names.new) (λ h. AssignRan h (R.seen names.old).caller (R.seen names.old).length (elements_in metric.now tagk.now tagv.now) (outcomes_in ids) (R.seen names.new).length)) }
+    ensures ok { IfOk result (λ ids. InEach (R.seen names.new) (λ h. AssignRan rule.now.patterns h (R.seen names.old).caller (R.seen names.old).length (elements_in metric.now tagk.now tagv.now) (outcomes_in ids) (R.seen names.new).length)) }
     ensures lengths { IfOk result (IsAsLong metric.now tagk.now tagv.now) }
-    ensures err { OnErr result (InEach (R.seen names.new) (λ h. AssignBegun h (R.seen names.old).caller (R.seen names.old).length (elements_in metric.now tagk.now tagv.now) (R.seen names.new).length)) }
+    ensures err { OnErr result (InEach (R.seen names.new) (λ h. AssignBegun rule.now.patterns h (R.seen names.old).caller (R.seen names.old).length (elements_in metric.now tagk.now tagv.now) (R.seen names.new).length)) }
     ensures stops { CountsStops is_stop result (R.stops names.old) (R.stops names.new) }
 {
-    let metrics = assign_list(alloc, names, Kind::Metric, metric)?;
-    let tag_keys = assign_list(alloc, names, Kind::TagKey, tagk)?;
-    let tag_values = assign_list(alloc, names, Kind::TagValue, tagv)?;
+    let metrics = assign_list(alloc, names, rule, Kind::Metric, metric)?;
+    let tag_keys = assign_list(alloc, names, rule, Kind::TagKey, tagk)?;
+    let tag_values = assign_list(alloc, names, rule, Kind::TagValue, tagv)?;
     Ok(IdLists {
         metric: metrics,
         tagk: tag_keys,
@@ -64,17 +67,18 @@ pub fn assign_lists<R: Rows + Drop>(
 fn assign_list<R: Rows + Drop>(
     alloc: Global,
     names: &mut Uids<R>,
+    rule: &UidRule,
     kind: Kind,
     texts: &Option<Vec<Bytes>>,
 ) -> Result<Vec<IdOutcome>, RowsFault>
     ensures made { MadeSome (R.seen names.old) (R.seen names.new) }
-    ensures ok { IfOk result (λ outs. GoesOn (of_kind kind (texts_in texts.now)) (R.seen names.old) (outcomes_of outs.items) (R.seen names.new)) }
+    ensures ok { IfOk result (λ outs. GoesOn rule.now.patterns (of_kind kind (texts_in texts.now)) (R.seen names.old) (outcomes_of outs.items) (R.seen names.new)) }
     ensures lengths { IfOk result (λ outs. length outs.items ≡ length (texts_in texts.now)) }
-    ensures err { OnErr result (EndsEarly (of_kind kind (texts_in texts.now)) (R.seen names.old) (R.seen names.new)) }
+    ensures err { OnErr result (EndsEarly rule.now.patterns (of_kind kind (texts_in texts.now)) (R.seen names.old) (R.seen names.new)) }
     ensures stops { CountsStops is_stop result (R.stops names.old) (R.stops names.new) }
 {
     match texts {
-        Some(texts) => assign_texts(alloc, names, kind, texts.as_slice()),
+        Some(texts) => assign_texts(alloc, names, rule, kind, texts.as_slice()),
         None => Ok(Vec::new(alloc)),
     }
 }
@@ -83,18 +87,19 @@ fn assign_list<R: Rows + Drop>(
 fn assign_texts<R: Rows + Drop>(
     alloc: Global,
     names: &mut Uids<R>,
+    rule: &UidRule,
     kind: Kind,
     texts: &[Bytes],
 ) -> Result<Vec<IdOutcome>, RowsFault>
     ensures made { MadeSome (R.seen names.old) (R.seen names.new) }
-    ensures ok { IfOk result (λ outs. GoesOn (of_kind kind texts.now) (R.seen names.old) (outcomes_of outs.items) (R.seen names.new)) }
+    ensures ok { IfOk result (λ outs. GoesOn rule.now.patterns (of_kind kind texts.now) (R.seen names.old) (outcomes_of outs.items) (R.seen names.new)) }
     ensures lengths { IfOk result (λ outs. length outs.items ≡ length texts.now) }
-    ensures err { OnErr result (EndsEarly (of_kind kind texts.now) (R.seen names.old) (R.seen names.new)) }
+    ensures err { OnErr result (EndsEarly rule.now.patterns (of_kind kind texts.now) (R.seen names.old) (R.seen names.new)) }
     ensures stops { CountsStops is_stop result (R.stops names.old) (R.stops names.new) }
 {
     let mut outs = Vec::new(alloc);
     for text in texts {
-        let out = assign_text(alloc, names, kind, text.list())?;
+        let out = assign_text(alloc, names, rule, kind, text.list())?;
         match outs.push(out) {
             Ok(()) => {}
             Err(_) => return Err(RowsFault::OutOfMemory),
@@ -107,15 +112,16 @@ fn assign_texts<R: Rows + Drop>(
 fn assign_text<R: Rows + Drop>(
     alloc: Global,
     names: &mut Uids<R>,
+    rule: &UidRule,
     kind: Kind,
     text: &[u8],
 ) -> Result<IdOutcome, RowsFault>
-    ensures ok { IfOk result (λ out. TextSays kind (name_of text.now) (R.seen names.old) (outcome_of out) (R.seen names.new)) }
-    ensures err { OnErr result (TextBegun kind (name_of text.now) (R.seen names.old) (R.seen names.new)) }
+    ensures ok { IfOk result (λ out. TextSays rule.now.patterns kind (name_of text.now) (R.seen names.old) (outcome_of out) (R.seen names.new)) }
+    ensures err { OnErr result (TextBegun rule.now.patterns kind (name_of text.now) (R.seen names.old) (R.seen names.new)) }
     ensures stops { CountsStops is_stop result (R.stops names.old) (R.stops names.new) }
 {
     match Name::read(alloc, text) {
-        Ok(name) => assign_name(alloc, names, kind, &name),
+        Ok(name) => assign_name(alloc, names, rule, kind, &name),
         Err(fault) => bad_name(alloc, kind, fault),
     }
 }
@@ -124,15 +130,16 @@ fn assign_text<R: Rows + Drop>(
 fn assign_name<R: Rows + Drop>(
     alloc: Global,
     names: &mut Uids<R>,
+    rule: &UidRule,
     kind: Kind,
     name: &Name,
 ) -> Result<IdOutcome, RowsFault>
-    ensures ok { IfOk result (λ out. NameSays kind name.now (R.seen names.old) (outcome_of out) (R.seen names.new)) }
-    ensures err { OnErr result (NameBegun kind name.now (R.seen names.old) (R.seen names.new)) }
+    ensures ok { IfOk result (λ out. NameSays rule.now.patterns kind name.now (R.seen names.old) (outcome_of out) (R.seen names.new)) }
+    ensures err { OnErr result (NameBegun rule.now.patterns kind name.now (R.seen names.old) (R.seen names.new)) }
     ensures stops { CountsStops is_stop result (R.stops names.old) (R.stops names.new) }
 {
-    let answer = names.assign(alloc, kind, name);
-    told(alloc, answer)
+    let answer = names.assign(alloc, rule, kind, name);
+    told(alloc, name, answer)
 }
 
 /// What is told of a text that is no name. It fails only for want of memory.
@@ -150,15 +157,20 @@ fn bad_name(alloc: Global, kind: Kind, fault: NameFault) -> Result<IdOutcome, Ro
     }
 }
 
-/// What is told of the answer to an assignment, unless memory ran out or the caller was stopped.
-fn told(alloc: Global, answer: Result<Assigned, AssignFault>) -> Result<IdOutcome, RowsFault>
-    ensures ok { IfOk result (λ out. Tells answer (outcome_of out)) }
+/// What is told of the answer to the assignment of a name, unless memory ran out or the caller was stopped.
+fn told(
+    alloc: Global,
+    name: &Name,
+    answer: Result<Assigned, AssignFault>,
+) -> Result<IdOutcome, RowsFault>
+    ensures ok { IfOk result (λ out. Tells name.now answer (outcome_of out)) }
     ensures stopped { result ≡ Err rows_fault.Stopped → answer ≡ Err assign_fault.Stopped }
 {
     let text = match answer {
         Ok(Assigned::Fresh { id }) => return Ok(Ok(id)),
         Ok(Assigned::Lost { wasted: _, id }) => return Ok(Ok(id)),
         Ok(Assigned::Existing { id }) => already_text(alloc, id),
+        Err(AssignFault::Filtered { kind }) => filtered_text(alloc, kind, name),
         Err(AssignFault::Exhausted { kind }) => exhausted_text(alloc, kind),
         Err(AssignFault::OutOfMemory) => return Err(RowsFault::OutOfMemory),
         Err(AssignFault::Stopped) => return Err(RowsFault::Stopped),
@@ -183,5 +195,14 @@ fn exhausted_text(alloc: Global, kind: Kind) -> Result<Vec<u8>, AllocError>
 {
     let mut text = Vec::new(alloc);
     PutFault::Exhausted { kind }.write_text(&mut text)?;
+    Ok(text)
+}
+
+fn filtered_text(alloc: Global, kind: Kind, name: &Name) -> Result<Vec<u8>, AllocError>
+    ensures { IfOk result (λ text. text.items ≡ filtered_text kind name.now) }
+{
+    let name = name.again(alloc)?;
+    let mut text = Vec::new(alloc);
+    PutFault::Filtered { kind, name }.write_text(&mut text)?;
     Ok(text)
 }

@@ -14,7 +14,7 @@ use Rattle.cell_model.specs.Layout.{names_of}
 use Rattle.cell_model.specs.Seen.{Seen, Fits, InEach}
 use Rattle.cell_model.specs.Deeds.{deeds, Made, Since}
 use Rattle.cell_laws.proofs.CallerLemmas.{deeds_joined, made_joined, nothing_made}
-use Rattle.point_put.specs.declared.config.Config.{Config}
+use Rattle.point_put.specs.Admissions.{Admission}
 use Rattle.point_put.specs.declared.fault.PutFault.{PutFault}
 use Rattle.point_put.specs.declared.fault.PutFault.TheVariants.{OutOfMemory}
 use Rattle.point_put.specs.PutPoint.{PointAsked}
@@ -33,11 +33,11 @@ use Rattle.http_put.specs.PutOneElement.{ElementPut, ElementBegun}
 
 -- ---- what a part of a put shows
 
-pub ran_on : {c : Config} {h : History} {caller n e : ℕ} {ds : List Data} {outs : List Outcome} {rows : List Stored} → Ran c h caller n ds outs rows e → n ≤ e
+pub ran_on : {c : Admission} {h : History} {caller n e : ℕ} {ds : List Data} {outs : List Outcome} {rows : List Stored} → Ran c h caller n ds outs rows e → n ≤ e
 ran_on start = omega arith
 ran_on (then_asked d outcome stored ran le asked) = let a = ran_on ran in omega (arith, a, le)
 
-row_told : (c : Config) (point : DataPoint) (h : History) (own : List Placed) (answer : Result Stored PutFault) (outcome : Outcome) (stored : List Stored)
+row_told : (c : Admission) (point : DataPoint) (h : History) (own : List Placed) (answer : Result Stored PutFault) (outcome : Outcome) (stored : List Stored)
     → PointAsked c point h own answer → PointTold answer outcome stored → (s : Stored) → Contains stored s → IsPutRow own s
 row_told c point h own (Ok row) outcome stored asked told s has = at (split row s [] (subst (λ (rows : List Stored). Contains rows s) told.1 has))
   where
@@ -46,7 +46,7 @@ row_told c point h own (Ok row) outcome stored asked told s has = at (split row 
     at (inr in_none) = absurd (not_in s in_none)
 row_told c point h own (Err fault) outcome stored asked told s has = absurd (not_in s (subst (λ (rows : List Stored). Contains rows s) told.1 has))
 
-element_rows : (c : Config) (read : Result DataPoint ElementFault) (h : History) (own : List Placed) (outcome : Outcome) (stored : List Stored)
+element_rows : (c : Admission) (read : Result DataPoint ElementFault) (h : History) (own : List Placed) (outcome : Outcome) (stored : List Stored)
     → ReadAsked c read h own outcome stored → (s : Stored) → Contains stored s → IsPutRow own s
 element_rows c (Ok point) h own outcome stored asked s has = row_told c point h own asked.0 outcome stored asked.1 asked.2 s has
 element_rows c (Err fault) h own outcome stored asked s has = absurd (not_in s (subst (λ (rows : List Stored). Contains rows s) asked.2 has))
@@ -73,7 +73,7 @@ among_behind own rest all s is p = record {
   base = p.base;
 }
 
-pub ran_rows : {c : Config} {h : History} {caller n e : ℕ} {ds : List Data} {outs : List Outcome} {rows : List Stored} → Ran c h caller n ds outs rows e
+pub ran_rows : {c : Admission} {h : History} {caller n e : ℕ} {ds : List Data} {outs : List Outcome} {rows : List Stored} → Ran c h caller n ds outs rows e
     → (s : Stored) → Contains rows s → IsPutRow (deeds h caller n e) s
 ran_rows start s has = absurd (not_in s has)
 ran_rows {c = c} {h = h} {caller = caller} {n = n} (then_asked {rows = rows} {e = e} {e2 = e2} d outcome stored ran le asked) s has = at (Contains-append_cases rows stored s has) (ran_rows ran s)
@@ -86,7 +86,7 @@ ran_rows {c = c} {h = h} {caller = caller} {n = n} (then_asked {rows = rows} {e 
     at (inr now) go = among_behind (deeds h caller e e2) (deeds h caller n e) (deeds h caller n e2) s joined (element_rows c (element_of d) (first e2 h) (deeds h caller e e2) outcome stored asked s now)
 
 -- the queue of a put that ended early
-pub may_have_put : (c : Config) (ds : List Data) (old new : Seen) (before after : List Stored) → ElementsBegun c ds old before new after
+pub may_have_put : (c : Admission) (ds : List Data) (old new : Seen) (before after : List Stored) → ElementsBegun c ds old before new after
     → InEach new (λ h. MayHaveRows before [] (deeds h old.caller old.length new.length) after)
 may_have_put c ds old new before after begun h l f =
     let b = begun.begun h l f in
@@ -96,32 +96,32 @@ may_have_put c ds old new before after begun h l f =
 
 -- ---- nothing of an element
 
-none_for : (c : Config) (names : List (Kind × List ℕ)) → ForNames c names []
+none_for : (c : Admission) (names : List (Kind × List ℕ)) → ForNames c names []
 none_for c [] = nil
 none_for c (n ∷ names) = more none (none_for c names)
 
-pub read_nothing : (c : Config) (read : Result DataPoint ElementFault) (h : History) → ReadBegun c read h []
+pub read_nothing : (c : Admission) (read : Result DataPoint ElementFault) (h : History) → ReadBegun c read h []
 read_nothing c (Ok point) h = (Err OutOfMemory, none_for c (names_of point))
 read_nothing c (Err fault) h = refl
 
-first_nothing : (c : Config) (rest : List Data) (h : History) → FirstBegun c rest h []
+first_nothing : (c : Admission) (rest : List Data) (h : History) → FirstBegun c rest h []
 first_nothing c [] h = refl
 first_nothing c (d ∷ rest) h = read_nothing c (element_of d) h
 
 -- ---- the elements so far
 
-pub record SoFar (c : Config) (ds : List Data) (old : Seen) (before : List Stored) (outs : List Outcome) (now : Seen) (after : List Stored) : Type 0 where
+pub record SoFar (c : Admission) (ds : List Data) (old : Seen) (before : List Stored) (outs : List Outcome) (now : Seen) (after : List Stored) : Type 0 where
   pub own : List Placed
   pub made : Made old own now
   pub put : ElementsPut c ds old before outs now after
 
-pub none_so_far : (c : Config) (s : Seen) (before : List Stored) → SoFar c [] s before [] s before
+pub none_so_far : (c : Admission) (s : Seen) (before : List Stored) → SoFar c [] s before [] s before
 none_so_far c s before = record { own = []; made = nothing_made s; put = record { stored = []; ran = λ h l f. start; rows = rows_none before } }
 
 own_of : (h : History) (old now new : Seen) (own : List Placed) → Since old now → Made now own new → Fits new h → deeds h old.caller now.length new.length ≡ own
 own_of h old now new own since made f = ap (λ n. deeds h n now.length new.length) (sym since.caller) ∙ made.made h f
 
-pub one_more : (c : Config) (ds : List Data) (d : Data) (old now new : Seen) (before mid after : List Stored) (outs : List Outcome) (outcome : Outcome)
+pub one_more : (c : Admission) (ds : List Data) (d : Data) (old now new : Seen) (before mid after : List Stored) (outs : List Outcome) (outcome : Outcome)
     → SoFar c ds old before outs now mid → ElementPut c d now mid outcome new after → SoFar c (ds ++ d ∷ []) old before (outs ++ outcome ∷ []) new after
 one_more c ds d old now new before mid after outs outcome so x = record {
   own = so.own ++ x.own;
@@ -135,11 +135,11 @@ one_more c ds d old now new before mid after outs outcome so x = record {
 }
 
 -- what was seen later is so since the start
-pub since_start : (c : Config) (ds : List Data) (old now new : Seen) (before after : List Stored) (outs : List Outcome) (own : List Placed) → SoFar c ds old before outs now after → Made now own new → Since old new
+pub since_start : (c : Admission) (ds : List Data) (old now new : Seen) (before after : List Stored) (outs : List Outcome) (own : List Placed) → SoFar c ds old before outs now after → Made now own new → Since old new
 since_start c ds old now new before after outs own so made = (made_joined old now new so.own own so.made made).since
 
 -- one was begun behind them
-pub begun_more : (c : Config) (ds rest : List Data) (d : Data) (all : List Data) (old now new : Seen) (before mid after : List Stored) (outs : List Outcome)
+pub begun_more : (c : Admission) (ds rest : List Data) (d : Data) (all : List Data) (old now new : Seen) (before mid after : List Stored) (outs : List Outcome)
     → all ≡ ds ++ d ∷ rest → SoFar c ds old before outs now mid → ElementBegun c d now new → after ≡ mid → ElementsBegun c all old before new after
 begun_more c ds rest d all old now new before mid after outs is so x same = record {
   stored = so.put.stored;
@@ -157,7 +157,7 @@ begun_more c ds rest d all old now new before mid after outs is so x same = reco
 }
 
 -- no more were
-ended_there : (c : Config) (ds rest all : List Data) (old new : Seen) (before after : List Stored) (outs : List Outcome)
+ended_there : (c : Admission) (ds rest all : List Data) (old new : Seen) (before after : List Stored) (outs : List Outcome)
     → all ≡ ds ++ rest → SoFar c ds old before outs new after → ElementsBegun c all old before new after
 ended_there c ds rest all old new before after outs is so = record {
   stored = so.put.stored;
@@ -175,7 +175,7 @@ ended_there c ds rest all old new before after outs is so = record {
 }
 
 -- one more was asked, and no more were
-pub ended_more : (c : Config) (ds rest : List Data) (d : Data) (all : List Data) (old now new : Seen) (before mid after : List Stored) (outs : List Outcome) (outcome : Outcome)
+pub ended_more : (c : Admission) (ds rest : List Data) (d : Data) (all : List Data) (old now new : Seen) (before mid after : List Stored) (outs : List Outcome) (outcome : Outcome)
     → all ≡ (ds ++ d ∷ []) ++ rest → SoFar c ds old before outs now mid → ElementPut c d now mid outcome new after → ElementsBegun c all old before new after
 ended_more c ds rest d all old now new before mid after outs outcome is so x =
     ended_there c (ds ++ d ∷ []) rest all old new before after (outs ++ outcome ∷ []) is (one_more c ds d old now new before mid after outs outcome so x)

@@ -8,7 +8,7 @@ use Rattle.cell_model.specs.declared.events.Placed.{Placed}
 use Rattle.cell_model.specs.History.{History, first}
 use Rattle.cell_model.specs.Seen.{Seen, InEach}
 use Rattle.cell_model.specs.Deeds.{deeds}
-use Rattle.point_put.specs.declared.config.Config.{Config}
+use Rattle.point_put.specs.Admissions.{Admission}
 use Rattle.point_put.specs.declared.fault.PutFault.{PutFault}
 use Rattle.point_put.specs.declared.fault.PutFault.TheVariants.{OutOfMemory, Stopped}
 use Rattle.point_put.specs.PutFaults.{put_fault_text}
@@ -34,36 +34,36 @@ PointTold (Ok row) outcome stored = (outcome ≡ None) × (stored ≡ row ∷ []
 PointTold (Err fault) outcome stored = RefusedPoint fault outcome × (stored ≡ [])
 
 -- an element that reads is asked as a point; of one that doesn't read the fault is told, and it makes no entry
-abbrev pub ReadAsked : Config → Result DataPoint ElementFault → History → List Placed → Outcome → List Stored → Type 0
+abbrev pub ReadAsked : Admission → Result DataPoint ElementFault → History → List Placed → Outcome → List Stored → Type 0
 ReadAsked c (Ok point) h own outcome stored = (answer : Result Stored PutFault) × PointAsked c point h own answer × PointTold answer outcome stored
 ReadAsked c (Err fault) h own outcome stored = (own ≡ []) × (outcome ≡ Some (element_fault_text fault)) × (stored ≡ [])
 
 -- an element was asked by these entries of its caller, where the history is as long as the caller has seen it at its end
-abbrev pub ElementAsked : Config → Data → History → List Placed → Outcome → List Stored → Type 0
+abbrev pub ElementAsked : Admission → Data → History → List Placed → Outcome → List Stored → Type 0
 ElementAsked c d h own outcome stored = ReadAsked c (element_of d) h own outcome stored
 
 -- elements were asked one after the other, from one length on to another: what is told of each, and the rows of those that were stored
-pub data Ran (c : Config) (h : History) (caller n : ℕ) : List Data → List Outcome → List Stored → ℕ → Type 0 where
+pub data Ran (c : Admission) (h : History) (caller n : ℕ) : List Data → List Outcome → List Stored → ℕ → Type 0 where
   start : Ran c h caller n [] [] [] n
   then_asked : {done : List Data} {outs : List Outcome} {rows : List Stored} {e e2 : ℕ} (d : Data) (outcome : Outcome) (stored : List Stored) → Ran c h caller n done outs rows e → e ≤ e2
       → ElementAsked c d (first e2 h) (deeds h caller e e2) outcome stored → Ran c h caller n (done ++ d ∷ []) (outs ++ outcome ∷ []) (rows ++ stored) e2
 
 -- the elements of a put were asked, each of them
-abbrev pub PutRan : Config → History → ℕ → ℕ → List Data → List Outcome → List Stored → ℕ → Type 0
+abbrev pub PutRan : Admission → History → ℕ → ℕ → List Data → List Outcome → List Stored → ℕ → Type 0
 PutRan c h caller n elements outs stored n2 = Ran c h caller n elements outs stored n2
 
 -- an element was begun: it was asked, whatever came of it
-abbrev pub ReadBegun : Config → Result DataPoint ElementFault → History → List Placed → Type 0
+abbrev pub ReadBegun : Admission → Result DataPoint ElementFault → History → List Placed → Type 0
 ReadBegun c (Ok point) h own = (answer : Result Stored PutFault) × PointAsked c point h own answer
 ReadBegun c (Err fault) h own = own ≡ []
 
 -- the entries are of the first of these elements, and there are none where there is no element
-abbrev pub FirstBegun : Config → List Data → History → List Placed → Type 0
+abbrev pub FirstBegun : Admission → List Data → History → List Placed → Type 0
 FirstBegun c [] h own = own ≡ []
 FirstBegun c (d ∷ rest) h own = ReadBegun c (element_of d) h own
 
 -- the first elements of a put were asked up to some length, and what comes later is of the next one alone
-pub record PutBegun (c : Config) (h : History) (caller n : ℕ) (elements : List Data) (stored : List Stored) (n2 : ℕ) : Type 0 where
+pub record PutBegun (c : Admission) (h : History) (caller n : ℕ) (elements : List Data) (stored : List Stored) (n2 : ℕ) : Type 0 where
   pub done : List Data
   pub rest : List Data
   pub outs : List Outcome
@@ -74,13 +74,13 @@ pub record PutBegun (c : Config) (h : History) (caller n : ℕ) (elements : List
   pub begun : FirstBegun c rest (first n2 h) (deeds h caller last n2)
 
 -- the caller asked all elements, and the queue got the rows of those that were stored
-pub record ElementsPut (c : Config) (elements : List Data) (old : Seen) (before : List Stored) (outs : List Outcome) (new : Seen) (after : List Stored) : Type 0 where
+pub record ElementsPut (c : Admission) (elements : List Data) (old : Seen) (before : List Stored) (outs : List Outcome) (new : Seen) (after : List Stored) : Type 0 where
   pub stored : List Stored
   pub ran : InEach new (λ h. PutRan c h old.caller old.length elements outs stored new.length)
   pub rows : HasRows before stored after
 
 -- the caller asked some of the elements and perhaps began the next, and the queue got the rows of those that were asked
-pub record ElementsBegun (c : Config) (elements : List Data) (old : Seen) (before : List Stored) (new : Seen) (after : List Stored) : Type 0 where
+pub record ElementsBegun (c : Admission) (elements : List Data) (old : Seen) (before : List Stored) (new : Seen) (after : List Stored) : Type 0 where
   pub stored : List Stored
   pub begun : InEach new (λ h. PutBegun c h old.caller old.length elements stored new.length)
   pub rows : HasRows before stored after

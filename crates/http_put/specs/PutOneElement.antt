@@ -7,7 +7,7 @@ use Rattle.cell_model.specs.declared.events.Placed.{Placed}
 use Rattle.cell_model.specs.History.{History, first}
 use Rattle.cell_model.specs.Seen.{Seen, InEach}
 use Rattle.cell_model.specs.Deeds.{Made}
-use Rattle.point_put.specs.declared.config.Config.{Config}
+use Rattle.point_put.specs.Admissions.{Admission}
 use Rattle.compactor.specs.Queues.{HasRows}
 use Rattle.json_points.specs.declared.fault.ElementFault.{ElementFault}
 use Rattle.json_points.specs.declared.fault.ElementFault.TheVariants.{OutOfMemory}
@@ -29,10 +29,10 @@ pub record AskedSo (P : History → List Placed → List Stored → Type 0) (old
   pub asked : InEach new (λ h. P (first new.length h) own stored)
   pub rows : HasRows before stored after
 
-abbrev pub ElementPut : Config → Data → Seen → List Stored → Outcome → Seen → List Stored → Type 0
+abbrev pub ElementPut : Admission → Data → Seen → List Stored → Outcome → Seen → List Stored → Type 0
 ElementPut c d old before outcome new after = AskedSo (λ h own stored. ReadAsked c (element_of d) h own outcome stored) old before new after
 
-abbrev pub PointPut : Config → DataPoint → Seen → List Stored → Outcome → Seen → List Stored → Type 0
+abbrev pub PointPut : Admission → DataPoint → Seen → List Stored → Outcome → Seen → List Stored → Type 0
 PointPut c point old before outcome new after = AskedSo (λ h own stored. ReadAsked c (Ok point) h own outcome stored) old before new after
 
 -- the caller made these entries and no other, of which this holds
@@ -41,8 +41,8 @@ pub record BegunSo (P : History → List Placed → Type 0) (old new : Seen) : T
   pub made : Made old own new
   pub begun : InEach new (λ h. P (first new.length h) own)
 
-abbrev pub ElementBegun : Config → Data → Seen → Seen → Type 0
+abbrev pub ElementBegun : Admission → Data → Seen → Seen → Type 0
 ElementBegun c d old new = BegunSo (ReadBegun c (element_of d)) old new
 
-abbrev pub PointBegun : Config → DataPoint → Seen → Seen → Type 0
+abbrev pub PointBegun : Admission → DataPoint → Seen → Seen → Type 0
 PointBegun c point old new = BegunSo (ReadBegun c (Ok point)) old new

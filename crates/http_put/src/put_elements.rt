@@ -7,6 +7,7 @@ ghost use Rattle.cell_model.specs.Seen.{InEach};
 ghost use Rattle.cell_model.specs.Stops.{CountsStops, is_stop};
 ghost use Rattle.cell_model.specs.declared.answers.RowsFault.TheVariants as rows_fault;
 ghost use Rattle.point_put.specs.declared.fault.PutFault.TheVariants as put_fault;
+ghost use Rattle.point_put.specs.Admissions.{admission};
 ghost use Rattle.queued_put.specs.PutRows.{MayHaveRows};
 ghost use Rattle.http_put.specs.PutElements.{text_of, texts_of, ElementsPut, ElementsBegun};
 ghost use Rattle.http_put.specs.PutOneElement.{ElementPut, ElementBegun, PointPut, PointBegun, RefusedElement, RefusedPoint};
@@ -21,28 +22,31 @@ use queued_put::put_queued;
 use serde_json::Value;
 use std::alloc::Global;
 use tsd_base::points::Point;
+use tsd_hooks::UidRule;
 use uid_table::uids::Uids;
 
 /// Puts the points of elements, one after the other, in their order, and adds the row of each that was stored to the queue. The
 /// answer has None for an element that was stored, and else the text of its refusal; one that is refused leaves the others as they are.
+/// A new name is given an id only where the rule allows it.
 ///
 /// A fault ends the put. The elements before it stay put, and their rows queued; of the next one some steps may be done.
 pub fn put_elements<R: Rows + Drop>(
     alloc: Global,
     names: &mut Uids<R>,
+    rule: &UidRule,
     config: &Config,
     queue: &mut Queue,
     elements: &[Value],
 ) -> Result<Vec<Option<Vec<u8>>>, RowsFault>
     ensures since { Since (R.seen names.old) (R.seen names.new) }
-    ensures ok { IfOk result (λ outs. ElementsPut config.now (map view elements.now) (R.seen names.old) queue.old (texts_of outs.items) (R.seen names.new) queue.new) }
-    ensures err { OnErr result (ElementsBegun config.now (map view elements.now) (R.seen names.old) queue.old (R.seen names.new) queue.new) }
+    ensures ok { IfOk result (λ outs. ElementsPut (admission config.now rule.now.patterns) (map view elements.now) (R.seen names.old) queue.old (texts_of outs.items) (R.seen names.new) queue.new) }
+    ensures err { OnErr result (ElementsBegun (admission config.now rule.now.patterns) (map view elements.now) (R.seen names.old) queue.old (R.seen names.new) queue.new) }
     ensures queue { OnErr result (InEach (R.seen names.new) (λ h. MayHaveRows queue.old [] (deeds h (R.seen names.old).caller (R.seen names.old).length (R.seen names.new).length) queue.new)) }
     ensures stops { CountsStops is_stop result (R.stops names.old) (R.stops names.new) }
 {
     let mut outs = Vec::new(alloc);
     for element in elements {
-        let out = put_element(alloc, names, config, queue, element)?;
+        let out = put_element(alloc, names, rule, config, queue, element)?;
         match outs.push(out) {
             Ok(()) => {}
             Err(_) => return Err(RowsFault::OutOfMemory),
@@ -55,17 +59,18 @@ pub fn put_elements<R: Rows + Drop>(
 fn put_element<R: Rows + Drop>(
     alloc: Global,
     names: &mut Uids<R>,
+    rule: &UidRule,
     config: &Config,
     queue: &mut Queue,
     element: &Value,
 ) -> Result<Option<Vec<u8>>, RowsFault>
-    ensures ok { IfOk result (λ out. ElementPut config.now (view element.now) (R.seen names.old) queue.old (text_of out) (R.seen names.new) queue.new) }
-    ensures err { OnErr result (ElementBegun config.now (view element.now) (R.seen names.old) (R.seen names.new)) }
+    ensures ok { IfOk result (λ out. ElementPut (admission config.now rule.now.patterns) (view element.now) (R.seen names.old) queue.old (text_of out) (R.seen names.new) queue.new) }
+    ensures err { OnErr result (ElementBegun (admission config.now rule.now.patterns) (view element.now) (R.seen names.old) (R.seen names.new)) }
     ensures same { OnErr result (queue.new ≡ queue.old) }
     ensures stops { CountsStops is_stop result (R.stops names.old) (R.stops names.new) }
 {
     match read_element(alloc, element) {
-        Ok(point) => put_one(alloc, names, config, queue, &point),
+        Ok(point) => put_one(alloc, names, rule, config, queue, &point),
         Err(fault) => unread(alloc, &fault),
     }
 }
@@ -74,16 +79,17 @@ fn put_element<R: Rows + Drop>(
 fn put_one<R: Rows + Drop>(
     alloc: Global,
     names: &mut Uids<R>,
+    rule: &UidRule,
     config: &Config,
     queue: &mut Queue,
     point: &Point,
 ) -> Result<Option<Vec<u8>>, RowsFault>
-    ensures ok { IfOk result (λ out. PointPut config.now (data_point point.now) (R.seen names.old) queue.old (text_of out) (R.seen names.new) queue.new) }
-    ensures err { OnErr result (PointBegun config.now (data_point point.now) (R.seen names.old) (R.seen names.new)) }
+    ensures ok { IfOk result (λ out. PointPut (admission config.now rule.now.patterns) (data_point point.now) (R.seen names.old) queue.old (text_of out) (R.seen names.new) queue.new) }
+    ensures err { OnErr result (PointBegun (admission config.now rule.now.patterns) (data_point point.now) (R.seen names.old) (R.seen names.new)) }
     ensures same { OnErr result (queue.new ≡ queue.old) }
     ensures stops { CountsStops is_stop result (R.stops names.old) (R.stops names.new) }
 {
-    match put_queued(alloc, names, config, queue, point) {
+    match put_queued(alloc, names, rule, config, queue, point) {
         Ok(()) => Ok(None),
         Err(fault) => refused(alloc, &fault),
     }

@@ -4,9 +4,9 @@ ghost use Rattle.cell_solo.specs.Turns.{sight};
 ghost use Rattle.lone_store.specs.LoneStores.{IsFresh};
 
 use cell_model::Listing;
+use cell_region::{DATA_REGIONS, Regions};
 use cell_solo::Solo;
 use fused::Fused;
-use map_body::MapBody;
 use std::alloc::{AllocError, Global};
 use tsd_io::halt::Halt;
 use uid_table::Uids;
@@ -15,7 +15,7 @@ use uid_table::Uids;
 const KEPT_PAIRS: u32 = 10_000;
 
 /// The names and points of a run, in the memory of one caller, which steps alone, and where its halt lets it.
-pub type Store<H> = Uids<Fused<Solo<MapBody>, H>>;
+pub type Store<H> = Uids<Fused<Solo<Regions>, H>>;
 
 /// A store of no names and no points under a halt, which is handed back as it was where there is no memory.
 pub fn empty<H: Halt + Drop>(alloc: Global, halt: H) -> Result<Store<H>, (AllocError, H)>
@@ -37,10 +37,10 @@ pub fn empty<H: Halt + Drop>(alloc: Global, halt: H) -> Result<Store<H>, (AllocE
 }
 
 /// Rows of one caller without a cell. It fails only for want of memory.
-fn alone(alloc: Global) -> Result<Solo<MapBody>, AllocError>
+fn alone(alloc: Global) -> Result<Solo<Regions>, AllocError>
     ensures { IfOk result (λ rows. IsFresh (sight rows)) }
 {
-    let body = MapBody::of(alloc, Listing::none(alloc))?;
+    let body = Regions::of(alloc, Listing::none(alloc), DATA_REGIONS)?;
     let rows = Solo::make(alloc, body, 1)?;
     Ok(rows)
 }

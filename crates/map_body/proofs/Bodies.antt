@@ -30,7 +30,8 @@ use Rattle.cell_model.specs.Sound.{CountersRead, IsCounter}
 use Rattle.cell_model.specs.Ranges.{InOneRange}
 use Rattle.packed_cells.specs.Keyed.{CellMap, cells_in}
 use Rattle.packed_cells.specs.Keyed as cells
-use Rattle.map_body.specs.TableRows.{Rows, row_in, ChangesRow, NoneEmpty, left, is_within, cells_among}
+use Rattle.map_body.specs.TableRows.{row_in, ChangesRow, NoneEmpty, left, is_within, cells_among}
+use Rattle.row_pages.specs.RowMaps.{Rows}
 use Rattle.map_body.specs.Counting.{number_in, AllCounters}
 use Rattle.cell_model.proofs.CallerLemmas.{rows_total, places_total, exact_rows, exact_places}
 use Rattle.map_body.proofs.Orders.{one_or_other}

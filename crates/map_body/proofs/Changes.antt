@@ -15,7 +15,8 @@ use Rattle.list_lemmas.specs.BytesOrder.{bytes_cmp}
 use Rattle.cell_model.specs.Machine.{counter_row}
 use Rattle.packed_cells.specs.Keyed.{CellMap, goes, without}
 use Rattle.packed_cells.specs.Keyed as cells
-use Rattle.map_body.specs.TableRows.{Rows, row_in, ChangesRow, left, gone}
+use Rattle.map_body.specs.TableRows.{row_in, ChangesRow, left, gone}
+use Rattle.row_pages.specs.RowMaps.{Rows}
 use Rattle.map_body.specs.Whole.{rows_at, content_of, store_in, NoCounterRow}
 use Rattle.cell_model.proofs.CallerLemmas.{rows_total, places_total, exact_rows, exact_places}
 use Rattle.map_body.proofs.Orders.{same_row, parts, one_or_other}

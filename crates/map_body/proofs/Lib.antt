@@ -10,3 +10,4 @@ pub mod Bodies
 pub mod Ranges
 pub mod Listings
 pub mod Rise
+pub mod CallerLemmas

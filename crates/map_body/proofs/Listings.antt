@@ -1,6 +1,6 @@
 -- The lines of all rows.
 use Rattle.std.proofs.Common.{◌≡◌, ℕ, zero, suc, ◌+◌, ◌≤◌, ◌<◌, Bool, true, false, cond, T, List, [], ◌∷◌, ◌++◌, length, map, refl, sym, ap, subst, ◌∙◌, arith, nat_eq}
-use Rattle.std.specs.Prelude.{Option, None, Some, unwrap_or, take, slice_index_or, not, MatchOption, option_map}
+use Rattle.std.specs.Prelude.{Option, None, Some, unwrap_or, take, slice_index_or, not}
 use Rattle.std.specs.declared.cmp.Ordering.{Ordering}
 use Rattle.std.specs.declared.cmp.Ordering.TheVariants.{Less, Equal, Greater}
 use Rattle.std.specs.Ordering.{is_eq, is_lt, is_le, ordering_reverse}
@@ -23,11 +23,12 @@ use Rattle.list_lemmas.proofs.BoolTests.{T_both, T_left, T_right, T_less}
 use Rattle.cell_model.specs.Listed.{store_of, entry_of_line}
 use Rattle.cell_model.specs.Machine.{counter_row}
 use Rattle.packed_cells.specs.Keyed.{CellMap}
-use Rattle.map_body.specs.TableRows.{Rows, row_in, NoneEmpty, rows_below, rows_from}
+use Rattle.map_body.specs.TableRows.{row_in, NoneEmpty}
+use Rattle.row_pages.specs.RowMaps.{Rows, rows_below, rows_from}
 use Rattle.map_body.specs.Whole.{rows_at, tagged, all_rows, placed, flat, store_in, lines_in, NoCounterRow}
 use Rattle.map_body.proofs.Maps.{no_some}
 use Rattle.cell_model.proofs.CallerLemmas.{places_total, exact_places}
-use Rattle.map_body.proofs.Flat.{flat_entries, head_of}
+use Rattle.map_body.proofs.Flat.{flat_entries}
 use Rattle.map_body.proofs.Tables.{sheet, all_sorted}
 use Rattle.list_lemmas.proofs.ListCuts.{joined, take_next, map_join}
 
@@ -176,8 +177,3 @@ store_next lines i d rise lt =
     ap (λ (x : ListLine). place_cmp (place_of_line x) (place_of_line line)) (get_or-take i lines j e (omega (arith, below, len_le)))
     ∙ ap (λ (x : ListLine). place_cmp (place_of_line x) (place_of_line line)) (get_or_default lines j e d (omega (arith, below, len_le, lt)))
     ∙ rise j i d (omega (arith, below, len_le)) lt))
-
--- the first of what is left, as an iterator gives it
-pub head_is : {A B : Type 0} (f : A → B) (o : Option A) (xs rest : List B) → MatchOption o ((xs ≡ []) × (rest ≡ [])) (λ x. xs ≡ f x ∷ rest) → option_map f o ≡ head_of xs
-head_is f None xs rest h = ap head_of (sym h.0)
-head_is f (Some x) xs rest h = ap head_of (sym h)

@@ -1,22 +1,20 @@
--- A tree of rows as a finite map.
+-- The finite map of a table's rows after a change.
 use Rattle.std.proofs.Common.{◌≡◌, ◌≢◌, ◌⊎◌, inl, inr, ℕ, ◌+◌, Bool, true, false, cond, T, List, [], ◌∷◌, refl, sym, ap, subst, ◌∙◌, arith}
-use Rattle.std.specs.Prelude.{None, Some, unwrap_or, sum_by, IsSome, is_some, option_map, Result, Ok, Err, OnErr}
-use Rattle.std.specs.declared.cmp.Ordering.TheVariants.{Less}
-use Rattle.std.specs.Ordering.{eq_by_cmp, is_eq, is_lt}
-use Rattle.std.specs.Cmp.{eq_by_cmp_equiv, tied_itself}
+use Rattle.std.specs.Prelude.{Option, None, Some, unwrap_or, is_some, Result, Ok, Err, OnErr}
+use Rattle.std.specs.declared.cmp.Ordering.{Ordering}
+use Rattle.std.specs.declared.cmp.Ordering.TheVariants.{Less, Equal, Greater}
+use Rattle.std.specs.Ordering.{eq_by_cmp, is_eq}
+use Rattle.std.specs.Cmp.{tied_itself}
 use Rattle.std.specs.Cmp.Lexicographic.{nat_list_cmp_total}
-use Rattle.std.specs.List.{AllByRecursion}
-use Rattle.std.specs.List.Sorted.{IsStrictlySortedBy}
-use Rattle.std.specs.Map.{lookup, keys_of, values_of, set_value, remove_entry}
-use Rattle.std.proofs.lemmas.Map.Entries.{sum_by-set_value, sum_by-remove_entry, sum_by-insert_entry}
-use Rattle.std.specs.BTreeMap.{BTreeMap, is_at, IsOrdered, WritesThrough}
-use Rattle.std.specs.BTreeMap as tree
-use Rattle.std.specs.FinMap.{find, is_sorted, entries, from_entries, from_sorted, empty, insert, remove, get, get-empty, get-insert, get-remove, get-from_entries, get-from_sorted, entries-from_sorted, same_map, slice_cmp-IsAntisymmetric, nat_cmp-IsAntisymmetric, IsAntisymmetric, len, len-insert, len-empty}
-use Rattle.std.specs.FinMap.Entries.{below_all}
-use Rattle.list_lemmas.proofs.BoolTests.{T_both, is_equal}
+use Rattle.std.proofs.lemmas.List.{nil_from_length}
+use Rattle.std.proofs.lemmas.List.Sums.{sum_by-cons}
+use Rattle.std.specs.FinMap.{find, put, is_sorted, entries, from_entries, from_sorted, empty, insert, remove, get, get-empty, get-entries, get-insert, get-remove, get-from_entries, get-from_sorted, entries-insert, entries-from_sorted, same_map, slice_cmp-IsAntisymmetric, nat_cmp-IsAntisymmetric, IsAntisymmetric, len, len-entries, len-insert, len-empty}
+use Rattle.std.specs.FinMap.Entries.{by_order}
+use Rattle.list_lemmas.proofs.BoolTests.{is_equal}
 use Rattle.list_lemmas.specs.BytesOrder.{bytes_cmp}
 use Rattle.packed_cells.specs.Keyed.{CellMap}
-use Rattle.map_body.specs.TableRows.{Rows, rows_of, count_of, row_in, NoneEmpty, ChangesRow}
+use Rattle.row_pages.specs.RowMaps.{Rows}
+use Rattle.map_body.specs.TableRows.{count_of, cells_among, row_in, NoneEmpty, ChangesRow}
 
 pub exact : IsAntisymmetric bytes_cmp
 exact = slice_cmp-IsAntisymmetric nat_cmp-IsAntisymmetric
@@ -41,41 +39,10 @@ same_or_not p q = at (eq_by_cmp bytes_cmp p q) refl
 pub no_some : {X : Type 0} (x : X) → None ≡ Some x → ⊥
 no_some x h = cc
 
-module _ {X : Type 0} where
-  pub find_lookup : (q : List ℕ) (es : List (List ℕ × X)) → find bytes_cmp q es ≡ lookup (is_at (bytes_cmp q)) es
-  find_lookup q [] = refl
-  find_lookup q (e ∷ es) = ap (cond (eq_by_cmp bytes_cmp q e.0) (Some e.1)) (find_lookup q es)
-
-  -- what a tree answers, its finite map answers
-  pub get_tree : (m : BTreeMap (List ℕ) X) (q : List ℕ) → get (from_entries {R = bytes_cmp} m.entries) q ≡ tree.get bytes_cmp m q
-  get_tree m q = get-from_entries nat_list_cmp_total m.entries q ∙ find_lookup q m.entries
-
-  -- a value at a key of the tree
-  pub insert_tree : (m n : BTreeMap (List ℕ) X) (k : List ℕ) (w : X) → ((q : List ℕ) → tree.get bytes_cmp n q ≡ cond (is_at (bytes_cmp k) q) (Some w) (tree.get bytes_cmp m q)) → from_entries {R = bytes_cmp} n.entries ≡ insert (from_entries {R = bytes_cmp} m.entries) k w
-  insert_tree m n k w is = same_map nat_list_cmp_total exact _ _ (λ q.
-      get_tree n q ∙ is q ∙ (λ i. cond ((eq_by_cmp_equiv nat_list_cmp_total).symm k q i) (Some w) (sym (get_tree m q) i)) ∙ sym (get-insert nat_list_cmp_total (from_entries m.entries) k w q))
-
-  pub remove_tree : (m n : BTreeMap (List ℕ) X) (k : List ℕ) → ((q : List ℕ) → tree.get bytes_cmp n q ≡ cond (is_at (bytes_cmp k) q) None (tree.get bytes_cmp m q)) → from_entries {R = bytes_cmp} n.entries ≡ remove (from_entries {R = bytes_cmp} m.entries) k
-  remove_tree m n k is = same_map nat_list_cmp_total exact _ _ (λ q.
-      get_tree n q ∙ is q ∙ ap (λ b. cond b None (tree.get bytes_cmp m q)) ((eq_by_cmp_equiv nat_list_cmp_total).symm k q) ∙ ap (cond (eq_by_cmp bytes_cmp q k) None) (sym (get_tree m q)) ∙ sym (get-remove nat_list_cmp_total (from_entries m.entries) k q))
-
-  -- a tree in order is its map's entries
-  below_keys : (x : List ℕ) (es : List (List ℕ × X)) → AllByRecursion (λ y. bytes_cmp x y ≡ Less) (keys_of es) → T (below_all bytes_cmp x es)
-  below_keys x [] all = tt
-  below_keys x (e ∷ es) all = T_both _ _ (subst (λ r. T (is_lt r)) (sym all.0) tt) (below_keys x es all.1)
-
-  pub sorted_tree : (es : List (List ℕ × X)) → IsStrictlySortedBy bytes_cmp (keys_of es) → T (is_sorted bytes_cmp es)
-  unfolding IsStrictlySortedBy
-  sorted_tree [] up = tt
-  sorted_tree (e ∷ es) up = T_both _ _ (below_keys e.0 es up.0) (sorted_tree es up.1)
-
-  pub entries_sorted_list : (es : List (List ℕ × X)) → T (is_sorted bytes_cmp es) → entries (from_entries {R = bytes_cmp} es) ≡ es
-  entries_sorted_list es up =
-      ap entries (same_map nat_list_cmp_total exact (from_entries es) (from_sorted es) (λ q. get-from_entries nat_list_cmp_total es q ∙ sym (get-from_sorted bytes_cmp es q up)))
-      ∙ entries-from_sorted bytes_cmp es up
-
-  pub entries_tree : (m : BTreeMap (List ℕ) X) → IsOrdered bytes_cmp m → entries (from_entries {R = bytes_cmp} m.entries) ≡ m.entries
-  entries_tree m up = entries_sorted_list m.entries (sorted_tree m.entries up)
+pub entries_sorted_list : {X : Type 0} (es : List (List ℕ × X)) → T (is_sorted bytes_cmp es) → entries (from_entries {R = bytes_cmp} es) ≡ es
+entries_sorted_list es up =
+    ap entries (same_map nat_list_cmp_total exact (from_entries es) (from_sorted es) (λ q. get-from_entries nat_list_cmp_total es q ∙ sym (get-from_sorted bytes_cmp es q up)))
+    ∙ entries-from_sorted bytes_cmp es up
 
 -- what stands at a row of a changed map
 pub row_set : (rows : Rows) (k : List ℕ) (cells : CellMap) → row_in (insert rows k cells) k ≡ cells
@@ -109,18 +76,6 @@ none_empty_set old new k cells none some is q found e = at (same_or_not q k)
         subst (λ c. c ≢ empty) (ap (λ o. unwrap_or o cells) here) some
     at (inr ne) = none q found (sym (get-insert nat_list_cmp_total old k cells q ∙ ap (λ b. cond b (Some cells) (get old q)) (untied q k ne)) ∙ got)
 
-pub none_empty_removed : (old new : Rows) (k : List ℕ) → NoneEmpty old → new ≡ remove old k → NoneEmpty new
-none_empty_removed old new k none is q found e = at (same_or_not q k)
-  where
-    got : get (remove old k) q ≡ Some found
-    got = ap (λ r. get r q) (sym is) ∙ e
-
-    at : (q ≡ k) ⊎ (q ≢ k) → found ≢ empty
-    at (inl same) =
-        let here : get (remove old k) q ≡ None = ap (get (remove old k)) same ∙ get-remove nat_list_cmp_total old k k ∙ ap (λ b. cond b None (get old k)) (tied k) in
-        absurd (no_some found (sym here ∙ got))
-    at (inr ne) = none q found (sym (get-remove nat_list_cmp_total old k q ∙ ap (λ b. cond b None (get old q)) (untied q k ne)) ∙ got)
-
 -- a cell was written, so there is one
 pub written_some : (cells : CellMap) (q : List ℕ) (c : List ℕ × ℕ) → insert cells q c ≢ empty
 written_some cells q c is =
@@ -128,33 +83,63 @@ written_some cells q c is =
     let none : get (insert cells q c) q ≡ None = ap (λ m. get m q) is ∙ get-empty bytes_cmp q in
     cc
 
--- a write through a place leaves the tree as it is where the value is the old one
-pub set_same : {X : Type 0} (test : List ℕ → Bool) (es : List (List ℕ × X)) (w : X) → lookup test es ≡ Some w → set_value test es w ≡ es
-set_same test [] w is = refl
-set_same {X = X} test (e ∷ es) w is = at (test e.0) is (set_same test es w)
+-- a row that is there, and one that isn't
+pub row_found : (m : Rows) (k : List ℕ) (v : CellMap) → Some v ≡ get m k → row_in m k ≡ v
+row_found m k v e = ap (λ o. unwrap_or o empty) (sym e)
+
+pub row_absent : (m : Rows) (k : List ℕ) → None ≡ get m k → row_in m k ≡ empty
+row_absent m k e = ap (λ o. unwrap_or o empty) (sym e)
+
+pub unchanged_row : (m : Rows) (k : List ℕ) (cells : CellMap) → row_in m k ≡ cells → ChangesRow m m k cells
+unchanged_row m k cells is = record { here = is; others = λ q ne. refl }
+
+-- a row's own cells once more
+pub put_back : (m : Rows) (k : List ℕ) (v : CellMap) → Some v ≡ get m k → insert m k v ≡ m
+put_back m k v e = same_map nat_list_cmp_total exact (insert m k v) m (λ q. get-insert nat_list_cmp_total m k v q ∙ at q (same_or_not q k))
   where
-    at : (b : Bool) → cond b (Some e.1) (lookup test es) ≡ Some w → (lookup test es ≡ Some w → set_value test es w ≡ es) → cond b ((e.0, w) ∷ es) (e ∷ set_value test es w) ≡ e ∷ es
-    at true same rest = ap (λ (x : X). (e.0, x) ∷ es) (sym (ap (λ o. unwrap_or o w) same))
-    at false same rest = ap (λ (t : List (List ℕ × X)). e ∷ t) (rest same)
+    at : (q : List ℕ) → (q ≡ k) ⊎ (q ≢ k) → cond (eq_by_cmp bytes_cmp q k) (Some v) (get m q) ≡ get m q
+    at q (inl same) = ap (λ b. cond b (Some v) (get m q)) (ap (λ (x : List ℕ). eq_by_cmp bytes_cmp x k) same ∙ tied k) ∙ e ∙ ap (get m) (sym same)
+    at q (inr ne) = ap (λ b. cond b (Some v) (get m q)) (untied q k ne)
 
--- a write through the place of a row
-pub through : (m n : BTreeMap (List ℕ) CellMap) (k : List ℕ) (v w : CellMap) → WritesThrough bytes_cmp (bytes_cmp k) m w n → Some v ≡ tree.get bytes_cmp m k → rows_of n ≡ insert (rows_of m) k w
-through m n k v w t e = insert_tree m n k w (t.3 (subst IsSome e refl)).0
+-- cells of a row that was taken out before
+put_anew : (m : Rows) (k : List ℕ) (w : CellMap) → insert (remove m k) k w ≡ insert m k w
+put_anew m k w = same_map nat_list_cmp_total exact (insert (remove m k) k w) (insert m k w) (λ q.
+    get-insert nat_list_cmp_total (remove m k) k w q ∙ ap (cond (eq_by_cmp bytes_cmp q k) (Some w)) (get-remove nat_list_cmp_total m k q) ∙ shadowed (eq_by_cmp bytes_cmp q k) (Some w) None (get m q) ∙ sym (get-insert nat_list_cmp_total m k w q))
+  where
+    shadowed : (b : Bool) (x y z : Option CellMap) → cond b x (cond b y z) ≡ cond b x z
+    shadowed true x y z = refl
+    shadowed false x y z = refl
 
-pub through_count : (m n : BTreeMap (List ℕ) CellMap) (k : List ℕ) (v w : CellMap) → WritesThrough bytes_cmp (bytes_cmp k) m w n → Some v ≡ tree.get bytes_cmp m k → count_of n + len v ≡ count_of m + len w
-through_count m n k v w t e = ap (λ (es : List (List ℕ × CellMap)). sum_by len (values_of es) + len v) t.0 ∙ sum_by-set_value len (is_at (bytes_cmp k)) m.entries v w (sym e)
+gone_row : (m : Rows) (k : List ℕ) → get (remove m k) k ≡ None
+gone_row m k = get-remove nat_list_cmp_total m k k ∙ ap (λ b. cond b None (get m k)) (tied k)
 
-pub through_same : (m n : BTreeMap (List ℕ) CellMap) (k : List ℕ) (v w : CellMap) → WritesThrough bytes_cmp (bytes_cmp k) m w n → Some v ≡ tree.get bytes_cmp m k → w ≡ v → n.entries ≡ m.entries
-through_same m n k v w t e same = t.0 ∙ set_same (is_at (bytes_cmp k)) m.entries w (sym e ∙ ap (λ (x : CellMap). Some x) (sym same))
+-- how many cells there are with a row more
+sum_put : (k : List ℕ) (v : CellMap) (es : List (List ℕ × CellMap)) → find bytes_cmp k es ≡ None → cells_among (put bytes_cmp k v es) ≡ cells_among es + len v
+sum_put k v [] none = let one = sum_by-cons (λ (r : List ℕ × CellMap). len r.1) (k, v) [] in omega (arith, one)
+sum_put k v (e ∷ es) none = at (bytes_cmp k e.0) none (sum_put k v es)
+  where
+    at : (r : Ordering) → cond (is_eq r) (Some e.1) (find bytes_cmp k es) ≡ None → (find bytes_cmp k es ≡ None → cells_among (put bytes_cmp k v es) ≡ cells_among es + len v)
+        → cells_among (by_order r ((k, v) ∷ e ∷ es) ((e.0, v) ∷ es) (e ∷ put bytes_cmp k v es)) ≡ cells_among (e ∷ es) + len v
+    at Less is go = let one = sum_by-cons (λ (r : List ℕ × CellMap). len r.1) (k, v) (e ∷ es) in omega (arith, one)
+    at Equal is go = absurd (no_some e.1 (sym is))
+    at Greater is go =
+        let more = sum_by-cons (λ (r : List ℕ × CellMap). len r.1) e (put bytes_cmp k v es) in
+        let one = sum_by-cons (λ (r : List ℕ × CellMap). len r.1) e es in
+        omega (arith, more, one, go is)
 
-pub row_found : (m : BTreeMap (List ℕ) CellMap) (k : List ℕ) (v : CellMap) → Some v ≡ tree.get bytes_cmp m k → row_in (rows_of m) k ≡ v
-row_found m k v e = ap (λ o. unwrap_or o empty) (get_tree m k ∙ sym e)
+pub added_count : (m : Rows) (k : List ℕ) (v : CellMap) → get m k ≡ None → count_of (insert m k v) ≡ count_of m + len v
+added_count m k v none = ap cells_among (entries-insert nat_list_cmp_total m k v) ∙ sum_put k v (entries m) (sym (get-entries m k) ∙ none)
 
-pub row_absent : (m : BTreeMap (List ℕ) CellMap) (k : List ℕ) → None ≡ tree.get bytes_cmp m k → row_in (rows_of m) k ≡ empty
-row_absent m k e = ap (λ o. unwrap_or o empty) (get_tree m k ∙ sym e)
+-- with other cells of one
+pub set_count : (m : Rows) (k : List ℕ) (v w : CellMap) → Some v ≡ get m k → count_of (insert m k w) + len v ≡ count_of m + len w
+set_count m k v w e =
+    let old : count_of m ≡ count_of (remove m k) + len v = ap count_of (sym (put_anew m k v ∙ put_back m k v e)) ∙ added_count (remove m k) k v (gone_row m k) in
+    let new : count_of (insert m k w) ≡ count_of (remove m k) + len w = ap count_of (sym (put_anew m k w)) ∙ added_count (remove m k) k w (gone_row m k) in
+    omega (arith, old, new)
 
-pub unchanged_row : (m n : BTreeMap (List ℕ) CellMap) (k : List ℕ) (cells : CellMap) → n ≡ m → row_in (rows_of m) k ≡ cells → ChangesRow (rows_of m) (rows_of n) k cells
-unchanged_row m n k cells same is = record { here = ap (λ (x : BTreeMap (List ℕ) CellMap). row_in (rows_of x) k) same ∙ is; others = λ q ne. ap (λ (x : BTreeMap (List ℕ) CellMap). row_in (rows_of x) q) same }
+-- and with one less
+pub removed_count : (m : Rows) (k : List ℕ) (v : CellMap) → Some v ≡ get m k → count_of (remove m k) + len v ≡ count_of m
+removed_count m k v e = sym (ap count_of (sym (put_anew m k v ∙ put_back m k v e)) ∙ added_count (remove m k) k v (gone_row m k))
 
 -- the first cell of a row
 one_cell : (q : List ℕ) (c : List ℕ × ℕ) → len (insert (empty {R = bytes_cmp}) q c) ≡ 1
@@ -162,25 +147,13 @@ one_cell q c = len-insert nat_list_cmp_total empty q c
     ∙ ap (λ o. cond (is_some o) (len (empty {X = List ℕ × ℕ} {R = bytes_cmp})) (len (empty {X = List ℕ × ℕ} {R = bytes_cmp}) + 1)) (get-empty {X = List ℕ × ℕ} bytes_cmp q)
     ∙ ap (λ n. n + 1) (len-empty bytes_cmp (List ℕ × ℕ))
 
-pub first_count : (m n : BTreeMap (List ℕ) CellMap) (k q : List ℕ) (c : List ℕ × ℕ) (cells : CellMap) → IsOrdered bytes_cmp m → get (rows_of m) k ≡ None → cells ≡ insert empty q c → n.entries ≡ tree.insert_entry bytes_cmp m.entries k cells → count_of n ≡ count_of m + 1
-first_count m n k q c cells up none is e =
-    let sum = sum_by-insert_entry len nat_list_cmp_total m.entries k cells up in
-    let absent : lookup (is_at (bytes_cmp k)) m.entries ≡ None = sym (get_tree m k) ∙ none in
-    let one : len cells ≡ 1 = ap len is ∙ one_cell q c in
-    let nothing : unwrap_or (option_map len (lookup (is_at (bytes_cmp k)) m.entries)) 0 ≡ 0 = ap (λ o. unwrap_or (option_map len o) 0) absent in
-    let same : count_of n ≡ sum_by len (values_of (tree.insert_entry bytes_cmp m.entries k cells)) = ap (λ (es : List (List ℕ × CellMap)). sum_by len (values_of es)) e in
-    omega (arith, sum, one, nothing, same)
+pub first_count : (m : Rows) (k q : List ℕ) (c : List ℕ × ℕ) → get m k ≡ None → count_of (insert m k (insert empty q c)) ≡ count_of m + 1
+first_count m k q c none = added_count m k (insert empty q c) none ∙ ap (λ n. count_of m + n) (one_cell q c)
 
--- a row taken out
-pub removed_count : (m n : BTreeMap (List ℕ) CellMap) (k : List ℕ) (v : CellMap) → Some v ≡ tree.get bytes_cmp m k → n.entries ≡ remove_entry (is_at (bytes_cmp k)) m.entries → count_of n + len v ≡ count_of m
-removed_count m n k v is e =
-    let sum = sum_by-remove_entry len (is_at (bytes_cmp k)) m.entries in
-    let there : unwrap_or (option_map len (lookup (is_at (bytes_cmp k)) m.entries)) 0 ≡ len v = ap (λ o. unwrap_or (option_map len o) 0) (sym is) in
-    let same : count_of n ≡ sum_by len (values_of (remove_entry (is_at (bytes_cmp k)) m.entries)) = ap (λ (es : List (List ℕ × CellMap)). sum_by len (values_of es)) e in
-    omega (arith, sum, there, same)
-
-pub no_rows : (m : BTreeMap (List ℕ) CellMap) → m.entries ≡ [] → NoneEmpty (rows_of m) × (0 ≡ count_of m)
-no_rows m none = (λ q c e. absurd (no_some c (sym (get_tree m q ∙ ap (lookup (is_at (bytes_cmp q))) none) ∙ e)), sym (ap (λ (es : List (List ℕ × CellMap)). sum_by len (values_of es)) none))
+pub no_rows : (m : Rows) → m ≡ empty → NoneEmpty m × (0 ≡ count_of m)
+no_rows m none =
+    let nothing : entries m ≡ [] = nil_from_length (entries m) (sym (len-entries m) ∙ ap len none ∙ len-empty bytes_cmp CellMap) in
+    (λ q c e. absurd (no_some c (sym (ap (λ r. get r q) none ∙ get-empty bytes_cmp q) ∙ e)), ap cells_among (sym nothing))
 
 pub changes_twice : (a b c : Rows) (k : List ℕ) (x y : CellMap) → ChangesRow a b k x → ChangesRow b c k y → ChangesRow a c k y
 changes_twice a b c k x y one two = record { here = two.here; others = λ q ne. two.others q ne ∙ one.others q ne }
@@ -199,8 +172,8 @@ none_empty_emptied old mid new k w none was is q found e = at (same_or_not q k)
         (sym (get-insert nat_list_cmp_total old k w q ∙ ap (λ b. cond b (Some w) (get old q)) (untied q k ne)) ∙ ap (λ r. get r q) (sym was)
         ∙ sym (get-remove nat_list_cmp_total mid k q ∙ ap (λ b. cond b None (get mid q)) (untied q k ne)) ∙ got)
 
-pub through_there : (m n : BTreeMap (List ℕ) CellMap) (k : List ℕ) (v w : CellMap) → WritesThrough bytes_cmp (bytes_cmp k) m w n → Some v ≡ tree.get bytes_cmp m k → Some w ≡ tree.get bytes_cmp n k
-through_there m n k v w t e = sym (t.3 (subst IsSome e refl)).1
+pub put_there : (m : Rows) (k : List ℕ) (w : CellMap) → Some w ≡ get (insert m k w) k
+put_there m k w = sym (get-insert nat_list_cmp_total m k w k ∙ ap (λ b. cond b (Some w) (get m k)) (tied k))
 
 pub on_err : {A E P : Type 0} (r : Result A E) → P → OnErr r P
 on_err (Ok a) p = tt

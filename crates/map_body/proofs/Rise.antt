@@ -19,7 +19,8 @@ use Rattle.list_lemmas.specs.BytesOrder.{bytes_cmp}
 use Rattle.cell_model.specs.Counts.{line_of, lines_of}
 use Rattle.cell_model.specs.Rising.{LinesRise, is_above, place_of_line}
 use Rattle.packed_cells.specs.Keyed.{CellMap, cells_in}
-use Rattle.map_body.specs.TableRows.{Rows, NoneEmpty, rows_below, rows_from}
+use Rattle.map_body.specs.TableRows.{NoneEmpty}
+use Rattle.row_pages.specs.RowMaps.{Rows, rows_below, rows_from}
 use Rattle.map_body.specs.Whole.{rows_at, NoCounterRow, store_in, placed, tagged, flat, lines_in}
 use Rattle.tsd_base.specs.declared.kinds.Kind.{Kind}
 use Rattle.tsd_base.specs.declared.kinds.Kind.TheVariants.{Metric, TagKey, TagValue}

@@ -17,7 +17,8 @@ use Rattle.list_lemmas.specs.BytesOrder.{bytes_cmp}
 use Rattle.cell_model.specs.Store.{row_cmp, place_of, table_number, content_at}
 use Rattle.cell_model.specs.Machine.{counter_row}
 use Rattle.packed_cells.specs.Keyed.{CellMap}
-use Rattle.map_body.specs.TableRows.{Rows, row_in, NoneEmpty}
+use Rattle.map_body.specs.TableRows.{row_in, NoneEmpty}
+use Rattle.row_pages.specs.RowMaps.{Rows}
 use Rattle.map_body.specs.Whole.{rows_at, with_counters, tagged, all_rows, content_of, flat, store_in, NoCounterRow}
 use Rattle.map_body.proofs.Maps.{exact, tied, untied, same_or_not, no_some}
 use Rattle.cell_model.proofs.CallerLemmas.{places_total}

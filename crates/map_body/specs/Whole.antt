@@ -12,7 +12,8 @@ use Rattle.cell_model.specs.Store.{Store, place_of}
 use Rattle.cell_model.specs.Counts.{line_of}
 use Rattle.cell_model.specs.Sound.{IsCounter}
 use Rattle.packed_cells.specs.Keyed.{CellMap}
-use Rattle.map_body.specs.TableRows.{Rows, row_in}
+use Rattle.map_body.specs.TableRows.{row_in}
+use Rattle.row_pages.specs.RowMaps.{Rows}
 
 -- the rows of a table among those of all
 abbrev pub rows_at : List Rows → Table → Rows

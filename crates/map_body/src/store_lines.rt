@@ -10,8 +10,8 @@ use cell_model::{Cells, ListLine, Listing};
 use packed_cells::row_cells::RowCells;
 use qual_codec::Bytes;
 use row_key::Table;
+use row_pages::RowWalk;
 use std::alloc::{AllocError, Global};
-use std::collections::btree_map::Range;
 
 /// The cells of a row once more.
 pub fn copy_cells(alloc: Global, row: &RowCells) -> Result<Cells, AllocError>
@@ -73,12 +73,12 @@ pub fn add_rows(
     listing: &mut Listing,
     alloc: Global,
     table: Table,
-    rows: Range<'_, Bytes, RowCells>,
+    mut rows: RowWalk<'_>,
 ) -> Result<(), AllocError>
     requires { LinesRise (listing.old ++ lines_in table rows) }
     ensures { OnOk result (listing.new ≡ listing.old ++ lines_in table rows.entry) }
 {
-    for (bytes, row) in rows {
+    while let Some((bytes, row)) = rows.next() {
         add_row(listing, alloc, table, bytes, row)?;
     }
     Ok(())

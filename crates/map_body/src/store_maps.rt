@@ -1,10 +1,12 @@
 //! A body whose store is kept in maps.
-ghost use Rattle.std.specs.Prelude.{◌≡◌, ◌≢◌, ◌∷◌, ◌↔◌, [], true, All, IfOk, OnOk, OnErr, IsTrue, option_map};
+ghost use Rattle.std.specs.Prelude.{◌≡◌, ◌≢◌, ◌∷◌, ◌↔◌, [], true, All, IfOk, OnOk, OnErr, IsTrue, length, option_map};
+ghost use Rattle.std.specs.FinMap.{empty};
 ghost use Rattle.row_key.specs.declared.tables.Table.TheVariants.{Ids};
 ghost use Rattle.cell_model.specs.declared.row.Row.{Row};
 ghost use Rattle.cell_model.specs.declared.row.ListLine.{ListLine};
 ghost use Rattle.cell_model.specs.PlaceOrder.{table_number};
 ghost use Rattle.cell_model.specs.Store.{Store, value_at, written};
+ghost use Rattle.cell_model.specs.Counts.{point_entries};
 ghost use Rattle.cell_model.specs.Listed.{store_of};
 ghost use Rattle.cell_model.specs.Sound.{IsCounter};
 ghost use Rattle.cell_model.specs.Machine.{counter_row};
@@ -48,29 +50,37 @@ impl Model for MapBody {
 }
 
 impl MapBody {
-    /// The body of a listing's store. Each line of the counters' row is a counter. It fails only for want of memory.
-    pub fn of(alloc: Global, listing: Listing) -> Result<MapBody, AllocError>
-        requires { All HasNoFlaw listing }
-        ensures { IfOk result (λ body. body ≡ store_of listing) }
+    /// The body of an empty store. It takes no memory.
+    pub fn make(alloc: Global) -> MapBody
+        ensures { result ≡ empty }
     {
-        let mut body = MapBody {
+        MapBody {
             tables: [
                 TableRows::make(alloc),
                 TableRows::make(alloc),
                 TableRows::make(alloc),
             ],
             counters: Counters::make(),
-        };
+        }
+    }
+
+    /// The body of a listing's store. Each line of the counters' row is a counter. It fails only for want of memory.
+    pub fn of(alloc: Global, listing: Listing) -> Result<MapBody, AllocError>
+        requires { All HasNoFlaw listing }
+        ensures { IfOk result (λ body. body ≡ store_of listing) }
+    {
+        let mut body = MapBody::make(alloc);
         for line in listing.lines() {
             body.load(alloc, line)?;
         }
         Ok(body)
     }
 
-    // Writes the cell of a line.
-    fn load(&mut self, alloc: Global, line: &ListLine) -> Result<(), AllocError>
+    /// Writes the cell of a line with version 0, over an older one too. A line of the counters' row is a counter.
+    pub fn load(&mut self, alloc: Global, line: &ListLine) -> Result<(), AllocError>
         requires { HasNoFlaw line.now }
-        ensures { OnOk result (self.new ≡ written self.old (record { table = line.now.table; bytes = line.now.row }) line.now.qual line.now.value 0) }
+        ensures ok { OnOk result (self.new ≡ written self.old (record { table = line.now.table; bytes = line.now.row }) line.now.qual line.now.value 0) }
+        ensures err { OnErr result (self.new ≡ self.old) }
     {
         if is_counter_row(line.table, &line.row) {
             let kind = kind_of(line.qual.list());
@@ -79,6 +89,14 @@ impl MapBody {
             return Ok(());
         }
         self.put_cell(alloc, line.table, &line.row, &line.qual, &line.value)
+    }
+
+    /// How many cells the point rows have.
+    #[inline]
+    pub fn point_cells(&self) -> u64
+        ensures { result ≡ length (point_entries self.now) }
+    {
+        self.tables[number(Table::Points)].count()
     }
 
     // Writes a cell with version 0.
@@ -205,7 +223,7 @@ impl Body for MapBody {
         Tally {
             ids,
             point_rows: points.len() as u64,
-            point_cells: points.count(),
+            point_cells: self.point_cells(),
         }
     }
 
@@ -233,7 +251,7 @@ fn is_counter_row(table: Table, bytes: &Bytes) -> bool
 }
 
 /// The place of a table among the tables.
-fn number(table: Table) -> usize
+pub fn number(table: Table) -> usize
     ensures { result ≡ table_number table }
 {
     match table {

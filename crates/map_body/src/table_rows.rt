@@ -2,10 +2,12 @@
 ghost use Rattle.std.specs.Prelude.{◌≡◌, ◌+◌, ◌++◌, IfOk, OnOk, OnErr, None, length, find, option_map, if◌then◌else◌};
 ghost use Rattle.std.specs.Option.{option_copied};
 ghost use Rattle.std.specs.FinMap.{empty, get, insert, len, entries};
-ghost use Rattle.std.specs.BTreeMap.{IsUnchanged};
+ghost use Rattle.std.specs.Ordering.{is_lt};
 ghost use Rattle.cell_model.specs.Rising.{LinesRise};
+ghost use Rattle.list_lemmas.specs.BytesOrder.{bytes_cmp};
 ghost use Rattle.packed_cells.specs.Keyed.{CellMap, stamped};
-ghost use Rattle.map_body.specs.TableRows.{Rows, rows_of, count_of, row_in, NoneEmpty, ChangesRow, left, gone, is_within, cells_among, rows_below, rows_from};
+ghost use Rattle.map_body.specs.TableRows.{count_of, row_in, NoneEmpty, ChangesRow, left, gone, is_within, cells_among};
+ghost use Rattle.row_pages.specs.RowMaps.{Rows, rows_below, rows_from};
 ghost use Rattle.map_body.specs.Whole.{lines_in};
 
 use crate::store_lines::add_rows;
@@ -13,8 +15,8 @@ use cell_model::Listing;
 use packed_cells::row_cells::RowCells;
 use qual_codec::Bytes;
 use row_key::Table;
+use row_pages::RowPages;
 use std::alloc::{AllocError, Global};
-use std::collections::BTreeMap;
 use std::marker::Model;
 
 /// The rows of one table, each with a cell.
@@ -22,24 +24,24 @@ use std::marker::Model;
 /// Contracts see them as the finite map from a row's bytes to its cells.
 #[derive(Drop)]
 pub struct TableRows {
-    rows: BTreeMap<Bytes, RowCells>,
+    rows: RowPages,
     // How many cells they have.
     count: u64,
 }
 
 impl Model for TableRows {
-    ghost use Rattle.map_body.specs.TableRows.{Rows, coded_rows};
+    ghost use Rattle.row_pages.specs.RowMaps.{Rows, coded_rows};
 
     ghost Value = { Rows };
 
     ghost coded = { coded_rows };
 
     ghost use Rattle.std.specs.Prelude.{◌≡◌};
-    ghost use Rattle.map_body.specs.TableRows.{rows_of, count_of, NoneEmpty};
+    ghost use Rattle.map_body.specs.TableRows.{count_of, NoneEmpty};
 
-    ghost view = { λ t. rows_of t.rows };
+    ghost view = { λ t. t.rows };
 
-    ghost invariant = { λ t. NoneEmpty (rows_of t.rows) × (t.count ≡ count_of t.rows) };
+    ghost invariant = { λ t. NoneEmpty t.rows × (t.count ≡ count_of t.rows) };
 }
 
 impl TableRows {
@@ -48,14 +50,13 @@ impl TableRows {
         ensures { result ≡ empty }
     {
         TableRows {
-            rows: BTreeMap::new(alloc),
+            rows: RowPages::make(alloc),
             count: 0,
         }
     }
 
     /// The cells of a row, if it is there.
     #[inline]
-    #[tactic(auto, using(crate::proofs::Maps::get_tree))]
     pub fn row(&self, row: &Bytes) -> Option<&RowCells>
         ensures { option_copied result ≡ get self.now row.now }
     {
@@ -77,11 +78,17 @@ impl TableRows {
         ensures first { option_map (λ r. (r.0.now, r.1.now)) result ≡ find (λ r. is_within from.now to.now r.0) (entries self.now) }
         ensures none_empty { NoneEmpty self.now }
     {
-        let _ = &self.rows;
-        if from >= to {
-            return None;
+        let mut walk = self.rows.walk_from(from);
+        match walk.next() {
+            Some(found) => {
+                if is_below(found.0, to) {
+                    Some(found)
+                } else {
+                    None
+                }
+            }
+            None => None,
         }
-        self.rows.range(from..to).next()
     }
 
     /// How many rows there are.
@@ -96,7 +103,6 @@ impl TableRows {
     pub fn count(&self) -> u64
         ensures { result ≡ cells_among (entries self.now) }
     {
-        let _ = self.rows.len();
         self.count
     }
 
@@ -112,7 +118,7 @@ impl TableRows {
         ensures lines { OnOk result (listing.new ≡ listing.old ++ lines_in table (rows_below to.now (entries self.now))) }
         ensures none_empty { NoneEmpty self.now }
     {
-        add_rows(listing, alloc, table, self.rows.range(..to))?;
+        add_rows(listing, alloc, table, self.rows.walk_below(to))?;
         Ok(())
     }
 
@@ -127,7 +133,7 @@ impl TableRows {
         requires { LinesRise (listing.old ++ lines_in table (rows_from from.now (entries self.now))) }
         ensures { OnOk result (listing.new ≡ listing.old ++ lines_in table (rows_from from.now (entries self.now))) }
     {
-        add_rows(listing, alloc, table, self.rows.range(from..))?;
+        add_rows(listing, alloc, table, self.rows.walk_from(from))?;
         Ok(())
     }
 
@@ -169,10 +175,17 @@ impl TableRows {
     }
 }
 
+// Whether a row is below these bytes.
+fn is_below(row: &Bytes, to: &Bytes) -> bool
+    ensures { result ≡ is_lt (bytes_cmp row.now to.now) }
+{
+    row.cmp(to).is_lt()
+}
+
 // Sets the version of a cell, if it is there.
-fn stamp_in(rows: &mut BTreeMap<Bytes, RowCells>, row: &Bytes, qual: &[u8], version: u64)
-    ensures rest { ChangesRow (rows_of rows.old) (rows_of rows.new) row.now (stamped (row_in (rows_of rows.old) row.now) qual.now version) }
-    ensures none_empty { NoneEmpty (rows_of rows.old) → NoneEmpty (rows_of rows.new) }
+fn stamp_in(rows: &mut RowPages, row: &Bytes, qual: &[u8], version: u64)
+    ensures rest { ChangesRow rows.old rows.new row.now (stamped (row_in rows.old row.now) qual.now version) }
+    ensures none_empty { NoneEmpty rows.old → NoneEmpty rows.new }
     ensures same { count_of rows.new ≡ count_of rows.old }
 {
     match rows.get_mut(row) {
@@ -183,15 +196,15 @@ fn stamp_in(rows: &mut BTreeMap<Bytes, RowCells>, row: &Bytes, qual: &[u8], vers
 
 // Writes a cell with version 0, and answers whether there was none of this row and qualifier.
 fn put_cell(
-    rows: &mut BTreeMap<Bytes, RowCells>,
+    rows: &mut RowPages,
     alloc: Global,
     row: &Bytes,
     qual: &[u8],
     value: &[u8],
 ) -> Result<bool, AllocError>
-    ensures ok { OnOk result (rows_of rows.new ≡ insert (rows_of rows.old) row.now (insert (row_in (rows_of rows.old) row.now) qual.now (value.now, 0))) }
+    ensures ok { OnOk result (rows.new ≡ insert rows.old row.now (insert (row_in rows.old row.now) qual.now (value.now, 0))) }
     ensures count { IfOk result (λ added. count_of rows.new ≡ count_of rows.old + (if added then 1 else 0)) }
-    ensures err { OnErr result (IsUnchanged rows.old rows.new) }
+    ensures err { OnErr result (rows.new ≡ rows.old) }
 {
     match rows.get_mut(row) {
         Some(cells) => {
@@ -219,16 +232,16 @@ fn put_more(cells: &mut RowCells, qual: &[u8], value: &[u8]) -> Result<bool, All
 
 // Writes the first cell of a row, with version 0.
 fn put_first(
-    rows: &mut BTreeMap<Bytes, RowCells>,
+    rows: &mut RowPages,
     alloc: Global,
     row: &Bytes,
     qual: &[u8],
     value: &[u8],
 ) -> Result<(), AllocError>
-    requires { get (rows_of rows.old) row.now ≡ None }
-    ensures ok { OnOk result (rows_of rows.new ≡ insert (rows_of rows.old) row.now (insert empty qual.now (value.now, 0))) }
+    requires { get rows.old row.now ≡ None }
+    ensures ok { OnOk result (rows.new ≡ insert rows.old row.now (insert empty qual.now (value.now, 0))) }
     ensures count { OnOk result (count_of rows.new ≡ count_of rows.old + 1) }
-    ensures err { OnErr result (IsUnchanged rows.old rows.new) }
+    ensures err { OnErr result (rows.new ≡ rows.old) }
 {
     let mut cells = RowCells::make(alloc);
     cells.put(qual, value, 0)?;
@@ -237,10 +250,10 @@ fn put_first(
 }
 
 // Drops cells of a row, and the row if none is left, and answers how many.
-fn drop_in(rows: &mut BTreeMap<Bytes, RowCells>, row: &Bytes, which: &[(Bytes, u64)]) -> u64
-    ensures count { result ≡ gone (row_in (rows_of rows.old) row.now) which.now }
-    ensures rest { ChangesRow (rows_of rows.old) (rows_of rows.new) row.now (left (row_in (rows_of rows.old) row.now) which.now) }
-    ensures none_empty { NoneEmpty (rows_of rows.old) → NoneEmpty (rows_of rows.new) }
+fn drop_in(rows: &mut RowPages, row: &Bytes, which: &[(Bytes, u64)]) -> u64
+    ensures count { result ≡ gone (row_in rows.old row.now) which.now }
+    ensures rest { ChangesRow rows.old rows.new row.now (left (row_in rows.old row.now) which.now) }
+    ensures none_empty { NoneEmpty rows.old → NoneEmpty rows.new }
     ensures fewer { result + count_of rows.new ≡ count_of rows.old }
 {
     let Some(cells) = rows.get_mut(row) else {
@@ -248,7 +261,7 @@ fn drop_in(rows: &mut BTreeMap<Bytes, RowCells>, row: &Bytes, which: &[(Bytes, u
     };
     let count = drop_from(cells, which);
     if cells.is_empty() {
-        let _ = rows.remove(row);
+        rows.remove(row);
     }
     count
 }

@@ -5,7 +5,7 @@ use Rattle.std.specs.List.{remove}
 use Rattle.std.proofs.lemmas.List.{length-take-le, drop-drop, take-append-le, drop-append-le, take_at, drop_at, take_all, length-append, take-append-drop, length-drop, append_assoc}
 use Rattle.std.proofs.lemmas.Slice.{drop-put_mid}
 use Rattle.qual_codec.specs.declared.cells.Cell.{Cell}
-use Rattle.packed_cells.specs.declared.block.Span.{Span}
+use Rattle.packed_cells.specs.declared.mixed_cells.Span.{Span}
 use Rattle.packed_cells.specs.Packed.{cell_at, cells_at, AllApart, AllKept, end_of, stamped_at, overwritten}
 
 pub slice_kept : (bytes more : List ℕ) (at n : ℕ) → at + n ≤ length bytes → take n (drop at (bytes ++ more)) ≡ take n (drop at bytes)

@@ -4,9 +4,9 @@ use Rattle.std.specs.Prelude.{insert, slice_set, slice_index_or, nat_lt, slice_g
 use Rattle.std.specs.List.{remove}
 use Rattle.std.proofs.lemmas.List.{length-map, length-append, append_assoc}
 use Rattle.qual_codec.specs.declared.cells.Cell.{Cell}
-use Rattle.packed_cells.specs.declared.block.Head.{Head}
-use Rattle.packed_cells.specs.declared.block.Long.{Long}
-use Rattle.packed_cells.specs.declared.block.Span.{Span}
+use Rattle.packed_cells.specs.declared.mixed_cells.Head.{Head}
+use Rattle.packed_cells.specs.declared.mixed_cells.Long.{Long}
+use Rattle.packed_cells.specs.declared.mixed_cells.Span.{Span}
 use Rattle.packed_cells.specs.Packed.{cell_at, cells_at, end_of, span_at, span_short, span_long, spans, IsFound, AllFound, AllKept, IsKept, Tells, Extends, stamped_at}
 use Rattle.packed_cells.proofs.Packed.{moved, both, map_insert, map_set, map_remove, map_at, kept_at, kept_remove, cells_kept, kept_longer, inserted, inserted_kept, set_kept, was_set, stamp_kept, was_stamped, was_overwritten, overwritten_kept, cell_lengths}
 

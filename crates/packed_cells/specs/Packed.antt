@@ -1,9 +1,9 @@
 -- Cells in one block of bytes.
 use Rattle.std.specs.Prelude.{◌≡◌, ◌⊎◌, ◌+◌, ◌≤◌, ◌<◌, ℕ, List, [], ◌∷◌, ◌++◌, Option, None, Some, take, drop, length, map, nat_lt, slice_get, if◌then◌else◌}
 use Rattle.qual_codec.specs.declared.cells.Cell.{Cell}
-use Rattle.packed_cells.specs.declared.block.Head.{Head}
-use Rattle.packed_cells.specs.declared.block.Long.{Long}
-use Rattle.packed_cells.specs.declared.block.Span.{Span}
+use Rattle.packed_cells.specs.declared.mixed_cells.Head.{Head}
+use Rattle.packed_cells.specs.declared.mixed_cells.Long.{Long}
+use Rattle.packed_cells.specs.declared.mixed_cells.Span.{Span}
 
 -- what a head tells: by itself, or by the long lengths that it names
 abbrev pub span_long : Option Long → ℕ → Span

@@ -20,10 +20,10 @@ use Rattle.uid_table.specs.IdAnswers.{answered_id}
 use Rattle.uid_table.specs.Shown.{HasShown}
 use Rattle.uid_table.specs.IdSteps.{MadeSo, DidLook, LookedOrKept, Gave, GaveUp, AssignMade, ResolveMade}
 use Rattle.uid_table.specs.IdSteps.GaveUp.{before, bumped, reversed}
-use Rattle.point_put.specs.declared.config.Config.{Config}
 use Rattle.point_put.specs.declared.fault.PutFault.{PutFault}
-use Rattle.point_put.specs.declared.fault.PutFault.TheVariants.{Unknown, Exhausted, OutOfMemory, Stopped}
+use Rattle.point_put.specs.declared.fault.PutFault.TheVariants.{Unknown, Filtered, Exhausted, OutOfMemory, Stopped}
 use Rattle.point_put.specs.Configs.{makes}
+use Rattle.point_put.specs.Admissions.{Admission, IsAdmitted}
 use Rattle.point_put.specs.Entries.{ForName, ForNames, Before}
 use Rattle.point_put.specs.Entries.ForNames.{nil, more}
 use Rattle.point_put.specs.ShownIds.{AllShown, Fails, Answered, NamesAsked}
@@ -34,29 +34,30 @@ abbrev Names : Type 0
 Names = List (Kind × List ℕ)
 
 -- the entries of an assignment are those of one name
-given_up : (c : Config) (kind : Kind) (name : List ℕ) (d : Placed) (rest : List Placed) → makes c kind ≡ true → DidLook d kind name None → GaveUp kind name rest → ForName c kind name (d ∷ rest)
+given_up : (c : Admission) (kind : Kind) (name : List ℕ) (d : Placed) (rest : List Placed) → IsAdmitted c kind name → DidLook d kind name None → GaveUp kind name rest → ForName c kind name (d ∷ rest)
 given_up c kind name d _ m l before = ForName.look None l
 given_up c kind name d _ m l (bumped id b) = ForName.bump id m l b
 given_up c kind name d _ m l (reversed id b r) = ForName.reverse id m l b r
 
-all_given : (c : Config) (kind : Kind) (name : List ℕ) (id : ℕ) (reply : Claimed) (d : Placed) (rest list : List Placed) → makes c kind ≡ true → list ≡ d ∷ rest → DidLook d kind name None → Gave kind name id reply rest → ForName c kind name list
+all_given : (c : Admission) (kind : Kind) (name : List ℕ) (id : ℕ) (reply : Claimed) (d : Placed) (rest list : List Placed) → IsAdmitted c kind name → list ≡ d ∷ rest → DidLook d kind name None → Gave kind name id reply rest → ForName c kind name list
 all_given c kind name id reply d rest list m is l g = subst (ForName c kind name) (sym (is ∙ ap (λ xs. d ∷ xs) g.list_is)) (ForName.forward id reply m l g.bumped g.reversed g.forwarded)
 
-looked_or_kept : (c : Config) (kind : Kind) (name : List ℕ) (id : ℕ) (list : List Placed) → LookedOrKept kind name id list → ForName c kind name list
+looked_or_kept : (c : Admission) (kind : Kind) (name : List ℕ) (id : ℕ) (list : List Placed) → LookedOrKept kind name id list → ForName c kind name list
 looked_or_kept c kind name id list (inl none) = subst (ForName c kind name) (sym none) ForName.none
 looked_or_kept c kind name id list (inr (d, is, l)) = subst (ForName c kind name) (sym is) (ForName.look _ l)
 
-pub for_assign : (c : Config) (kind : Kind) (name : List ℕ) (r : Result Assigned AssignFault) (list : List Placed) → makes c kind ≡ true → AssignMade kind name r list → ForName c kind name list
+pub for_assign : (c : Admission) (kind : Kind) (name : List ℕ) (r : Result Assigned AssignFault) (list : List Placed) → makes c.config kind ≡ true → AssignMade c.patterns kind name r list → ForName c kind name list
 for_assign c kind name (Ok (Existing id)) list m kept = looked_or_kept c kind name id list kept
-for_assign c kind name (Ok (Fresh id)) list m (d, rest, is, l, g) = all_given c kind name id Done d rest list m is l g
-for_assign c kind name (Ok (Lost w id)) list m (d, rest, is, l, g) = all_given c kind name w (Held (id_bytes id)) d rest list m is l g
-for_assign c kind name (Err (assign.Exhausted k)) list m (d, rest, is, l, (same, (b, last, did))) = subst (ForName c kind name) (sym (is ∙ ap (λ xs. d ∷ xs) last)) (ForName.full m l did)
+for_assign c kind name (Ok (Fresh id)) list m (d, rest, is, l, (ok, g)) = all_given c kind name id Done d rest list (m, ok) is l g
+for_assign c kind name (Ok (Lost w id)) list m (d, rest, is, l, (ok, g)) = all_given c kind name w (Held (id_bytes id)) d rest list (m, ok) is l g
+for_assign c kind name (Err (assign.Filtered k)) list m (d, rest, is, l, (same, off, last)) = subst (ForName c kind name) (sym (is ∙ ap (λ xs. d ∷ xs) last)) (ForName.look None l)
+for_assign c kind name (Err (assign.Exhausted k)) list m (d, rest, is, l, (ok, (same, (b, last, did)))) = subst (ForName c kind name) (sym (is ∙ ap (λ xs. d ∷ xs) last)) (ForName.full (m, ok) l did)
 for_assign c kind name (Err assign.OutOfMemory) list m (inl none) = subst (ForName c kind name) (sym none) ForName.none
-for_assign c kind name (Err assign.OutOfMemory) list m (inr (d, rest, is, l, g)) = subst (ForName c kind name) (sym is) (given_up c kind name d rest m l g)
+for_assign c kind name (Err assign.OutOfMemory) list m (inr (d, rest, is, l, (ok, g))) = subst (ForName c kind name) (sym is) (given_up c kind name d rest (m, ok) l g)
 for_assign c kind name (Err assign.Stopped) list m (inl none) = subst (ForName c kind name) (sym none) ForName.none
-for_assign c kind name (Err assign.Stopped) list m (inr (d, rest, is, l, g)) = subst (ForName c kind name) (sym is) (given_up c kind name d rest m l g)
+for_assign c kind name (Err assign.Stopped) list m (inr (d, rest, is, l, (ok, g))) = subst (ForName c kind name) (sym is) (given_up c kind name d rest (m, ok) l g)
 
-one_name : (c : Config) (kind : Kind) (name : List ℕ) (list : List Placed) → ForName c kind name list → ForNames c ((kind, name) ∷ []) list
+one_name : (c : Admission) (kind : Kind) (name : List ℕ) (list : List Placed) → ForName c kind name list → ForNames c ((kind, name) ∷ []) list
 one_name c kind name list f = subst (ForNames c ((kind, name) ∷ [])) (nothing_behind list) (more f nil)
 
 shown_one : (s : Seen) (kind : Kind) (name : List ℕ) (id : ℕ) → HasShown s kind name id → AllShown s ((kind, name) ∷ [])
@@ -73,29 +74,44 @@ shown_none : (s : Seen) → AllShown s []
 shown_none s k n c = absurd (not_in (k, n) c)
 
 -- one name that was assigned
-pub assigned_ok : (c : Config) (old new : Seen) (kind : Kind) (name : List ℕ) (a : Assigned) (id : ℕ) → makes c kind ≡ true → MadeSo old (AssignMade kind name (Ok a)) new → HasShown new kind name (answered_id a)
+pub assigned_ok : (c : Admission) (old new : Seen) (kind : Kind) (name : List ℕ) (a : Assigned) (id : ℕ) → makes c.config kind ≡ true → MadeSo old (AssignMade c.patterns kind name (Ok a)) new → HasShown new kind name (answered_id a)
     → NamesAsked {T = ℕ} c ((kind, name) ∷ []) old (Ok id) new
 assigned_ok c old new kind name a id m (list, made, q) h = record { list = list; made = made; entries = one_name c kind name list (for_assign c kind name (Ok a) list m q); answered = shown_one new kind name _ h }
 
-pub assigned_full : (c : Config) (old new : Seen) (kind k : Kind) (name : List ℕ) → makes c kind ≡ true → MadeSo old (AssignMade kind name (Err (assign.Exhausted k))) new
+pub assigned_filtered : (c : Admission) (old new : Seen) (kind k : Kind) (name n : List ℕ) → n ≡ name → makes c.config kind ≡ true → MadeSo old (AssignMade c.patterns kind name (Err (assign.Filtered k))) new
+    → NamesAsked {T = ℕ} c ((kind, name) ∷ []) old (Err (Filtered k n)) new
+assigned_filtered c old new kind k name n told m (list, made, (d, rest, is, l, (same, off, last))) =
+    let one : NamesAsked {T = ℕ} c ((kind, name) ∷ []) old (Err (Filtered kind name)) new = record {
+      list = list;
+      made = made;
+      entries = one_name c kind name list (for_assign c kind name (Err (assign.Filtered k)) list m (d, rest, is, l, (same, off, last)));
+      answered = ((m, off, ([], d, is ∙ ap (λ xs. d ∷ xs) last, l)), ([], [], refl, shown_none new));
+    } in
+    subst (λ (x : Kind × List ℕ). NamesAsked {T = ℕ} c ((kind, name) ∷ []) old (Err (Filtered x.0 x.1)) new) (λ i. ((sym same) i, (sym told) i)) one
+
+-- no memory for the name that is told
+pub assigned_without : (c : Admission) (old new : Seen) (kind k : Kind) (name : List ℕ) → makes c.config kind ≡ true → MadeSo old (AssignMade c.patterns kind name (Err (assign.Filtered k))) new → NamesAsked {T = ℕ} c ((kind, name) ∷ []) old (Err OutOfMemory) new
+assigned_without c old new kind k name m (list, made, q) = record { list = list; made = made; entries = one_name c kind name list (for_assign c kind name (Err (assign.Filtered k)) list m q); answered = tt }
+
+pub assigned_full : (c : Admission) (old new : Seen) (kind k : Kind) (name : List ℕ) → makes c.config kind ≡ true → MadeSo old (AssignMade c.patterns kind name (Err (assign.Exhausted k))) new
     → NamesAsked {T = ℕ} c ((kind, name) ∷ []) old (Err (Exhausted k)) new
-assigned_full c old new kind k name m (list, made, (d, rest, is, l, (same, (b, last, did)))) =
-    let entries = one_name c kind name list (for_assign c kind name (Err (assign.Exhausted k)) list m (d, rest, is, l, (same, (b, last, did)))) in
+assigned_full c old new kind k name m (list, made, (d, rest, is, l, (ok, (same, (b, last, did))))) =
+    let entries = one_name c kind name list (for_assign c kind name (Err (assign.Exhausted k)) list m (d, rest, is, l, (ok, (same, (b, last, did))))) in
     let among : Contains list b = subst (λ xs. Contains xs b) (sym (is ∙ ap (λ xs. d ∷ xs) last)) (there d b (b ∷ []) (here b [])) in
     let full : NamesAsked {T = ℕ} c ((kind, name) ∷ []) old (Err (Exhausted kind)) new = record { list = list; made = made; entries = entries; answered = ((m, (b, among, did)), (name, ([], [], refl, shown_none new))) } in
     subst (λ (x : Kind). NamesAsked {T = ℕ} c ((kind, name) ∷ []) old (Err (Exhausted x)) new) (sym same) full
 
-pub assigned_memory : (c : Config) (old new : Seen) (kind : Kind) (name : List ℕ) → makes c kind ≡ true → MadeSo old (AssignMade kind name (Err assign.OutOfMemory)) new → NamesAsked {T = ℕ} c ((kind, name) ∷ []) old (Err OutOfMemory) new
+pub assigned_memory : (c : Admission) (old new : Seen) (kind : Kind) (name : List ℕ) → makes c.config kind ≡ true → MadeSo old (AssignMade c.patterns kind name (Err assign.OutOfMemory)) new → NamesAsked {T = ℕ} c ((kind, name) ∷ []) old (Err OutOfMemory) new
 assigned_memory c old new kind name m (list, made, q) = record { list = list; made = made; entries = one_name c kind name list (for_assign c kind name (Err assign.OutOfMemory) list m q); answered = tt }
 
-pub assigned_stopped : (c : Config) (old new : Seen) (kind : Kind) (name : List ℕ) → makes c kind ≡ true → MadeSo old (AssignMade kind name (Err assign.Stopped)) new → NamesAsked {T = ℕ} c ((kind, name) ∷ []) old (Err Stopped) new
+pub assigned_stopped : (c : Admission) (old new : Seen) (kind : Kind) (name : List ℕ) → makes c.config kind ≡ true → MadeSo old (AssignMade c.patterns kind name (Err assign.Stopped)) new → NamesAsked {T = ℕ} c ((kind, name) ∷ []) old (Err Stopped) new
 assigned_stopped c old new kind name m (list, made, q) = record { list = list; made = made; entries = one_name c kind name list (for_assign c kind name (Err assign.Stopped) list m q); answered = tt }
 
 -- one name that was resolved
-pub resolved_ok : (c : Config) (old new : Seen) (kind : Kind) (name : List ℕ) (id : ℕ) → MadeSo old (ResolveMade kind name (Ok id)) new → HasShown new kind name id → NamesAsked {T = ℕ} c ((kind, name) ∷ []) old (Ok id) new
+pub resolved_ok : (c : Admission) (old new : Seen) (kind : Kind) (name : List ℕ) (id : ℕ) → MadeSo old (ResolveMade kind name (Ok id)) new → HasShown new kind name id → NamesAsked {T = ℕ} c ((kind, name) ∷ []) old (Ok id) new
 resolved_ok c old new kind name id (list, made, kept) h = record { list = list; made = made; entries = one_name c kind name list (looked_or_kept c kind name id list kept); answered = shown_one new kind name id h }
 
-pub resolved_unknown : (c : Config) (old new : Seen) (kind k : Kind) (name n : List ℕ) → n ≡ name → makes c kind ≡ false → MadeSo old (ResolveMade kind name (Err (resolve.Unknown k))) new
+pub resolved_unknown : (c : Admission) (old new : Seen) (kind k : Kind) (name n : List ℕ) → n ≡ name → makes c.config kind ≡ false → MadeSo old (ResolveMade kind name (Err (resolve.Unknown k))) new
     → NamesAsked {T = ℕ} c ((kind, name) ∷ []) old (Err (Unknown k n)) new
 resolved_unknown c old new kind k name n same m (list, made, (of, (d, is, l))) =
     let among : Contains list d = subst (λ xs. Contains xs d) (sym is) (here d []) in
@@ -108,13 +124,13 @@ resolved_unknown c old new kind k name n same m (list, made, (of, (d, is, l))) =
     subst (λ (x : Kind × List ℕ). NamesAsked {T = ℕ} c ((kind, name) ∷ []) old (Err (Unknown x.0 x.1)) new) (λ i. ((sym of) i, (sym same) i)) one
 
 -- no memory for the name that is told
-pub resolved_without : (c : Config) (old new : Seen) (kind k : Kind) (name : List ℕ) → MadeSo old (ResolveMade kind name (Err (resolve.Unknown k))) new → NamesAsked {T = ℕ} c ((kind, name) ∷ []) old (Err OutOfMemory) new
+pub resolved_without : (c : Admission) (old new : Seen) (kind k : Kind) (name : List ℕ) → MadeSo old (ResolveMade kind name (Err (resolve.Unknown k))) new → NamesAsked {T = ℕ} c ((kind, name) ∷ []) old (Err OutOfMemory) new
 resolved_without c old new kind k name (list, made, (of, (d, is, l))) = record { list = list; made = made; entries = one_name c kind name list (subst (ForName c kind name) (sym is) (ForName.look _ l)); answered = tt }
 
-pub resolved_memory : (c : Config) (old new : Seen) (kind : Kind) (name : List ℕ) → MadeSo old (ResolveMade kind name (Err resolve.OutOfMemory)) new → NamesAsked {T = ℕ} c ((kind, name) ∷ []) old (Err OutOfMemory) new
+pub resolved_memory : (c : Admission) (old new : Seen) (kind : Kind) (name : List ℕ) → MadeSo old (ResolveMade kind name (Err resolve.OutOfMemory)) new → NamesAsked {T = ℕ} c ((kind, name) ∷ []) old (Err OutOfMemory) new
 resolved_memory c old new kind name (list, made, none) = record { list = list; made = made; entries = one_name c kind name list (subst (ForName c kind name) (sym none) ForName.none); answered = tt }
 
-pub resolved_stopped : (c : Config) (old new : Seen) (kind : Kind) (name : List ℕ) → MadeSo old (ResolveMade kind name (Err resolve.Stopped)) new → NamesAsked {T = ℕ} c ((kind, name) ∷ []) old (Err Stopped) new
+pub resolved_stopped : (c : Admission) (old new : Seen) (kind : Kind) (name : List ℕ) → MadeSo old (ResolveMade kind name (Err resolve.Stopped)) new → NamesAsked {T = ℕ} c ((kind, name) ∷ []) old (Err Stopped) new
 resolved_stopped c old new kind name (list, made, none) = record { list = list; made = made; entries = one_name c kind name list (subst (ForName c kind name) (sym none) ForName.none); answered = tt }
 
 pub all_kept : (s t : Seen) (names : Names) → Extends s t → AllShown s names → AllShown t names
@@ -140,12 +156,12 @@ in_left (x ∷ xs) ys y c = elim (split x y xs c) [ inl same ↦ subst (Contains
 all_joined : (s : Seen) (xs ys : Names) → AllShown s xs → AllShown s ys → AllShown s (xs ++ ys)
 all_joined s xs ys a b k n c = elim (in_either xs ys (k, n) c) [ inl l ↦ a k n l | inr r ↦ b k n r ]
 
-names_joined : (c : Config) (xs ys : Names) (l m : List Placed) → ForNames c xs l → ForNames c ys m → ForNames c (xs ++ ys) (l ++ m)
+names_joined : (c : Admission) (xs ys : Names) (l m : List Placed) → ForNames c xs l → ForNames c ys m → ForNames c (xs ++ ys) (l ++ m)
 names_joined c _ ys _ m nil b = b
 names_joined c _ ys _ m (more {kind} {name} {names} {part} {list} f a) b =
     subst (ForNames c ((kind, name) ∷ (names ++ ys))) (sym (append_assoc part list m)) (more f (names_joined c names ys list m a b))
 
-none_for : (c : Config) (ys : Names) → ForNames c ys []
+none_for : (c : Admission) (ys : Names) → ForNames c ys []
 none_for c [] = nil
 none_for c (n ∷ ys) = more ForName.none (none_for c ys)
 
@@ -155,20 +171,23 @@ before_more s xs ys kind name a (b, after, is, all) = (xs ++ b, after, ap (λ zs
 behind_more : (s : Seen) (xs ys : Names) (kind : Kind) (name : List ℕ) → Before xs kind name (AllShown s) → Before (xs ++ ys) kind name (AllShown s)
 behind_more s xs ys kind name (b, after, is, all) = (b, after ++ ys, ap (λ zs. zs ++ ys) is ∙ append_assoc b ((kind, name) ∷ after) ys, all)
 
-fails_later : (c : Config) (s : Seen) (xs ys : Names) (l m : List Placed) (e : PutFault) → AllShown s xs → Fails c ys s e m → Fails c (xs ++ ys) s e (l ++ m)
+fails_later : (c : Admission) (s : Seen) (xs ys : Names) (l m : List Placed) (e : PutFault) → AllShown s xs → Fails c ys s e m → Fails c (xs ++ ys) s e (l ++ m)
 fails_later c s xs ys l m (Unknown kind name) a ((off, (d, among, look)), b) = ((off, (d, in_right l m d among, look)), before_more s xs ys kind name a b)
+fails_later c s xs ys l m (Filtered kind name) a ((on, off, (front, d, is, look)), b) =
+    ((on, off, (l ++ front, d, ap (λ zs. l ++ zs) is ∙ sym (append_assoc l front (d ∷ [])), look)), before_more s xs ys kind name a b)
 fails_later c s xs ys l m (Exhausted kind) a ((on, (d, among, did)), (name, b)) = ((on, (d, in_right l m d among, did)), (name, before_more s xs ys kind name a b))
 fails_later c s xs ys l m OutOfMemory a f = tt
 fails_later c s xs ys l m Stopped a f = tt
 
-fails_before : (c : Config) (s : Seen) (xs ys : Names) (l : List Placed) (e : PutFault) → Fails c xs s e l → Fails c (xs ++ ys) s e l
+fails_before : (c : Admission) (s : Seen) (xs ys : Names) (l : List Placed) (e : PutFault) → Fails c xs s e l → Fails c (xs ++ ys) s e l
 fails_before c s xs ys l (Unknown kind name) (was, b) = (was, behind_more s xs ys kind name b)
+fails_before c s xs ys l (Filtered kind name) (was, b) = (was, behind_more s xs ys kind name b)
 fails_before c s xs ys l (Exhausted kind) (was, (name, b)) = (was, (name, behind_more s xs ys kind name b))
 fails_before c s xs ys l OutOfMemory f = tt
 fails_before c s xs ys l Stopped f = tt
 
 -- names that were asked there others
-pub asked_then : {T U : Type 0} (c : Config) (xs ys : Names) (a b d : Seen) (x : T) (r : Result U PutFault) → NamesAsked {T = T} c xs a (Ok x) b → NamesAsked {T = U} c ys b r d → NamesAsked {T = U} c (xs ++ ys) a r d
+pub asked_then : {T U : Type 0} (c : Admission) (xs ys : Names) (a b d : Seen) (x : T) (r : Result U PutFault) → NamesAsked {T = T} c xs a (Ok x) b → NamesAsked {T = U} c ys b r d → NamesAsked {T = U} c (xs ++ ys) a r d
 asked_then {T} {U} c xs ys a b d x r p q = record {
   list = p.list ++ q.list;
   made = made_joined a b d p.list q.list p.made q.made;
@@ -184,7 +203,7 @@ asked_then {T} {U} c xs ys a b d x r p q = record {
     at (Err e) f = fails_later c d xs ys p.list q.list e kept f
 
 -- names of which the first failed
-pub asked_failed : {T U : Type 0} (c : Config) (xs ys : Names) (a b : Seen) (e : PutFault) → NamesAsked {T = T} c xs a (Err e) b → NamesAsked {T = U} c (xs ++ ys) a (Err e) b
+pub asked_failed : {T U : Type 0} (c : Admission) (xs ys : Names) (a b : Seen) (e : PutFault) → NamesAsked {T = T} c xs a (Err e) b → NamesAsked {T = U} c (xs ++ ys) a (Err e) b
 asked_failed c xs ys a b e p = record {
   list = p.list;
   made = p.made;
@@ -193,14 +212,14 @@ asked_failed c xs ys a b e p = record {
 }
 
 -- nothing was asked
-pub asked_nothing : (c : Config) (s : Seen) → NamesAsked {T = Unit {0}} c [] s (Ok tt) s
+pub asked_nothing : (c : Admission) (s : Seen) → NamesAsked {T = Unit {0}} c [] s (Ok tt) s
 asked_nothing c s = record { list = []; made = nothing_made s; entries = nil; answered = shown_none s }
 
 -- the same under another type of answer
-pub asked_ok_as : {T U : Type 0} (c : Config) (names : Names) (a b : Seen) (x : T) (y : U) → NamesAsked {T = T} c names a (Ok x) b → NamesAsked {T = U} c names a (Ok y) b
+pub asked_ok_as : {T U : Type 0} (c : Admission) (names : Names) (a b : Seen) (x : T) (y : U) → NamesAsked {T = T} c names a (Ok x) b → NamesAsked {T = U} c names a (Ok y) b
 asked_ok_as c names a b x y p = record { list = p.list; made = p.made; entries = p.entries; answered = p.answered }
 
-pub asked_err_as : {T U : Type 0} (c : Config) (names : Names) (a b : Seen) (e : PutFault) → NamesAsked {T = T} c names a (Err e) b → NamesAsked {T = U} c names a (Err e) b
+pub asked_err_as : {T U : Type 0} (c : Admission) (names : Names) (a b : Seen) (e : PutFault) → NamesAsked {T = T} c names a (Err e) b → NamesAsked {T = U} c names a (Err e) b
 asked_err_as c names a b e p = record { list = p.list; made = p.made; entries = p.entries; answered = p.answered }
 
 -- a fault that was passed on

@@ -14,9 +14,9 @@ use Rattle.cell_model.specs.Lawful.{IsLawful}
 use Rattle.cell_model.specs.Seen.{Seen, Fits}
 use Rattle.cell_model.specs.Deeds.{Made}
 use Rattle.uid_table.specs.IdSteps.{MadeSo}
-use Rattle.point_put.specs.declared.config.Config.{Config}
+use Rattle.point_put.specs.Admissions.{Admission}
 use Rattle.point_put.specs.declared.fault.PutFault.{PutFault}
-use Rattle.point_put.specs.declared.fault.PutFault.TheVariants.{Unknown, Exhausted, OutOfMemory, Stopped}
+use Rattle.point_put.specs.declared.fault.PutFault.TheVariants.{Unknown, Filtered, Exhausted, OutOfMemory, Stopped}
 use Rattle.point_put.specs.Entries.{ForName, ForNames, Before}
 use Rattle.point_put.specs.Entries.ForName.{none, look, full, bump, reverse, forward}
 use Rattle.point_put.specs.Entries.ForNames.{nil, more}
@@ -36,25 +36,27 @@ before_resolved : (s : Seen) (h : History) (names : Names) (kind : Kind) (name :
 before_resolved s h names kind name l f (b, after, is, all) = (b, after, is, all_resolved s h b l f all)
 
 -- the names weren't all resolved
-pub put_failed : (c : Config) (point : DataPoint) (old new : Seen) (e : PutFault) → NamesAsked {T = RowKey} c (names_of point) old (Err e) new → PutSays c point old (Err e) new
+pub put_failed : (c : Admission) (point : DataPoint) (old new : Seen) (e : PutFault) → NamesAsked {T = RowKey} c (names_of point) old (Err e) new → PutSays c point old (Err e) new
 put_failed c point old new e p = (p.list, p.made, λ h l f. at h l f e p.answered)
   where
     at : (h : History) → IsLawful h → Fits new h → (e : PutFault) → Fails c (names_of point) new e p.list → PointAsked c point (first new.length h) p.list (Err e)
     at h l f (Unknown kind name) (was, b) = (p.entries, was, before_resolved new h (names_of point) kind name l f b)
+    at h l f (Filtered kind name) (was, b) = (p.entries, was, before_resolved new h (names_of point) kind name l f b)
     at h l f (Exhausted kind) (was, (name, b)) = (p.entries, was, (name, before_resolved new h (names_of point) kind name l f b))
     at h l f OutOfMemory x = p.entries
     at h l f Stopped x = p.entries
 
 -- they were, and then the cell was put or not
-pub put_done : (c : Config) (point : DataPoint) (old mid new : Seen) (key : RowKey) (r : Result Stored PutFault) → NamesAsked {T = RowKey} c (names_of point) old (Ok key) mid → StoreMade point mid r new → PutSays c point old r new
+pub put_done : (c : Admission) (point : DataPoint) (old mid new : Seen) (key : RowKey) (r : Result Stored PutFault) → NamesAsked {T = RowKey} c (names_of point) old (Ok key) mid → StoreMade point mid r new → PutSays c point old r new
 put_done c point old mid new key (Ok stored) p (d, made, did, base) =
     (p.list ++ d ∷ [], made_joined old mid new p.list (d ∷ []) p.made made, λ h l f. record { names = p.list; put = d; list_is = refl; entries = p.entries; did = did h l f; base = base })
 put_done c point old mid new key (Err (Unknown kind name)) p s = absurd s
+put_done c point old mid new key (Err (Filtered kind name)) p s = absurd s
 put_done c point old mid new key (Err (Exhausted kind)) p s = absurd s
 put_done c point old mid new key (Err OutOfMemory) p s = (p.list, subst (λ xs. Made old xs new) (nothing_behind p.list) (made_joined old mid new p.list [] p.made s), λ h l f. p.entries)
 put_done c point old mid new key (Err Stopped) p s = (p.list, subst (λ xs. Made old xs new) (nothing_behind p.list) (made_joined old mid new p.list [] p.made s), λ h l f. p.entries)
 
-few_for : (c : Config) (kind : Kind) (name : List ℕ) (list : List Placed) → ForName c kind name list → length list ≤ 4
+few_for : (c : Admission) (kind : Kind) (name : List ℕ) (list : List Placed) → ForName c kind name list → length list ≤ 4
 few_for c kind name _ none = omega arith
 few_for c kind name _ (look shown l) = omega arith
 few_for c kind name _ (full m l b) = omega arith
@@ -62,7 +64,7 @@ few_for c kind name _ (bump id m l b) = omega arith
 few_for c kind name _ (reverse id m l b r) = omega arith
 few_for c kind name _ (forward id reply m l b r f) = omega arith
 
-few_names : (c : Config) (names : Names) (list : List Placed) → ForNames c names list → length list ≤ 4 * length names
+few_names : (c : Admission) (names : Names) (list : List Placed) → ForNames c names list → length list ≤ 4 * length names
 few_names c _ _ nil = omega arith
 few_names c _ _ (more {kind} {name} {names} {part} {list} f rest) =
     let a = few_for c kind name part f in
@@ -74,20 +76,21 @@ tag_count : (tags : List Pair) → length (tag_names tags) ≡ 2 * length tags
 tag_count [] = refl
 tag_count (t ∷ tags) = let n = tag_count tags in omega (arith, n)
 
-few : (c : Config) (point : DataPoint) (list : List Placed) → ForNames c (names_of point) list → length list ≤ 4 * (1 + 2 * length point.tags)
+few : (c : Admission) (point : DataPoint) (list : List Placed) → ForNames c (names_of point) list → length list ≤ 4 * (1 + 2 * length point.tags)
 few c point list f = let n = tag_count point.tags in let m = few_names c (names_of point) list f in omega (arith, n, m)
 
 abbrev Few : DataPoint → List Placed → Type 0
 Few point list = length list ≤ 4 * (1 + 2 * length point.tags) + 1
 
 -- a put makes few entries
-pub few_failed : {T : Type 0} (c : Config) (point : DataPoint) (old new : Seen) (r : Result T PutFault) → NamesAsked {T = T} c (names_of point) old r new → MadeSo old (Few point) new
+pub few_failed : {T : Type 0} (c : Admission) (point : DataPoint) (old new : Seen) (r : Result T PutFault) → NamesAsked {T = T} c (names_of point) old r new → MadeSo old (Few point) new
 few_failed c point old new r p = (p.list, p.made, let n = few c point p.list p.entries in omega (arith, n))
 
-pub few_done : (c : Config) (point : DataPoint) (old mid new : Seen) (key : RowKey) (r : Result Stored PutFault) → NamesAsked {T = RowKey} c (names_of point) old (Ok key) mid → StoreMade point mid r new → MadeSo old (Few point) new
+pub few_done : (c : Admission) (point : DataPoint) (old mid new : Seen) (key : RowKey) (r : Result Stored PutFault) → NamesAsked {T = RowKey} c (names_of point) old (Ok key) mid → StoreMade point mid r new → MadeSo old (Few point) new
 few_done c point old mid new key (Ok stored) p (d, made, did, base) =
     (p.list ++ d ∷ [], made_joined old mid new p.list (d ∷ []) p.made made, let n = few c point p.list p.entries in let m = length-append p.list (d ∷ []) in omega (arith, n, m))
 few_done c point old mid new key (Err (Unknown kind name)) p s = absurd s
+few_done c point old mid new key (Err (Filtered kind name)) p s = absurd s
 few_done c point old mid new key (Err (Exhausted kind)) p s = absurd s
 few_done c point old mid new key (Err OutOfMemory) p s = few_failed c point old new (Ok key) (record { list = p.list; made = subst (λ xs. Made old xs new) (nothing_behind p.list) (made_joined old mid new p.list [] p.made s); entries = p.entries; answered = kept })
   where

@@ -14,7 +14,7 @@ use Rattle.tsd_base.specs.TagList.{Pair, RiseByKey}
 use Rattle.list_lemmas.specs.BytesOrder.{bytes_cmp}
 use Rattle.cell_model.specs.Seen.{Seen, IsPossible}
 use Rattle.cell_model.specs.Deeds.{Extends}
-use Rattle.point_put.specs.declared.config.Config.{Config}
+use Rattle.point_put.specs.Admissions.{Admission}
 use Rattle.point_put.specs.declared.fault.PutFault.{PutFault}
 use Rattle.cell_model.specs.Layout.{tag_names}
 use Rattle.point_put.specs.ShownIds.{NamesAsked, IdsShown, PairsShown, Rising}
@@ -119,14 +119,14 @@ new_id s t front back pairs tag ids e possible old shown rise k d lt same =
     default (x ∷ xs) (suc i) a b lt = default xs i a b (omega (arith, lt))
 
 -- one tag more was asked
-pub tag_asked : (c : Config) (tags : List Pair) (i : ℕ) (tag : Pair) (a b d : Seen) (ids : ℕ × ℕ) → i < length tags → tag ≡ get_or tags i tag → NamesAsked {T = Unit {0}} c (tag_names (take i tags)) a (Ok tt) b
+pub tag_asked : (c : Admission) (tags : List Pair) (i : ℕ) (tag : Pair) (a b d : Seen) (ids : ℕ × ℕ) → i < length tags → tag ≡ get_or tags i tag → NamesAsked {T = Unit {0}} c (tag_names (take i tags)) a (Ok tt) b
     → NamesAsked {T = ℕ × ℕ} c (tag_names (tag ∷ [])) b (Ok ids) d → NamesAsked {T = Unit {0}} c (tag_names (take (i + 1) tags)) a (Ok tt) d
 tag_asked c tags i tag a b d ids lt is p q =
     let both = asked_then c (tag_names (take i tags)) (tag_names (tag ∷ [])) a b d tt (Ok ids) p q in
     subst (λ (ns : List (Kind × List ℕ)). NamesAsked {T = Unit {0}} c ns a (Ok tt) d) (sym (names_joined (take i tags) (tag ∷ [])) ∙ ap tag_names (sym (taken tags i tag lt is))) (asked_ok_as c _ a d ids tt both)
 
 -- a tag failed
-pub tag_failed : {U : Type 0} (c : Config) (tags : List Pair) (i : ℕ) (tag : Pair) (a b d : Seen) (e : PutFault) → i < length tags → tag ≡ get_or tags i tag → NamesAsked {T = Unit {0}} c (tag_names (take i tags)) a (Ok tt) b
+pub tag_failed : {U : Type 0} (c : Admission) (tags : List Pair) (i : ℕ) (tag : Pair) (a b d : Seen) (e : PutFault) → i < length tags → tag ≡ get_or tags i tag → NamesAsked {T = Unit {0}} c (tag_names (take i tags)) a (Ok tt) b
     → NamesAsked {T = ℕ × ℕ} c (tag_names (tag ∷ [])) b (Err e) d → NamesAsked {T = U} c (tag_names tags) a (Err e) d
 tag_failed {U} c tags i tag a b d e lt is p q =
     let both = asked_then c (tag_names (take i tags)) (tag_names (tag ∷ [])) a b d tt (Err e) p q in

@@ -7,31 +7,37 @@ use Rattle.cell_model.specs.declared.events.Placed.{Placed}
 use Rattle.cell_model.specs.declared.answers.Bumped.TheVariants.{Full}
 use Rattle.cell_model.specs.declared.answers.Claimed.{Claimed}
 use Rattle.uid_table.specs.IdSteps.{Did, DidLook, DidBump, DidReverse, DidForward}
-use Rattle.point_put.specs.declared.config.Config.{Config}
+use Rattle.tsd_hooks.specs.AllowedNames.{allowed}
 use Rattle.point_put.specs.Configs.{makes}
+use Rattle.point_put.specs.Admissions.{Admission, IsAdmitted}
 
--- the entries for one name: at most four, at most one of them a bump, and that only where names of the kind are given ids, after a read that found no cell
-pub data ForName (c : Config) (kind : Kind) (name : List ℕ) : List Placed → Type 0 where
+-- the entries for one name: at most four, at most one of them a bump, and that only where the name may be given an id, after a read that found no cell
+pub data ForName (c : Admission) (kind : Kind) (name : List ℕ) : List Placed → Type 0 where
   none : ForName c kind name []
   look : {r : Placed} (shown : Option (List ℕ)) → DidLook r kind name shown → ForName c kind name (r ∷ [])
-  full : {r b : Placed} → makes c kind ≡ true → DidLook r kind name None → Did b (Bump kind) (BumpReply Full) → ForName c kind name (r ∷ b ∷ [])
-  bump : {r b : Placed} (id : ℕ) → makes c kind ≡ true → DidLook r kind name None → DidBump b kind id → ForName c kind name (r ∷ b ∷ [])
-  reverse : {r b n : Placed} (id : ℕ) → makes c kind ≡ true → DidLook r kind name None → DidBump b kind id → DidReverse n kind name id → ForName c kind name (r ∷ b ∷ n ∷ [])
-  forward : {r b n f : Placed} (id : ℕ) (reply : Claimed) → makes c kind ≡ true → DidLook r kind name None → DidBump b kind id → DidReverse n kind name id
+  full : {r b : Placed} → IsAdmitted c kind name → DidLook r kind name None → Did b (Bump kind) (BumpReply Full) → ForName c kind name (r ∷ b ∷ [])
+  bump : {r b : Placed} (id : ℕ) → IsAdmitted c kind name → DidLook r kind name None → DidBump b kind id → ForName c kind name (r ∷ b ∷ [])
+  reverse : {r b n : Placed} (id : ℕ) → IsAdmitted c kind name → DidLook r kind name None → DidBump b kind id → DidReverse n kind name id → ForName c kind name (r ∷ b ∷ n ∷ [])
+  forward : {r b n f : Placed} (id : ℕ) (reply : Claimed) → IsAdmitted c kind name → DidLook r kind name None → DidBump b kind id → DidReverse n kind name id
       → DidForward f kind name id reply → ForName c kind name (r ∷ b ∷ n ∷ f ∷ [])
 
 -- the entries for these names, in this order
-pub data ForNames (c : Config) : List (Kind × List ℕ) → List Placed → Type 0 where
+pub data ForNames (c : Admission) : List (Kind × List ℕ) → List Placed → Type 0 where
   nil : ForNames c [] []
   more : {kind : Kind} {name : List ℕ} {names : List (Kind × List ℕ)} {part list : List Placed} → ForName c kind name part → ForNames c names list → ForNames c ((kind, name) ∷ names) (part ++ list)
 
 -- names of the kind aren't given ids, and a read found no cell of this one
-abbrev pub WasUnknown : Config → Kind → List ℕ → List Placed → Type 0
-WasUnknown c kind name list = (makes c kind ≡ false) × ((d : Placed) × Contains list d × DidLook d kind name None)
+abbrev pub WasUnknown : Admission → Kind → List ℕ → List Placed → Type 0
+WasUnknown c kind name list = (makes c.config kind ≡ false) × ((d : Placed) × Contains list d × DidLook d kind name None)
+
+-- names of the kind are given ids, the patterns don't allow this one, and the last entry is a read that found no cell of it
+abbrev pub WasFiltered : Admission → Kind → List ℕ → List Placed → Type 0
+WasFiltered c kind name list =
+    (makes c.config kind ≡ true) × (allowed c.patterns kind name ≡ false) × ((front : List Placed) × (d : Placed) × (list ≡ front ++ d ∷ []) × DidLook d kind name None)
 
 -- names of the kind are given ids, and a bump found the counter full
-abbrev pub WasExhausted : Config → Kind → List Placed → Type 0
-WasExhausted c kind list = (makes c kind ≡ true) × ((d : Placed) × Contains list d × Did d (Bump kind) (BumpReply Full))
+abbrev pub WasExhausted : Admission → Kind → List Placed → Type 0
+WasExhausted c kind list = (makes c.config kind ≡ true) × ((d : Placed) × Contains list d × Did d (Bump kind) (BumpReply Full))
 
 -- those of the names that stand before this one
 abbrev pub Before : List (Kind × List ℕ) → Kind → List ℕ → (List (Kind × List ℕ) → Type 0) → Type 0

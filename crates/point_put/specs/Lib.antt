@@ -1,3 +1,4 @@
+pub mod Admissions
 pub mod Configs
 pub mod PutFaults
 pub mod Entries

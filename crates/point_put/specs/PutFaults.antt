@@ -4,7 +4,7 @@ use Rattle.tsd_base.specs.Faults.{kind_text}
 use Rattle.cell_model.specs.declared.answers.RowsFault.{RowsFault}
 use Rattle.cell_model.specs.declared.answers.RowsFault.TheVariants as rows
 use Rattle.point_put.specs.declared.fault.PutFault.{PutFault}
-use Rattle.point_put.specs.declared.fault.PutFault.TheVariants.{Unknown, Exhausted, OutOfMemory, Stopped}
+use Rattle.point_put.specs.declared.fault.PutFault.TheVariants.{Unknown, Filtered, Exhausted, OutOfMemory, Stopped}
 
 -- a fault of the rows as one of putting
 abbrev pub put_fault : RowsFault → PutFault
@@ -19,6 +19,7 @@ is_stop _ = false
 -- what is told of a point that wasn't put
 unfoldable pub put_fault_text : PutFault → List ℕ
 put_fault_text (Unknown kind name) = codes "unknown " ++ kind_text kind ++ codes " " ++ name
+put_fault_text (Filtered kind name) = kind_text kind ++ codes " " ++ name ++ codes " is filtered"
 put_fault_text (Exhausted kind) = codes "ids of " ++ kind_text kind ++ codes " are exhausted"
 put_fault_text OutOfMemory = codes "out of memory"
 put_fault_text Stopped = codes "stopped"

@@ -13,10 +13,10 @@ use Rattle.cell_model.specs.IdRows.{id_of, AllResolved}
 use Rattle.cell_model.specs.Seen.{Seen, InEach}
 use Rattle.cell_model.specs.Deeds.{Made}
 use Rattle.uid_table.specs.IdSteps.{Did}
-use Rattle.point_put.specs.declared.config.Config.{Config}
 use Rattle.point_put.specs.declared.fault.PutFault.{PutFault}
-use Rattle.point_put.specs.declared.fault.PutFault.TheVariants.{Unknown, Exhausted, OutOfMemory, Stopped}
-use Rattle.point_put.specs.Entries.{ForNames, WasUnknown, WasExhausted, Before}
+use Rattle.point_put.specs.declared.fault.PutFault.TheVariants.{Unknown, Filtered, Exhausted, OutOfMemory, Stopped}
+use Rattle.point_put.specs.Admissions.{Admission}
+use Rattle.point_put.specs.Entries.{ForNames, WasUnknown, WasFiltered, WasExhausted, Before}
 
 -- the entry puts the point in this row, in the layout with the ids that its names have after the history
 pub record DidPut (h : History) (point : DataPoint) (row : Row) (d : Placed) : Type 0 where
@@ -26,7 +26,7 @@ pub record DidPut (h : History) (point : DataPoint) (row : Row) (d : Placed) : T
   pub layout : PointBasis (λ kind name id. id_of h kind name ≡ Some id) point row qual value
 
 -- the entries for the names, and one more, which puts the point
-pub record WasStored (c : Config) (point : DataPoint) (h : History) (list : List Placed) (stored : Stored) : Type 0 where
+pub record WasStored (c : Admission) (point : DataPoint) (h : History) (list : List Placed) (stored : Stored) : Type 0 where
   pub names : List Placed
   pub put : Placed
   pub list_is : list ≡ names ++ put ∷ []
@@ -39,19 +39,21 @@ abbrev pub StoreMade : DataPoint → Seen → Result Stored PutFault → Seen �
 StoreMade point old (Ok stored) new =
     (d : Placed) × Made old (d ∷ []) new × InEach new (λ h. DidPut (first new.length h) point stored.row d) × (stored.base ≡ base_time point.time)
 StoreMade point old (Err (Unknown kind name)) new = ⊥
+StoreMade point old (Err (Filtered kind name)) new = ⊥
 StoreMade point old (Err (Exhausted kind)) new = ⊥
 StoreMade point old (Err OutOfMemory) new = Made old [] new
 StoreMade point old (Err Stopped) new = Made old [] new
 
 -- A point was asked, by these entries of its caller and the history as long as the caller has seen it. Accepted, they have one put, of the point;
 -- refused, they have none, and the names before the one that is told are resolved; without memory or stopped, they have none.
-abbrev pub PointAsked : Config → DataPoint → History → List Placed → Result Stored PutFault → Type 0
+abbrev pub PointAsked : Admission → DataPoint → History → List Placed → Result Stored PutFault → Type 0
 PointAsked c point h list (Ok stored) = WasStored c point h list stored
 PointAsked c point h list (Err (Unknown kind name)) = ForNames c (names_of point) list × WasUnknown c kind name list × Before (names_of point) kind name (AllResolved h)
+PointAsked c point h list (Err (Filtered kind name)) = ForNames c (names_of point) list × WasFiltered c kind name list × Before (names_of point) kind name (AllResolved h)
 PointAsked c point h list (Err (Exhausted kind)) = ForNames c (names_of point) list × WasExhausted c kind list × ((name : List ℕ) × Before (names_of point) kind name (AllResolved h))
 PointAsked c point h list (Err OutOfMemory) = ForNames c (names_of point) list
 PointAsked c point h list (Err Stopped) = ForNames c (names_of point) list
 
 -- the caller made these entries and no other, by which the point was asked, in each history that fits
-abbrev pub PutSays : Config → DataPoint → Seen → Result Stored PutFault → Seen → Type 0
+abbrev pub PutSays : Admission → DataPoint → Seen → Result Stored PutFault → Seen → Type 0
 PutSays c point old result new = (list : List Placed) × Made old list new × InEach new (λ h. PointAsked c point (first new.length h) list result)

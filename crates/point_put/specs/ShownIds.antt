@@ -11,29 +11,30 @@ use Rattle.cell_model.specs.Layout.{IsPoint, base_time}
 use Rattle.cell_model.specs.Seen.{Seen}
 use Rattle.cell_model.specs.Deeds.{Made}
 use Rattle.uid_table.specs.Shown.{HasShown}
-use Rattle.point_put.specs.declared.config.Config.{Config}
 use Rattle.point_put.specs.declared.fault.PutFault.{PutFault}
-use Rattle.point_put.specs.declared.fault.PutFault.TheVariants.{Unknown, Exhausted, OutOfMemory, Stopped}
-use Rattle.point_put.specs.Entries.{ForNames, WasUnknown, WasExhausted, Before}
+use Rattle.point_put.specs.declared.fault.PutFault.TheVariants.{Unknown, Filtered, Exhausted, OutOfMemory, Stopped}
+use Rattle.point_put.specs.Admissions.{Admission}
+use Rattle.point_put.specs.Entries.{ForNames, WasUnknown, WasFiltered, WasExhausted, Before}
 
 -- an id of each of the names was seen
 abbrev pub AllShown : Seen → List (Kind × List ℕ) → Type 0
 AllShown s names = (kind : Kind) (name : List ℕ) → Contains names (kind, name) → (id : ℕ) × HasShown s kind name id
 
 -- what keeps the names from being resolved
-abbrev pub Fails : Config → List (Kind × List ℕ) → Seen → PutFault → List Placed → Type 0
+abbrev pub Fails : Admission → List (Kind × List ℕ) → Seen → PutFault → List Placed → Type 0
 Fails c names s (Unknown kind name) list = WasUnknown c kind name list × Before names kind name (AllShown s)
+Fails c names s (Filtered kind name) list = WasFiltered c kind name list × Before names kind name (AllShown s)
 Fails c names s (Exhausted kind) list = WasExhausted c kind list × ((name : List ℕ) × Before names kind name (AllShown s))
 Fails c names s OutOfMemory list = Unit {0}
 Fails c names s Stopped list = Unit {0}
 
 -- what was seen of the names, by the answer
-abbrev pub Answered : {T : Type 0} → Config → List (Kind × List ℕ) → Seen → Result T PutFault → List Placed → Type 0
+abbrev pub Answered : {T : Type 0} → Admission → List (Kind × List ℕ) → Seen → Result T PutFault → List Placed → Type 0
 Answered c names s (Ok x) list = AllShown s names
 Answered c names s (Err fault) list = Fails c names s fault list
 
 -- the names were asked, in this order
-pub record NamesAsked {T : Type 0} (c : Config) (names : List (Kind × List ℕ)) (old : Seen) (result : Result T PutFault) (new : Seen) : Type 0 where
+pub record NamesAsked {T : Type 0} (c : Admission) (names : List (Kind × List ℕ)) (old : Seen) (result : Result T PutFault) (new : Seen) : Type 0 where
   pub list : List Placed
   pub made : Made old list new
   pub entries : ForNames c names list

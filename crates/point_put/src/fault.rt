@@ -13,6 +13,9 @@ use tsd_base::names::Name;
 pub enum PutFault {
     /// The first name that has no id. Names of its kind aren't given any.
     Unknown { kind: Kind, name: Name },
+    /// The first name that has no id, where names of its kind are given one and the rule for new names doesn't allow this one. No id was
+    /// spent for it.
+    Filtered { kind: Kind, name: Name },
     /// All ids of this kind were given.
     Exhausted { kind: Kind },
     /// There was no memory for one of the steps.
@@ -33,6 +36,12 @@ impl PutFault {
                 out.extend_from_slice(kind.text().as_bytes())?;
                 out.extend_from_slice(b" ")?;
                 out.extend_from_slice(name.bytes())
+            }
+            PutFault::Filtered { kind, name } => {
+                out.extend_from_slice(kind.text().as_bytes())?;
+                out.extend_from_slice(b" ")?;
+                out.extend_from_slice(name.bytes())?;
+                out.extend_from_slice(b" is filtered")
             }
             PutFault::Exhausted { kind } => {
                 out.extend_from_slice(b"ids of ")?;

@@ -7,6 +7,7 @@ ghost use Rattle.tsd_base.specs.Points.{data_point};
 ghost use Rattle.cell_model.specs.Layout.{names_of, tag_names};
 ghost use Rattle.cell_model.specs.Seen.{IsPossible};
 ghost use Rattle.cell_model.specs.Calls.{Leaves};
+ghost use Rattle.point_put.specs.Admissions.{admission};
 ghost use Rattle.point_put.specs.PutFaults.{is_stop};
 ghost use Rattle.point_put.specs.ShownIds.{NamesAsked, IdsShown, PairsShown, KeyShown, Rising, StandsAt};
 
@@ -20,6 +21,7 @@ use std::alloc::Global;
 use tsd_base::kinds::Kind;
 use tsd_base::names::Name;
 use tsd_base::points::Point;
+use tsd_hooks::UidRule;
 use uid_table::uids::Uids;
 
 /// Where a pair of this id would stand among pairs that rise by their first ids.
@@ -52,15 +54,16 @@ fn add_pair(pairs: &mut ArrayVec<(u32, u32), 8>, pair: (u32, u32))
 fn pair_for<R: Rows + Drop>(
     names: &mut Uids<R>,
     alloc: Global,
+    rule: &UidRule,
     config: &Config,
     tag: &(Name, Name),
 ) -> Result<(u32, u32), PutFault>
-    ensures asked { NamesAsked config.now (tag_names (tag.now ∷ [])) (R.seen names.old) result (R.seen names.new) }
+    ensures asked { NamesAsked (admission config.now rule.now.patterns) (tag_names (tag.now ∷ [])) (R.seen names.old) result (R.seen names.new) }
     ensures ids { IfOk result (IdsShown (R.seen names.new) tag.now) }
     ensures leaves { Leaves is_stop result (R.seen names.new) (R.stops names.old) (R.stops names.new) }
 {
-    let key = id_for(names, alloc, config, Kind::TagKey, &tag.0)?;
-    let value = id_for(names, alloc, config, Kind::TagValue, &tag.1)?;
+    let key = id_for(names, alloc, rule, config, Kind::TagKey, &tag.0)?;
+    let value = id_for(names, alloc, rule, config, Kind::TagValue, &tag.1)?;
     Ok((key, value))
 }
 
@@ -68,18 +71,19 @@ fn pair_for<R: Rows + Drop>(
 fn pairs_for<R: Rows + Drop>(
     names: &mut Uids<R>,
     alloc: Global,
+    rule: &UidRule,
     config: &Config,
     tags: &[(Name, Name)],
 ) -> Result<ArrayVec<(u32, u32), 8>, PutFault>
     requires tags { IsTags tags.now }
     requires possible { IsPossible (R.seen names.old) }
-    ensures asked { NamesAsked config.now (tag_names tags.now) (R.seen names.old) result (R.seen names.new) }
+    ensures asked { NamesAsked (admission config.now rule.now.patterns) (tag_names tags.now) (R.seen names.old) result (R.seen names.new) }
     ensures pairs { IfOk result (λ pairs. PairsShown (R.seen names.new) tags.now pairs.items) }
     ensures leaves { Leaves is_stop result (R.seen names.new) (R.stops names.old) (R.stops names.new) }
 {
     let mut pairs = ArrayVec::new();
     for tag in tags {
-        let pair = pair_for(names, alloc, config, tag)?;
+        let pair = pair_for(names, alloc, rule, config, tag)?;
         add_pair(&mut pairs, pair);
     }
     Ok(pairs)
@@ -89,15 +93,16 @@ fn pairs_for<R: Rows + Drop>(
 pub fn key_for<R: Rows + Drop>(
     names: &mut Uids<R>,
     alloc: Global,
+    rule: &UidRule,
     config: &Config,
     point: &Point,
 ) -> Result<RowKey, PutFault>
-    ensures asked { NamesAsked config.now (names_of (data_point point.now)) (R.seen names.old) result (R.seen names.new) }
+    ensures asked { NamesAsked (admission config.now rule.now.patterns) (names_of (data_point point.now)) (R.seen names.old) result (R.seen names.new) }
     ensures key { IfOk result (KeyShown (R.seen names.new) (data_point point.now)) }
     ensures leaves { Leaves is_stop result (R.seen names.new) (R.stops names.old) (R.stops names.new) }
 {
-    let metric = id_for(names, alloc, config, Kind::Metric, &point.metric)?;
-    let pairs = pairs_for(names, alloc, config, point.tags.pairs())?;
+    let metric = id_for(names, alloc, rule, config, Kind::Metric, &point.metric)?;
+    let pairs = pairs_for(names, alloc, rule, config, point.tags.pairs())?;
     Ok(RowKey {
         metric,
         base: base_of(point.time),

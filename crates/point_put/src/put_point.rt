@@ -4,6 +4,7 @@ ghost use Rattle.tsd_base.specs.Points.{data_point};
 ghost use Rattle.cell_model.specs.Seen.{IsPossible};
 ghost use Rattle.uid_table.specs.IdSteps.{MadeSo};
 ghost use Rattle.cell_model.specs.Calls.{Leaves};
+ghost use Rattle.point_put.specs.Admissions.{admission};
 ghost use Rattle.point_put.specs.PutFaults.{is_stop};
 ghost use Rattle.point_put.specs.PutPoint.{PutSays};
 
@@ -15,23 +16,25 @@ use cell_model::answers::Stored;
 use cell_model::rows::Rows;
 use std::alloc::Global;
 use tsd_base::points::Point;
+use tsd_hooks::UidRule;
 use uid_table::uids::Uids;
 
 /// Puts a point by the ids of its names, and answers its row.
 ///
-/// The names are the metric, then each tag in byte order of its key, key before value. Each is given an id where names of its kind
-/// are and it has none, else it is resolved; the first that has no id refuses the point. Then one step writes the cell of the
-/// point. A fault writes no cell, and names that were given ids before it keep them.
+/// The names are the metric, then each tag in byte order of its key, key before value. One that has no id is given one where names of
+/// its kind are and the rule allows it, else it refuses the point; a name that has an id is never asked of the rule. Then one step
+/// writes the cell of the point. A fault writes no cell, and names that were given ids before it keep them.
 pub fn put<R: Rows + Drop>(
     alloc: Global,
     names: &mut Uids<R>,
+    rule: &UidRule,
     config: &Config,
     point: &Point,
 ) -> Result<Stored, PutFault>
-    ensures says { PutSays config.now (data_point point.now) (R.seen names.old) result (R.seen names.new) }
+    ensures says { PutSays (admission config.now rule.now.patterns) (data_point point.now) (R.seen names.old) result (R.seen names.new) }
     ensures few { MadeSo (R.seen names.old) (λ list. length list ≤ 4 * (1 + 2 * length point.now.tags) + 1) (R.seen names.new) }
     ensures leaves { Leaves is_stop result (R.seen names.new) (R.stops names.old) (R.stops names.new) }
 {
-    let key = key_for(names, alloc, config, point)?;
+    let key = key_for(names, alloc, rule, config, point)?;
     store(names, alloc, point, &key)
 }

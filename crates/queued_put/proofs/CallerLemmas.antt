@@ -8,7 +8,7 @@ use Rattle.cell_model.specs.declared.answers.Stored.{Stored}
 use Rattle.cell_model.specs.declared.events.Placed.{Placed}
 use Rattle.cell_model.specs.History.{History}
 use Rattle.compactor.specs.Queues.{HasRows}
-use Rattle.point_put.specs.declared.config.Config.{Config}
+use Rattle.point_put.specs.Admissions.{Admission}
 use Rattle.point_put.specs.PutPoint.{WasStored}
 use Rattle.queued_put.specs.PutRows.{IsPutRow, MayHaveRows}
 
@@ -41,7 +41,7 @@ may_put before rows after later has put = record { kept = λ s had. (has s).1 (i
     at s (inr row) = inr (put s row)
 
 -- the row of a point that was accepted is that of its put
-pub put_row : (c : Config) (point : DataPoint) (h : History) (own : List Placed) (stored : Stored) → WasStored c point h own stored → IsPutRow own stored
+pub put_row : (c : Admission) (point : DataPoint) (h : History) (own : List Placed) (stored : Stored) → WasStored c point h own stored → IsPutRow own stored
 put_row c point h own stored w = record {
   entry = w.put;
   among = subst (λ (l : List Placed). Contains l w.put) (sym w.list_is) (Contains-append_right w.names (w.put ∷ []) w.put (here w.put []));

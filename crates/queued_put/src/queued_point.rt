@@ -2,6 +2,7 @@
 ghost use Rattle.std.specs.Prelude.{◌≡◌, OnOk, OnErr, IfErr};
 ghost use Rattle.tsd_base.specs.Points.{data_point};
 ghost use Rattle.cell_model.specs.Calls.{Leaves};
+ghost use Rattle.point_put.specs.Admissions.{admission};
 ghost use Rattle.point_put.specs.PutFaults.{is_stop};
 ghost use Rattle.queued_put.specs.QueuedPuts.{FailsQueued, PutsQueued};
 
@@ -10,6 +11,7 @@ use compactor::queue::Queue;
 use point_put::{Config, PutFault, put};
 use std::alloc::Global;
 use tsd_base::points::Point;
+use tsd_hooks::UidRule;
 use uid_table::uids::Uids;
 
 /// Puts a point, and adds its row to the queue. A fault leaves the queue as it was. Where there was no memory the point may stand in
@@ -17,16 +19,17 @@ use uid_table::uids::Uids;
 pub fn put_queued<R: Rows + Drop>(
     alloc: Global,
     names: &mut Uids<R>,
+    rule: &UidRule,
     config: &Config,
     queue: &mut Queue,
     point: &Point,
 ) -> Result<(), PutFault>
-    ensures ok { OnOk result (PutsQueued config.now (data_point point.now) (R.seen names.old) queue.old (R.seen names.new) queue.new) }
-    ensures err { IfErr result (λ fault. FailsQueued config.now (data_point point.now) (R.seen names.old) fault (R.seen names.new)) }
+    ensures ok { OnOk result (PutsQueued (admission config.now rule.now.patterns) (data_point point.now) (R.seen names.old) queue.old (R.seen names.new) queue.new) }
+    ensures err { IfErr result (λ fault. FailsQueued (admission config.now rule.now.patterns) (data_point point.now) (R.seen names.old) fault (R.seen names.new)) }
     ensures same { OnErr result (queue.new ≡ queue.old) }
     ensures leaves { Leaves is_stop result (R.seen names.new) (R.stops names.old) (R.stops names.new) }
 {
-    let stored = put(alloc, names, config, point)?;
+    let stored = put(alloc, names, rule, config, point)?;
     queue.add(stored)?;
     Ok(())
 }

@@ -1,3 +1,4 @@
 mod Once
 mod Comparing
+mod Homes
 pub mod CallerLemmas

@@ -1,3 +1,4 @@
 pub mod Key
 pub mod KeyOrder
 pub mod Hours
+pub mod Regions

@@ -16,6 +16,7 @@ use std::alloc::Global;
 use tsd_base::kinds::Kind;
 use tsd_base::names::Name;
 use tsd_base::point_text::read_point;
+use tsd_hooks::UidRule;
 use uid_table::{AssignFault, ResolveFault, Uids};
 
 /// How many rows a scan tells at most.
@@ -26,13 +27,23 @@ pub type Names = Uids<Scripted>;
 
 const STOPPED: Bad = Bad::Line("stopped");
 
-/// `assign KIND NAME`: how the name has an id.
-fn assign(alloc: Global, names: &mut Names, text: &str, out: &mut String) -> Result<(), Bad> {
+/// `assign KIND NAME`: how the name has an id, or why it has none.
+fn assign(
+    alloc: Global,
+    names: &mut Names,
+    rule: &UidRule,
+    text: &str,
+    out: &mut String,
+) -> Result<(), Bad> {
     let (kind_word, word) = first_word(text);
     let kind = kind(kind_word)?;
     let name = name(alloc, word)?;
-    match names.assign(alloc, kind, &name) {
+    match names.assign(alloc, rule, kind, &name) {
         Ok(answer) => tell_assigned(out, answer),
+        Err(AssignFault::Filtered { kind }) => {
+            let kind = kind.text();
+            Ok(write!(out, "filtered {kind}")?)
+        }
         Err(AssignFault::Exhausted { kind }) => {
             let kind = kind.text();
             Ok(write!(out, "ids of {kind} are exhausted")?)
@@ -100,7 +111,13 @@ fn suggest(alloc: Global, names: &mut Names, text: &str, out: &mut String) -> Re
 }
 
 /// `put [--auto-metric] LINE`: the row of the point.
-fn put_line(alloc: Global, names: &mut Names, text: &str, out: &mut String) -> Result<(), Bad> {
+fn put_line(
+    alloc: Global,
+    names: &mut Names,
+    rule: &UidRule,
+    text: &str,
+    out: &mut String,
+) -> Result<(), Bad> {
     let mut config = Config::usual();
     let line = match text.strip_prefix("--auto-metric ") {
         Some(line) => {
@@ -111,7 +128,7 @@ fn put_line(alloc: Global, names: &mut Names, text: &str, out: &mut String) -> R
     };
     let line = bytes(alloc, line)?;
     let point = read_point(alloc, line.as_slice()).map_err(|_| Bad::Line("no point"))?;
-    match put(alloc, names, &config, &point) {
+    match put(alloc, names, rule, &config, &point) {
         Ok(stored) => {
             let base = stored.base;
             write!(out, "{base} ")?;
@@ -126,6 +143,11 @@ fn tell_put_fault(out: &mut String, fault: PutFault) -> Result<(), Bad> {
         PutFault::Unknown { kind, name } => {
             let kind = kind.text();
             write!(out, "unknown {kind} ")?;
+            tell_bytes(out, name.bytes())
+        }
+        PutFault::Filtered { kind, name } => {
+            let kind = kind.text();
+            write!(out, "filtered {kind} ")?;
             tell_bytes(out, name.bytes())
         }
         PutFault::Exhausted { kind } => {
@@ -159,16 +181,17 @@ fn scan(alloc: Global, names: &mut Names, text: &str, out: &mut String) -> Resul
 pub fn call(
     alloc: Global,
     names: &mut Names,
+    rule: &UidRule,
     queue: &mut Queue,
     verb: &str,
     rest: &str,
     out: &mut String,
 ) -> Result<(), Bad> {
     match verb {
-        "assign" => assign(alloc, names, rest, out),
+        "assign" => assign(alloc, names, rule, rest, out),
         "resolve" => resolve(alloc, names, rest, out),
         "suggest" => suggest(alloc, names, rest, out),
-        "put" => put_line(alloc, names, rest, out),
+        "put" => put_line(alloc, names, rule, rest, out),
         "scan" => scan(alloc, names, rest, out),
         "ask" => asked(alloc, names, rest, out),
         "drop_cache" => {

@@ -7,6 +7,7 @@ use compactor::Queue;
 use point_put::Config;
 use std::alloc::Global;
 use tsd_daemon::{Served, serve_conn};
+use tsd_hooks::UidRule;
 
 /// Which names the words of a connection let have ids: `[--auto-metric]`.
 fn config_of(words: &str) -> Result<Config, Bad> {
@@ -41,6 +42,7 @@ fn end_word(served: Served) -> Result<&'static str, Bad> {
 pub fn serve(
     alloc: Global,
     names: &mut Names,
+    rule: &UidRule,
     queue: &mut Queue,
     devices: &mut Devices,
     pieces: Pieces,
@@ -54,6 +56,7 @@ pub fn serve(
     let served = serve_conn(
         alloc,
         names,
+        rule,
         &config,
         &mut source,
         &mut sink,

@@ -6,6 +6,7 @@ mod asks;
 mod calls;
 mod case;
 mod case_lines;
+mod case_patterns;
 mod compactions;
 mod connections;
 mod devices;

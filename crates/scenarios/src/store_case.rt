@@ -1,15 +1,18 @@
 //! Cases over a store with several callers.
-ghost use Rattle.std.specs.Prelude.{◌≤◌};
+ghost use Rattle.std.specs.Prelude.{◌≡◌, ◌≤◌};
+ghost use Rattle.tsd_hooks.specs.AllowedNames.{allowed};
 
 use crate::acts::{act, tell_acted};
 use crate::calls::{Names, call};
 use crate::case_lines::{Line, joined};
+use crate::case_patterns::patterns_of;
 use crate::connections::serve;
 use crate::devices::{Devices, Pieces};
 use crate::report::Report;
 use case_readers::cell_cases::tell_hex;
 use case_readers::text::{Bad, bytes, first_word, hex, number, small};
 use cell_model::{Body, ListLine, Listing, Tally};
+use cell_region::Regions;
 use compactor::Queue;
 use point_put::{Config, put};
 use row_key::Table;
@@ -19,13 +22,16 @@ use scripted_rows::script::{Part, Script};
 use scripted_rows::scripted::Scripted;
 use scripted_rows::sharing::{CALLERS, Shared};
 use std::alloc::Global;
+use tsd_base::kinds::Kind;
+use tsd_base::names::Name;
 use tsd_base::point_text::read_point;
+use tsd_hooks::{Patterns, UidRule};
 use uid_table::Uids;
 
 /// What a line is in a case.
 #[derive(Clone, Copy, PartialEq, Eq)]
 enum Role {
-    /// It says with which store the case begins, or in which order the callers step.
+    /// It says with which store the case begins, which new names it allows, or in which order the callers step.
     Start,
     /// It is a step of another caller.
     Act(u8),
@@ -39,7 +45,7 @@ enum Role {
 
 fn role_of(verb: &str) -> Role {
     match verb {
-        "case" | "setup" | "base" | "load" | "cap" | "order" | "pieces" => Role::Start,
+        "case" | "setup" | "base" | "load" | "cap" | "allow" | "order" | "pieces" => Role::Start,
         "2" => Role::Act(2),
         "3" => Role::Act(3),
         "4" => Role::Act(4),
@@ -114,14 +120,14 @@ fn named(alloc: Global, rows: Scripted, cap: u32) -> Result<Names, Bad> {
 }
 
 /// `load LINE`: puts a point before the case, each of its names being given an id.
-fn load(alloc: Global, names: &mut Names, text: &str) -> Result<(), Bad> {
+fn load(alloc: Global, names: &mut Names, rule: &UidRule, text: &str) -> Result<(), Bad> {
     let config = Config {
         auto_metric: true,
         ..Config::usual()
     };
     let line = bytes(alloc, text)?;
     let point = read_point(alloc, line.as_slice()).map_err(|_| Bad::Line("no point"))?;
-    match put(alloc, names, &config, &point) {
+    match put(alloc, names, rule, &config, &point) {
         Ok(_) => Ok(()),
         Err(_) => Err(Bad::Line("not put")),
     }
@@ -132,9 +138,18 @@ fn loaded(alloc: Global, lines: &[Line]) -> Result<Shared, Bad> {
     let nothing = Script::of(Vec::new(alloc), Vec::new(alloc));
     let rows = Scripted::of(alloc, based(alloc, lines)?, nothing);
     let mut names = named(alloc, rows, 1)?;
+    let patterns = Patterns::none();
+    let kept = patterns.again(alloc)?;
+    let test = Box::new(
+        alloc,
+        move |kind: Kind, name: &Name|
+            ensures { result ≡ allowed patterns kind name.now }
+        { patterns.allow(kind, name) },
+    )?;
+    let rule = UidRule::keep(kept, test);
     for line in lines {
         if line.verb.as_str() == "load" {
-            load(alloc, &mut names, line.rest.as_str())?;
+            load(alloc, &mut names, &rule, line.rest.as_str())?;
         }
     }
     let (shared, _) = names.part().end()?;
@@ -230,7 +245,7 @@ fn made(first: [u64; 4], last: [u64; 4]) -> [u64; 4] {
 fn end(alloc: Global, names: Names, first: [u64; 4]) -> Result<Ended, Bad> {
     let (shared, script) = names.part().end()?;
     let steps = made(first, entries(&shared));
-    let body = shared.part();
+    let body = Regions::joined(shared.part().split());
     Ok(Ended {
         script,
         steps,
@@ -251,6 +266,7 @@ struct Kept {
 fn make_call(
     alloc: Global,
     names: &mut Names,
+    rule: &UidRule,
     kept: &mut Kept,
     line: &Line,
     out: &mut String,
@@ -260,13 +276,14 @@ fn make_call(
         "serve" => serve(
             alloc,
             names,
+            rule,
             &mut kept.queue,
             &mut kept.devices,
             kept.pieces,
             rest,
             out,
         ),
-        verb => call(alloc, names, &mut kept.queue, verb, rest, out),
+        verb => call(alloc, names, rule, &mut kept.queue, verb, rest, out),
     }
 }
 
@@ -274,6 +291,7 @@ fn make_call(
 fn do_line(
     alloc: Global,
     names: &mut Names,
+    rule: &UidRule,
     kept: &mut Kept,
     line: &Line,
     report: &mut Report,
@@ -281,7 +299,7 @@ fn do_line(
     let mut out = String::new(alloc);
     match role_of(line.verb.as_str()) {
         Role::Call => {
-            let done = make_call(alloc, names, kept, line, &mut out);
+            let done = make_call(alloc, names, rule, kept, line, &mut out);
             report.settle(line, done, out.as_str())
         }
         Role::Device => {
@@ -299,6 +317,7 @@ fn do_line(
 fn make_calls(
     alloc: Global,
     names: &mut Names,
+    rule: &UidRule,
     lines: &[Line],
     pieces: Pieces,
     report: &mut Report,
@@ -313,7 +332,7 @@ fn make_calls(
         match role_of(line.verb.as_str()) {
             Role::End => ended = true,
             Role::Call if ended => report.refuse(line, "a call behind the end")?,
-            _ => do_line(alloc, names, &mut kept, line, report)?,
+            _ => do_line(alloc, names, rule, &mut kept, line, report)?,
         }
     }
     Ok(())
@@ -439,7 +458,16 @@ fn play(
     let script = Script::of(parts_of(alloc, lines)?, order);
     let rows = Scripted::of(alloc, shared, script);
     let mut names = named(alloc, rows, cap_of(lines)?)?;
-    make_calls(alloc, &mut names, lines, pieces, report)?;
+    let patterns = patterns_of(alloc, lines)?;
+    let kept = patterns.again(alloc)?;
+    let test = Box::new(
+        alloc,
+        move |kind: Kind, name: &Name|
+            ensures { result ≡ allowed patterns kind name.now }
+        { patterns.allow(kind, name) },
+    )?;
+    let rule = UidRule::keep(kept, test);
+    make_calls(alloc, &mut names, &rule, lines, pieces, report)?;
     let ended = end(alloc, names, first)?;
     report_end(alloc, lines, &ended, report)
 }

@@ -15,8 +15,8 @@ ghost use Rattle.scripted_rows.specs.Bases.{IsSoundLine};
 use crate::claim::{bytes_of_id, id_in, is_name, kind_of, qualifier};
 use crate::sharing::{CALLERS, Shared};
 use cell_model::{ListLine, Listing};
+use cell_region::{DATA_REGIONS, Regions};
 use cell_solo::Solo;
-use map_body::MapBody;
 use row_key::{MOST_IDS, Table};
 use std::alloc::{AllocError, Global};
 use tsd_base::kinds::Kind;
@@ -156,7 +156,7 @@ pub fn shared_over(alloc: Global, listing: Listing) -> Result<Option<Shared>, Al
     if !is_base(alloc, listing.lines()) {
         return Ok(None);
     }
-    let body = MapBody::of(alloc, listing)?;
+    let body = Regions::of(alloc, listing, DATA_REGIONS)?;
     let solo = Solo::make(alloc, body, CALLERS)?;
     Ok(Some(Shared::of(alloc, solo)))
 }

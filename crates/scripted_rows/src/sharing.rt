@@ -12,8 +12,8 @@ ghost use Rattle.scripted_rows.specs.Sharing.{turned};
 
 use crate::fact::{Fact, note_bump, note_cell, note_cells, note_claim, note_found};
 use cell_model::{Bumped, Cells, Claimed, Drops, Found, Row, Rows, RowsFault, Stopped};
+use cell_region::Regions;
 use cell_solo::Solo;
-use map_body::MapBody;
 use qual_codec::Bytes;
 use row_key::Table;
 use std::alloc::Global;
@@ -32,7 +32,7 @@ const ROOM: u8 = 8;
 /// Contracts see it as the callers, the facts, and for how many steps that take no memory there is room at least.
 #[derive(Drop)]
 pub struct Shared {
-    solo: Solo<MapBody>,
+    solo: Solo<Regions>,
     facts: Vec<Fact>,
     room: u8,
 }
@@ -49,7 +49,7 @@ impl Model for Shared {
 
 impl Shared {
     /// Callers of which nothing was shown yet.
-    pub(crate) fn of(alloc: Global, solo: Solo<MapBody>) -> Shared
+    pub(crate) fn of(alloc: Global, solo: Solo<Regions>) -> Shared
         requires callers { solo.callers ≡ 4 }
         requires room { 8 ≤ solo.room }
         ensures { result.solo ≡ solo }
@@ -100,7 +100,7 @@ impl Shared {
     }
 
     /// The body, whose store is that after the history.
-    pub fn part(self) -> MapBody {
+    pub fn part(self) -> Regions {
         self.solo.part()
     }
 }

@@ -1,12 +1,11 @@
 -- What was served over a store of one's own stands in the store's whole history.
-use Rattle.std.proofs.Common.{◌≡◌, ℕ, ◌+◌, ◌≤◌, ◌<◌, true, List, [], ◌∷◌, refl, sym, ap, subst, ◌∙◌, arith}
-use Rattle.std.specs.Prelude.{None, Some}
+use Rattle.std.proofs.Common.{◌≡◌, ℕ, true, List, [], refl, sym, subst, ◌∙◌, arith}
+use Rattle.std.specs.Prelude.{None}
 use Rattle.std.specs.FinMap.{empty}
-use Rattle.cell_model.specs.declared.events.Entry.{Entry}
-use Rattle.cell_model.specs.History.{History, len, entry_at}
+use Rattle.cell_model.specs.History.{History, len}
 use Rattle.cell_model.specs.Seen.{Seen, IsPossible}
 use Rattle.cell_solo.specs.Turns.{whole_seen, opened, opening}
-use Rattle.point_put.specs.declared.config.Config.{Config}
+use Rattle.point_put.specs.Admissions.{Admission}
 use Rattle.lone_store.specs.LoneStores.{IsFresh}
 use Rattle.lone_store.proofs.CallerLemmas.{begun_lawful}
 use Rattle.list_lemmas.proofs.ListMembers.{here}
@@ -22,7 +21,7 @@ begun = opened empty 1
 abbrev fresh_seen : Seen
 fresh_seen = whole_seen begun 1 true
 
-alone_served : (c : Config) (new : Seen) (input output times : List ℕ) (result : Served) → IsPossible fresh_seen → Serves c fresh_seen input output times result new → IsServedAlone c input output times result
+alone_served : (c : Admission) (new : Seen) (input output times : List ℕ) (result : Served) → IsPossible fresh_seen → Serves c fresh_seen input output times result new → IsServedAlone c input output times result
 alone_served c new input output times result possible s =
     let p = s.since.lives possible in
     let long : len p.history ≡ new.length = p.whole s.since.alone in
@@ -36,12 +35,12 @@ alone_served c new input output times result possible s =
     }
 
 -- what was served from a fresh store on
-pub served_alone : (c : Config) (old new : Seen) (input output times : List ℕ) (result : Served) → IsFresh old → Serves c old input output times result new → IsServedAlone c input output times result
+pub served_alone : (c : Admission) (old new : Seen) (input output times : List ℕ) (result : Served) → IsFresh old → Serves c old input output times result new → IsServedAlone c input output times result
 served_alone c old new input output times result fresh s =
     alone_served c new input output times result (subst IsPossible fresh.seen fresh.possible) (subst (λ (o : Seen). Serves c o input output times result new) fresh.seen s)
 
 -- no memory for the store: nothing was served
-pub none_served : (c : Config) → IsServedAlone c [] [] [] answer.OutOfMemory
+pub none_served : (c : Admission) → IsServedAlone c [] [] [] answer.OutOfMemory
 none_served c = record {
   history = begun;
   lawful = begun_lawful;

@@ -1,6 +1,7 @@
 //! Serving one connection over a store of its own.
 ghost use Rattle.std.specs.Prelude.{◌≡◌};
 ghost use Rattle.std.specs.Io.KnownBytes.{IsAtEnd};
+ghost use Rattle.point_put.specs.Admissions.{admission};
 ghost use Rattle.tsd_daemon.specs.ServedConns.{ConnCauses, Passes};
 ghost use Rattle.stdio_job.specs.LoneConnections.{ServesAlone};
 
@@ -9,6 +10,7 @@ use lone_store::{empty, halt_of};
 use point_put::Config;
 use std::alloc::Global;
 use tsd_daemon::{Served, serve_conn};
+use tsd_hooks::UidRule;
 use tsd_io::clock::Clock;
 use tsd_io::halt::Halt;
 use tsd_io::ports::{Sink, Source};
@@ -24,6 +26,7 @@ pub struct Finished<H> {
 /// compacted: the store goes with the connection.
 pub fn serve_alone<S: Source, K: Sink, C: Clock, H: Halt + Drop>(
     alloc: Global,
+    rule: &UidRule,
     config: &Config,
     source: &mut S,
     sink: &mut K,
@@ -31,7 +34,7 @@ pub fn serve_alone<S: Source, K: Sink, C: Clock, H: Halt + Drop>(
     halt: H,
 ) -> Finished<H>
     ensures served { Passes (S.taken source.old) (S.taken source.new) (S.left source.old) (S.left source.new) (K.held sink.old) (K.held sink.new) (C.moments clock.old) (C.moments clock.new)
-        (ServesAlone config.now result.served) }
+        (ServesAlone (admission config.now rule.now.patterns) result.served) }
     ensures end { result.served ≡ Served.End → IsAtEnd (S.left source.new) }
     ensures causes { ConnCauses (S.faults source.old) (S.faults source.new) (K.faults sink.old) (K.faults sink.new) (H.stops halt) (H.stops result.halt) (C.faults clock.old) (C.faults clock.new) result.served }
 {
@@ -39,7 +42,9 @@ pub fn serve_alone<S: Source, K: Sink, C: Clock, H: Halt + Drop>(
         Ok(store) => {
             let mut store = store;
             let mut queue = Queue::make(alloc);
-            let served = serve_conn(alloc, &mut store, config, source, sink, clock, &mut queue);
+            let served = serve_conn(
+                alloc, &mut store, rule, config, source, sink, clock, &mut queue,
+            );
             let halt = halt_of(store);
             Finished { served, halt }
         }

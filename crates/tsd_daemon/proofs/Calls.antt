@@ -3,7 +3,7 @@ use Rattle.std.proofs.Common.{◌≡◌, inr, ℕ, Bool, true, false, List, [], 
 use Rattle.std.specs.Prelude.{None, Some, if◌then◌else◌}
 use Rattle.cell_model.specs.declared.answers.Stored.{Stored}
 use Rattle.cell_model.specs.Seen.{Seen}
-use Rattle.point_put.specs.declared.config.Config.{Config}
+use Rattle.point_put.specs.Admissions.{Admission}
 use Rattle.http_exchange.specs.declared.http_call.Call.{Call}
 use Rattle.http_exchange.specs.HttpSessions as sessions
 use Rattle.http_exchange.specs.HttpUnread.{Unread}
@@ -28,11 +28,11 @@ no_calls old new w = ap (map Http) (w.same [] ∙ w.none)
 pub fed_calls : (old new : Unread) (piece fed : List ℕ) → piece ≡ fed → ((more : List ℕ) → sessions.to_come new more ≡ sessions.to_come old (piece ++ more)) → (more : List ℕ) → http_to_come new more ≡ http_to_come old (fed ++ more)
 fed_calls old new piece fed is same more = ap (map Http) (same more ∙ ap (λ (p : List ℕ). sessions.to_come old (p ++ more)) is)
 
-pub call_replied : (c : Config) (counts : Counts) (now : ℕ) (call : Call) (old new : Seen) (before after : List Stored) (reply : List ℕ) → CallReplied c now call old before reply new after
+pub call_replied : (c : Admission) (counts : Counts) (now : ℕ) (call : Call) (old new : Seen) (before after : List Stored) (reply : List ℕ) → CallReplied c now call old before reply new after
     → Replied c counts (moment_for call now) (Http call) old before reply counted.Other new after
 call_replied c counts now call old new before after reply r = record { stored = r.stored; since = r.since; answered = λ h l f. (now, refl, r.answered h l f); rows = r.rows; how_is = refl }
 
-pub call_begun : (c : Config) (now : ℕ) (call : Call) (old new : Seen) (before after : List Stored) → CallBroken c now call old before new after → WasBegun c (moment_for call now) (Http call) old before new after
+pub call_begun : (c : Admission) (now : ℕ) (call : Call) (old new : Seen) (before after : List Stored) → CallBroken c now call old before new after → WasBegun c (moment_for call now) (Http call) old before new after
 call_begun c now call old new before after b = record { since = b.since; begun = λ h l f. inr (now, refl, b.begun h l f); rows = b.rows }
 
 -- whether the connection ends with it

@@ -8,7 +8,7 @@ use Rattle.cell_model.specs.History.{first}
 use Rattle.cell_model.specs.Seen.{Seen}
 use Rattle.cell_model.specs.Deeds.{deeds}
 use Rattle.compactor.proofs.CallerLemmas.{rows_none}
-use Rattle.point_put.specs.declared.config.Config.{Config}
+use Rattle.point_put.specs.Admissions.{Admission}
 use Rattle.telnet_put.specs.Requests.{Request}
 use Rattle.tsd_daemon.specs.declared.served.Served.{Served}
 use Rattle.tsd_daemon.specs.declared.served.Served.TheVariants as answer
@@ -26,7 +26,7 @@ use Rattle.tsd_daemon.proofs.Talking.{Requests, talk_begun, talk_broken, talk_cl
 -- ---- one request
 
 -- it was answered, and its reply told, at once or later; or the sink failed
-pub clock_replied : (c : Config) (old : Stand) (moments moments' : Option (List ℕ)) (moment : Option ℕ) (request : ConnRequest) (seen : Seen) (held : Option (List ℕ)) (queue : List Stored) (waiting : List ℕ) (counts : Counts) (reply : List ℕ) (how : Counted) (result : Option Served) (come come' : Requests)
+pub clock_replied : (c : Admission) (old : Stand) (moments moments' : Option (List ℕ)) (moment : Option ℕ) (request : ConnRequest) (seen : Seen) (held : Option (List ℕ)) (queue : List Stored) (waiting : List ℕ) (counts : Counts) (reply : List ℕ) (how : Counted) (result : Option Served) (come come' : Requests)
     → Gave moments (option_to_list moment) moments' → Replied c old.counts moment request old.seen old.queue reply how seen queue → GivesReply old.held held (old.waiting ++ reply) waiting result → counts ≡ counts_with old.counts how → end_of request ≡ None → IsNext request come come'
     → ClockMoves c moments old come moments' (record { seen = seen; held = held; queue = queue; waiting = waiting; counts = counts }) come' result
 clock_replied c old moments moments' moment request seen held queue waiting counts reply how None come come' given r g is still next from t le k =
@@ -45,7 +45,7 @@ clock_replied c old moments moments' moment request seen held queue waiting coun
 clock_replied c old moments moments' moment request seen held queue waiting counts reply how (Some answer.OutOfMemory) come come' given r g is still next from t le k = absurd g
 
 -- it was answered, and closes
-pub clock_last : (c : Config) (old : Stand) (moments moments' : Option (List ℕ)) (moment : Option ℕ) (request : ConnRequest) (seen : Seen) (held : Option (List ℕ)) (queue : List Stored) (waiting : List ℕ) (counts : Counts) (reply : List ℕ) (how : Counted) (end result : Served) (come come' : Requests)
+pub clock_last : (c : Admission) (old : Stand) (moments moments' : Option (List ℕ)) (moment : Option ℕ) (request : ConnRequest) (seen : Seen) (held : Option (List ℕ)) (queue : List Stored) (waiting : List ℕ) (counts : Counts) (reply : List ℕ) (how : Counted) (end result : Served) (come come' : Requests)
     → Gave moments (option_to_list moment) moments' → Replied c old.counts moment request old.seen old.queue reply how seen queue → GivesLast old.held held (old.waiting ++ reply) end result → end_of request ≡ Some end → IsNext request come come'
     → ClockMoves c moments old come moments' (record { seen = seen; held = held; queue = queue; waiting = waiting; counts = counts }) come' (Some result)
 clock_last c old moments moments' moment request seen held queue waiting counts reply how end result come come' given r (inl (g, same)) ends next from t le k =
@@ -54,63 +54,63 @@ clock_last c old moments moments' moment request seen held queue waiting counts 
     subst (λ (x : Served). Ends c from t.taken t.left moments' x seen held queue) (sym same) (talk_unsent c from (record t { moments = moments }) moments' old seen held queue come come' moment request reply how le k given next r g)
 
 -- it was begun, where no reply waits
-pub clock_begun : (c : Config) (old : Stand) (moments moments' : Option (List ℕ)) (moment : Option ℕ) (request : ConnRequest) (seen : Seen) (queue : List Stored) (end : Served) (come come' : Requests)
+pub clock_begun : (c : Admission) (old : Stand) (moments moments' : Option (List ℕ)) (moment : Option ℕ) (request : ConnRequest) (seen : Seen) (queue : List Stored) (end : Served) (come come' : Requests)
     → Gave moments (option_to_list moment) moments' → WasBegun c moment request old.seen old.queue seen queue → old.waiting ≡ [] → BreaksSo end → IsNext request come come'
     → ClockMoves c moments old come moments' (record { seen = seen; held = old.held; queue = queue; waiting = old.waiting; counts = old.counts }) come' (Some end)
 clock_begun c old moments moments' moment request seen queue end come come' given b none so next from t le k = talk_begun c from (record t { moments = moments }) moments' old seen queue come come' moment request end le k given next b none so
 
 -- the clock failed, which it asks, where no reply waits
-pub clock_failed : (c : Config) (old : Stand) (moments moments' : Option (List ℕ)) (request : ConnRequest) (come come' : Requests) → old.waiting ≡ [] → (asks_clock request ≡ true) × (moments' ≡ moments) → IsNext request come come'
+pub clock_failed : (c : Admission) (old : Stand) (moments moments' : Option (List ℕ)) (request : ConnRequest) (come come' : Requests) → old.waiting ≡ [] → (asks_clock request ≡ true) × (moments' ≡ moments) → IsNext request come come'
     → ClockMoves c moments old come moments' old come' (Some answer.ClockFault)
 clock_failed c old moments moments' request come come' none (asks, same) next from t le k =
     subst (λ (m : Option (List ℕ)). Ends c from t.taken t.left m answer.ClockFault old.seen old.held old.queue) (sym same) (talk_momentless c from (record t { moments = moments }) old come come' request le k next asks none)
 
 -- ---- one request that doesn't ask the clock
 
-pub request_replied : (c : Config) (old : Stand) (request : ConnRequest) (seen : Seen) (held : Option (List ℕ)) (queue : List Stored) (waiting : List ℕ) (counts : Counts) (reply : List ℕ) (how : Counted) (result : Option Served) (come come' : Requests)
+pub request_replied : (c : Admission) (old : Stand) (request : ConnRequest) (seen : Seen) (held : Option (List ℕ)) (queue : List Stored) (waiting : List ℕ) (counts : Counts) (reply : List ℕ) (how : Counted) (result : Option Served) (come come' : Requests)
     → Replied c old.counts None request old.seen old.queue reply how seen queue → GivesReply old.held held (old.waiting ++ reply) waiting result → counts ≡ counts_with old.counts how → end_of request ≡ None → IsNext request come come'
     → Moves c old come (record { seen = seen; held = held; queue = queue; waiting = waiting; counts = counts }) come' result
 request_replied c old request seen held queue waiting counts reply how result come come' r g is still next from t le k = clock_replied c old t.moments t.moments None request seen held queue waiting counts reply how result come come' refl r g is still next from t le k
 
-pub request_last : (c : Config) (old : Stand) (request : ConnRequest) (seen : Seen) (held : Option (List ℕ)) (queue : List Stored) (waiting : List ℕ) (counts : Counts) (reply : List ℕ) (how : Counted) (end result : Served) (come come' : Requests)
+pub request_last : (c : Admission) (old : Stand) (request : ConnRequest) (seen : Seen) (held : Option (List ℕ)) (queue : List Stored) (waiting : List ℕ) (counts : Counts) (reply : List ℕ) (how : Counted) (end result : Served) (come come' : Requests)
     → Replied c old.counts None request old.seen old.queue reply how seen queue → GivesLast old.held held (old.waiting ++ reply) end result → end_of request ≡ Some end → IsNext request come come'
     → Moves c old come (record { seen = seen; held = held; queue = queue; waiting = waiting; counts = counts }) come' (Some result)
 request_last c old request seen held queue waiting counts reply how end result come come' r g ends next from t le k = clock_last c old t.moments t.moments None request seen held queue waiting counts reply how end result come come' refl r g ends next from t le k
 
-pub request_begun : (c : Config) (old : Stand) (request : ConnRequest) (seen : Seen) (queue : List Stored) (end : Served) (come come' : Requests)
+pub request_begun : (c : Admission) (old : Stand) (request : ConnRequest) (seen : Seen) (queue : List Stored) (end : Served) (come come' : Requests)
     → WasBegun c None request old.seen old.queue seen queue → old.waiting ≡ [] → BreaksSo end → IsNext request come come'
     → Moves c old come (record { seen = seen; held = old.held; queue = queue; waiting = old.waiting; counts = old.counts }) come' (Some end)
 request_begun c old request seen queue end come come' b none so next from t le k = clock_begun c old t.moments t.moments None request seen queue end come come' refl b none so next from t le k
 
 -- what waited was given first
-pub gave_first : (c : Config) (old : Stand) (held : Option (List ℕ)) (waiting : List ℕ) (new : Stand) (come come' : Requests) (result : Option Served)
+pub gave_first : (c : Admission) (old : Stand) (held : Option (List ℕ)) (waiting : List ℕ) (new : Stand) (come come' : Requests) (result : Option Served)
     → Gives old.held held old.waiting [] → waiting ≡ [] → Moves c (record { seen = old.seen; held = held; queue = old.queue; waiting = waiting; counts = old.counts }) come new come' result → Moves c old come new come' result
 gave_first c old held waiting new come come' result g none m from t le k =
     m from t le (subst (λ (w : List ℕ). Talks c from t (record { seen = old.seen; held = held; queue = old.queue; waiting = w; counts = old.counts }) come) (sym none) (talk_gave c from t old held come k g))
 
-pub first_failed : (c : Config) (old : Stand) (held : Option (List ℕ)) (waiting : List ℕ) (come come' : Requests) → GivesSome old.held held old.waiting
+pub first_failed : (c : Admission) (old : Stand) (held : Option (List ℕ)) (waiting : List ℕ) (come come' : Requests) → GivesSome old.held held old.waiting
     → Moves c old come (record { seen = old.seen; held = held; queue = old.queue; waiting = waiting; counts = old.counts }) come' (Some answer.WriteFault)
 first_failed c old held waiting come come' g from t le k = talk_failed c from t old held come le k g
 
-pub clock_gave_first : (c : Config) (old : Stand) (moments moments' : Option (List ℕ)) (held : Option (List ℕ)) (waiting : List ℕ) (new : Stand) (come come' : Requests) (result : Option Served)
+pub clock_gave_first : (c : Admission) (old : Stand) (moments moments' : Option (List ℕ)) (held : Option (List ℕ)) (waiting : List ℕ) (new : Stand) (come come' : Requests) (result : Option Served)
     → Gives old.held held old.waiting [] → waiting ≡ [] → ClockMoves c moments (record { seen = old.seen; held = held; queue = old.queue; waiting = waiting; counts = old.counts }) come moments' new come' result → ClockMoves c moments old come moments' new come' result
 clock_gave_first c old moments moments' held waiting new come come' result g none m from t le k =
     m from t le (subst (λ (w : List ℕ). Talks c from (record t { moments = moments }) (record { seen = old.seen; held = held; queue = old.queue; waiting = w; counts = old.counts }) come) (sym none) (talk_gave c from (record t { moments = moments }) old held come k g))
 
-pub clock_first_failed : (c : Config) (old : Stand) (moments : Option (List ℕ)) (held : Option (List ℕ)) (waiting : List ℕ) (come come' : Requests) → GivesSome old.held held old.waiting
+pub clock_first_failed : (c : Admission) (old : Stand) (moments : Option (List ℕ)) (held : Option (List ℕ)) (waiting : List ℕ) (come come' : Requests) → GivesSome old.held held old.waiting
     → ClockMoves c moments old come moments (record { seen = old.seen; held = held; queue = old.queue; waiting = waiting; counts = old.counts }) come' (Some answer.WriteFault)
 clock_first_failed c old moments held waiting come come' g from t le k = talk_failed c from (record t { moments = moments }) old held come le k g
 
 -- one after the other
-pub moves_on : (c : Config) (old mid new : Stand) (come come' come'' : Requests) (result : Option Served) → Moves c old come mid come' None → Moves c mid come' new come'' result → Moves c old come new come'' result
+pub moves_on : (c : Admission) (old mid new : Stand) (come come' come'' : Requests) (result : Option Served) → Moves c old come mid come' None → Moves c mid come' new come'' result → Moves c old come new come'' result
 moves_on c old mid new come come' come'' result a b from t le k = b from t le (a from t le k)
 
-pub clock_moves_on : (c : Config) (old mid new : Stand) (moments between moments' : Option (List ℕ)) (come come' come'' : Requests) (result : Option Served) → ClockMoves c moments old come between mid come' None → ClockMoves c between mid come' moments' new come'' result → ClockMoves c moments old come moments' new come'' result
+pub clock_moves_on : (c : Admission) (old mid new : Stand) (moments between moments' : Option (List ℕ)) (come come' come'' : Requests) (result : Option Served) → ClockMoves c moments old come between mid come' None → ClockMoves c between mid come' moments' new come'' result → ClockMoves c moments old come moments' new come'' result
 clock_moves_on c old mid new moments between moments' come come' come'' result a b from t le k = b from t le (a from t le k)
 
 -- ---- requests that ask for no step
 
-nothing_done : (seen : Seen) (c : Config) (counts : Counts) (request : Request) (reply : List ℕ) → point_asked request ≡ None → reply ≡ fixed_reply counts request → (queue : List Stored)
+nothing_done : (seen : Seen) (c : Admission) (counts : Counts) (request : Request) (reply : List ℕ) → point_asked request ≡ None → reply ≡ fixed_reply counts request → (queue : List Stored)
     → Replied c counts None (Telnet request) seen queue reply (counted_as (Telnet request) []) seen queue
 nothing_done seen c counts request reply none is queue = record {
   stored = [];

@@ -5,7 +5,7 @@ use Rattle.tsd_io.specs.Causes.{Rose}
 use Rattle.telnet_put.specs.Requests.{Request}
 use Rattle.telnet_put.specs.Sessions as sessions
 use Rattle.telnet_put.specs.Unread.{Unread}
-use Rattle.point_put.specs.declared.config.Config.{Config}
+use Rattle.point_put.specs.Admissions.{Admission}
 use Rattle.tsd_daemon.specs.declared.served.Served.{Served}
 use Rattle.tsd_daemon.specs.declared.served.Served.TheVariants as answer
 use Rattle.tsd_daemon.specs.ConnPieces.{PieceTaken, TakesNext}
@@ -161,7 +161,7 @@ piece_moved taken taken' left left' held held' waiting old new (Err answer.Clock
 piece_moved taken taken' left left' held held' waiting old new (Err answer.OutOfMemory) g t = (g, t)
 
 -- what waited was given, and a piece was taken
-pub talk_piece : (c : Config) (from : Start) (taken left taken' left' moments : Option (List ℕ)) (now : Stand) (held' : Option (List ℕ)) (input new : PieceTaken) (come : List ℕ → List ConnRequest)
+pub talk_piece : (c : Admission) (from : Start) (taken left taken' left' moments : Option (List ℕ)) (now : Stand) (held' : Option (List ℕ)) (input new : PieceTaken) (come : List ℕ → List ConnRequest)
     → Talks c from (record { taken = taken; left = left; moments = moments; size = input.taken }) now come → PieceMoves taken taken' left left' now.held held' now.waiting input (Ok tt) new
     → Talks c from (record { taken = taken'; left = left'; moments = moments; size = new.taken }) (record { seen = now.seen; held = held'; queue = now.queue; waiting = []; counts = now.counts }) (λ more. come (new.piece ++ more))
 talk_piece c from taken left taken' left' moments now held' input new come k (g, t) =
@@ -169,7 +169,7 @@ talk_piece c from taken left taken' left' moments now held' input new come k (g,
     (talk_took c from (record { taken = taken; left = left; moments = moments; size = input.taken }) taken' left' new.taken _ come t.more (talk_gave c from _ now held' come k g) t.takes t.leaves t.count)
 
 -- what waited was given, and no piece was taken
-quiet_end : (c : Config) (from : Start) (taken left taken' left' moments : Option (List ℕ)) (now : Stand) (held' : Option (List ℕ)) (input new : PieceTaken) (r : Result (Unit {0}) Served) (come : List ℕ → List ConnRequest)
+quiet_end : (c : Admission) (from : Start) (taken left taken' left' moments : Option (List ℕ)) (now : Stand) (held' : Option (List ℕ)) (input new : PieceTaken) (r : Result (Unit {0}) Served) (come : List ℕ → List ConnRequest)
     → Talks c from (record { taken = taken; left = left; moments = moments; size = input.taken }) now come → come [] ≡ [] → Gives now.held held' now.waiting [] → (t : TakesNext taken taken' left left' input r new) → t.more ≡ []
     → Quiet c from (record { taken = taken'; left = left'; moments = moments; size = input.taken }) (record { seen = now.seen; held = held'; queue = now.queue; waiting = []; counts = now.counts })
 quiet_end c from taken left taken' left' moments now held' input new r come k none g t nothing =
@@ -178,7 +178,7 @@ quiet_end c from taken left taken' left' moments now held' input new r come k no
     (talk_took c from (record { taken = taken; left = left; moments = moments; size = input.taken }) taken' left' input.taken _ come t.more (talk_gave c from _ now held' come k g) t.takes t.leaves grows)
     refl (ap (λ (m : List ℕ). come (m ++ [])) nothing ∙ none)
 
-pub talk_no_piece : (c : Config) (from : Start) (taken left taken' left' moments : Option (List ℕ)) (now : Stand) (held' : Option (List ℕ)) (input new : PieceTaken) (end : Served) (come : List ℕ → List ConnRequest)
+pub talk_no_piece : (c : Admission) (from : Start) (taken left taken' left' moments : Option (List ℕ)) (now : Stand) (held' : Option (List ℕ)) (input new : PieceTaken) (end : Served) (come : List ℕ → List ConnRequest)
     → input.taken ≤ 2 ^ 40 → Talks c from (record { taken = taken; left = left; moments = moments; size = input.taken }) now come → come [] ≡ [] → PieceMoves taken taken' left left' now.held held' now.waiting input (Err end) new
     → Ends c from taken' left' moments end now.seen held' now.queue
 talk_no_piece c from taken left taken' left' moments now held' input new answer.WriteFault come le k none (g, same, also) =

@@ -10,7 +10,7 @@ use Rattle.cell_model.specs.declared.events.Placed.{Placed}
 use Rattle.cell_model.specs.History.{History}
 use Rattle.cell_model.specs.Deeds.{deeds}
 use Rattle.compactor.specs.Queues.{HasRows}
-use Rattle.point_put.specs.declared.config.Config.{Config}
+use Rattle.point_put.specs.Admissions.{Admission}
 use Rattle.queued_put.specs.PutRows.{MayHaveRows}
 use Rattle.telnet_put.specs.Requests.Request.{Put, Version, Help, Stats, DropCaches, Exit, Die, TooLong, Other}
 use Rattle.http_exchange.specs.declared.http_call.Call.{Call}
@@ -98,7 +98,7 @@ counts_push done x = at (is_put x.request) x.stored (count_push accepted done x)
 -- ---- requests that end a connection
 
 pub record ClosesSo (request : ConnRequest) (end : Served) : Type 0 where
-  pub table : (c : Config) (h : History) (caller n n2 : ℕ) (done : List Exchange) (input output times : List ℕ) → Closes end done input output times (deeds h caller n n2) → Table end c h caller n n2 done input output times
+  pub table : (c : Admission) (h : History) (caller n n2 : ℕ) (done : List Exchange) (input output times : List ℕ) → Closes end done input output times (deeds h caller n n2) → Table end c h caller n n2 done input output times
   pub queue : (before rows : List Stored) (later : List Placed) (after : List Stored) → HasRows before rows after → QueueTable end before rows later after
   pub fills : (count : ℕ) → count ≤ 2 ^ 40 → Fills end count
   pub closes : closes_conn request ≡ true
@@ -147,7 +147,7 @@ goes_on (Http call) e = at call.closing e
 -- ---- answers behind which a request may have been begun
 
 pub record BreaksSo (end : Served) : Type 0 where
-  pub table : (c : Config) (h : History) (caller n n2 : ℕ) (done : List Exchange) (input output times : List ℕ) → BreaksOff c h caller n n2 done input output times → Table end c h caller n n2 done input output times
+  pub table : (c : Admission) (h : History) (caller n n2 : ℕ) (done : List Exchange) (input output times : List ℕ) → BreaksOff c h caller n n2 done input output times → Table end c h caller n n2 done input output times
   pub queue : (before rows : List Stored) (later : List Placed) (after : List Stored) → MayHaveRows before rows later after → QueueTable end before rows later after
   pub fills : (count : ℕ) → count ≤ 2 ^ 40 → Fills end count
 

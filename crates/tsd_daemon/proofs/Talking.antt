@@ -14,7 +14,7 @@ use Rattle.cell_model.specs.Seen.{Seen, InEach}
 use Rattle.cell_model.specs.Deeds.{deeds, Since}
 use Rattle.compactor.specs.Queues.{HasRows}
 use Rattle.compactor.proofs.CallerLemmas.{rows_joined, rows_none}
-use Rattle.point_put.specs.declared.config.Config.{Config}
+use Rattle.point_put.specs.Admissions.{Admission}
 use Rattle.point_put.specs.declared.fault.PutFault.TheVariants as put_fault
 use Rattle.point_put.specs.Entries.{ForName, ForNames}
 use Rattle.point_put.specs.Entries.ForNames.{nil, more}
@@ -43,7 +43,7 @@ exchange moment request reply stored = record { request = request; moment = mome
 
 -- ---- one request more
 
-ran_more : (c : Config) (from mid new : Seen) (done : List Exchange) (counts : Counts) (moment : Option ℕ) (request : ConnRequest) (before : List Stored) (reply : List ℕ) (how : Counted) (after : List Stored)
+ran_more : (c : Admission) (from mid new : Seen) (done : List Exchange) (counts : Counts) (moment : Option ℕ) (request : ConnRequest) (before : List Stored) (reply : List ℕ) (how : Counted) (after : List Stored)
     → mid.caller ≡ from.caller → counts ≡ counts_of done → InEach mid (λ h. Ran c h from.caller from.length done mid.length)
     → (r : Replied c counts moment request mid before reply how new after) → InEach new (λ h. Ran c h from.caller from.length (done ++ exchange moment request reply r.stored ∷ []) new.length)
 ran_more c from mid new done counts moment request before reply how after who is ran r h l f =
@@ -51,7 +51,7 @@ ran_more c from mid new done counts moment request before reply how after who is
     then_asked (exchange moment request reply r.stored) (ran h l (r.since.extends.fits h f)) r.since.extends.length (subst (λ (k : Counts). AnsweredBetween c h from.caller mid.length new.length k moment request reply r.stored) is mine)
 
 -- its reply waits
-told_answered : (c : Config) (from : Start) (t : Taken) (moments : Option (List ℕ)) (done : List Exchange) (old : Stand) (seen : Seen) (queue : List Stored) (come come' : Requests) (moment : Option ℕ) (request : ConnRequest) (reply : List ℕ) (how : Counted)
+told_answered : (c : Admission) (from : Start) (t : Taken) (moments : Option (List ℕ)) (done : List Exchange) (old : Stand) (seen : Seen) (queue : List Stored) (come come' : Requests) (moment : Option ℕ) (request : ConnRequest) (reply : List ℕ) (how : Counted)
     → Told c from t done old come → Gave t.moments (option_to_list moment) moments → IsNext request come come' → (r : Replied c old.counts moment request old.seen old.queue reply how seen queue)
     → Told c from (record t { moments = moments }) (done ++ exchange moment request reply r.stored ∷ []) (record { seen = seen; held = old.held; queue = queue; waiting = old.waiting ++ reply; counts = counts_with old.counts how }) come'
 told_answered c from t moments done old seen queue come come' moment request reply how k given next r =
@@ -74,7 +74,7 @@ told_answered c from t moments done old seen queue come come' moment request rep
 
 -- ---- bytes that are given
 
-told_gave : (c : Config) (from : Start) (t : Taken) (done : List Exchange) (old : Stand) (held : Option (List ℕ)) (waiting : List ℕ) (come : Requests) → Told c from t done old come → Gives old.held held old.waiting waiting
+told_gave : (c : Admission) (from : Start) (t : Taken) (done : List Exchange) (old : Stand) (held : Option (List ℕ)) (waiting : List ℕ) (come : Requests) → Told c from t done old come → Gives old.held held old.waiting waiting
     → Told c from t done (record { seen = old.seen; held = held; queue = old.queue; waiting = waiting; counts = old.counts }) come
 told_gave c from t done old held waiting come k g = record {
   input = k.input;
@@ -93,11 +93,11 @@ told_gave c from t done old held waiting come k g = record {
 }
 
 -- what waited was given
-pub talk_gave : (c : Config) (from : Start) (t : Taken) (old : Stand) (held : Option (List ℕ)) (come : Requests) → Talks c from t old come → Gives old.held held old.waiting []
+pub talk_gave : (c : Admission) (from : Start) (t : Taken) (old : Stand) (held : Option (List ℕ)) (come : Requests) → Talks c from t old come → Gives old.held held old.waiting []
     → Talks c from t (record { seen = old.seen; held = held; queue = old.queue; waiting = []; counts = old.counts }) come
 talk_gave c from t old held come k g = record { done = k.done; told = told_gave c from t k.done old held [] come k.told g; open_still = k.open_still }
 
-pub talk_replied : (c : Config) (from : Start) (t : Taken) (moments : Option (List ℕ)) (old : Stand) (seen : Seen) (held : Option (List ℕ)) (queue : List Stored) (waiting : List ℕ) (come come' : Requests) (moment : Option ℕ) (request : ConnRequest) (reply : List ℕ) (how : Counted)
+pub talk_replied : (c : Admission) (from : Start) (t : Taken) (moments : Option (List ℕ)) (old : Stand) (seen : Seen) (held : Option (List ℕ)) (queue : List Stored) (waiting : List ℕ) (come come' : Requests) (moment : Option ℕ) (request : ConnRequest) (reply : List ℕ) (how : Counted)
     → Talks c from t old come → Gave t.moments (option_to_list moment) moments → IsNext request come come' → Replied c old.counts moment request old.seen old.queue reply how seen queue → Gives old.held held (old.waiting ++ reply) waiting → end_of request ≡ None
     → Talks c from (record t { moments = moments }) (record { seen = seen; held = held; queue = queue; waiting = waiting; counts = counts_with old.counts how }) come'
 talk_replied c from t moments old seen held queue waiting come come' moment request reply how k given next r g still = record {
@@ -119,7 +119,7 @@ most_of : (n size : ℕ) → n ≡ size → size ≤ 2 ^ 40 → n ≤ 2 ^ 40
 most_of n size is le = omega (arith, is, le)
 
 -- after these exchanges the connection ended so
-told_ends : (c : Config) (from : Start) (t : Taken) (moments : Option (List ℕ)) (done : List Exchange) (now : Stand) (come : Requests) (result : Served) (seen : Seen) (queue : List Stored) (times : List ℕ) → (k : Told c from t done now come) → Since now.seen seen
+told_ends : (c : Admission) (from : Start) (t : Taken) (moments : Option (List ℕ)) (done : List Exchange) (now : Stand) (come : Requests) (result : Served) (seen : Seen) (queue : List Stored) (times : List ℕ) → (k : Told c from t done now come) → Since now.seen seen
     → Gave from.moments times moments → InEach seen (λ h. Table result c h from.seen.caller now.seen.length seen.length done k.input k.output times)
     → InEach seen (λ h. QueueTable result from.queue (rows_in done) (deeds h from.seen.caller now.seen.length seen.length) queue) → Fills result (length k.input) → Ends c from t.taken t.left moments result seen now.held queue
 told_ends c from t moments done now come result seen queue times k since ticks table queued fills = record {
@@ -139,7 +139,7 @@ told_ends c from t moments done now come result seen queue times k since ticks t
 }
 
 -- and no entry was made behind them
-told_rests : (c : Config) (from : Start) (t : Taken) (done : List Exchange) (now : Stand) (come : Requests) (result : Served) → (k : Told c from t done now come)
+told_rests : (c : Admission) (from : Start) (t : Taken) (done : List Exchange) (now : Stand) (come : Requests) (result : Served) → (k : Told c from t done now come)
     → ((h : History) → deeds h from.seen.caller now.seen.length now.seen.length ≡ [] → Table result c h from.seen.caller now.seen.length now.seen.length done k.input k.output (moments_in done))
     → ((later : List Placed) → QueueTable result from.queue (rows_in done) later now.queue) → Fills result (length k.input) → Ends c from t.taken t.left t.moments result now.seen now.held now.queue
 told_rests c from t done now come result k table queued fills =
@@ -147,26 +147,26 @@ told_rests c from t done now come result k table queued fills =
     (λ h l f. table h (ap (λ n. deeds h n now.seen.length now.seen.length) (sym k.since.caller) ∙ (nothing_made now.seen).made h f)) (λ h l f. queued _) fills
 
 -- the sink failed while what waited was given
-told_unsent : (c : Config) (from : Start) (t : Taken) (done : List Exchange) (old : Stand) (held : Option (List ℕ)) (come : Requests) → t.size ≤ 2 ^ 40 → Told c from t done old come → GivesSome old.held held old.waiting
+told_unsent : (c : Admission) (from : Start) (t : Taken) (done : List Exchange) (old : Stand) (held : Option (List ℕ)) (come : Requests) → t.size ≤ 2 ^ 40 → Told c from t done old come → GivesSome old.held held old.waiting
     → Ends c from t.taken t.left t.moments answer.WriteFault old.seen held old.queue
 told_unsent c from t done old held come le k (rest, g) =
     let m = told_gave c from t done old held rest come k g in
     told_rests c from t done _ come answer.WriteFault m (λ h none. record { rest = come []; requests = all_of m.input _ (come []) (m.requests []); unsent = rest; replies = m.replies; moments = refl; no_later = none })
     (λ later. m.queued) (most_of (length m.input) t.size m.size le)
 
-pub talk_failed : (c : Config) (from : Start) (t : Taken) (old : Stand) (held : Option (List ℕ)) (come : Requests) → t.size ≤ 2 ^ 40 → Talks c from t old come → GivesSome old.held held old.waiting
+pub talk_failed : (c : Admission) (from : Start) (t : Taken) (old : Stand) (held : Option (List ℕ)) (come : Requests) → t.size ≤ 2 ^ 40 → Talks c from t old come → GivesSome old.held held old.waiting
     → Ends c from t.taken t.left t.moments answer.WriteFault old.seen held old.queue
 talk_failed c from t old held come le k g = told_unsent c from t k.done old held come le k.told g
 
 -- the reply to a request that was answered couldn't be given whole
-pub talk_unsent : (c : Config) (from : Start) (t : Taken) (moments : Option (List ℕ)) (old : Stand) (seen : Seen) (held : Option (List ℕ)) (queue : List Stored) (come come' : Requests) (moment : Option ℕ) (request : ConnRequest) (reply : List ℕ) (how : Counted)
+pub talk_unsent : (c : Admission) (from : Start) (t : Taken) (moments : Option (List ℕ)) (old : Stand) (seen : Seen) (held : Option (List ℕ)) (queue : List Stored) (come come' : Requests) (moment : Option ℕ) (request : ConnRequest) (reply : List ℕ) (how : Counted)
     → t.size ≤ 2 ^ 40 → Talks c from t old come → Gave t.moments (option_to_list moment) moments → IsNext request come come' → Replied c old.counts moment request old.seen old.queue reply how seen queue → GivesSome old.held held (old.waiting ++ reply)
     → Ends c from t.taken t.left moments answer.WriteFault seen held queue
 talk_unsent c from t moments old seen held queue come come' moment request reply how le k given next r g =
     told_unsent c from (record t { moments = moments }) _ _ held come' le (told_answered c from t moments k.done old seen queue come come' moment request reply how k.told given next r) g
 
 -- a request that closes was answered, and all replies were given
-pub talk_closed : (c : Config) (from : Start) (t : Taken) (moments : Option (List ℕ)) (old : Stand) (seen : Seen) (held : Option (List ℕ)) (queue : List Stored) (come come' : Requests) (moment : Option ℕ) (request : ConnRequest) (reply : List ℕ) (how : Counted) (end : Served)
+pub talk_closed : (c : Admission) (from : Start) (t : Taken) (moments : Option (List ℕ)) (old : Stand) (seen : Seen) (held : Option (List ℕ)) (queue : List Stored) (come come' : Requests) (moment : Option ℕ) (request : ConnRequest) (reply : List ℕ) (how : Counted) (end : Served)
     → t.size ≤ 2 ^ 40 → Talks c from t old come → Gave t.moments (option_to_list moment) moments → IsNext request come come' → Replied c old.counts moment request old.seen old.queue reply how seen queue → Gives old.held held (old.waiting ++ reply) [] → end_of request ≡ Some end
     → Ends c from t.taken t.left moments end seen held queue
 talk_closed c from t moments old seen held queue come come' moment request reply how end le k given next r g ends =
@@ -191,7 +191,7 @@ next_of_all : (input : List ℕ) (done : List Exchange) (request : ConnRequest) 
 next_of_all input done request come come' requests next = all_of input _ (request ∷ come' []) (requests [] ∙ ap (λ t. requests_in done ++ t) (next.next []))
 
 -- a request was begun and isn't answered, where no reply waits
-pub talk_begun : (c : Config) (from : Start) (t : Taken) (moments : Option (List ℕ)) (old : Stand) (seen : Seen) (queue : List Stored) (come come' : Requests) (moment : Option ℕ) (request : ConnRequest) (end : Served)
+pub talk_begun : (c : Admission) (from : Start) (t : Taken) (moments : Option (List ℕ)) (old : Stand) (seen : Seen) (queue : List Stored) (come come' : Requests) (moment : Option ℕ) (request : ConnRequest) (end : Served)
     → t.size ≤ 2 ^ 40 → Talks c from t old come → Gave t.moments (option_to_list moment) moments → IsNext request come come' → WasBegun c moment request old.seen old.queue seen queue → old.waiting ≡ [] → BreaksSo end
     → Ends c from t.taken t.left moments end seen old.held queue
 talk_begun c from t moments old seen queue come come' moment request end le k given next b none so =
@@ -210,7 +210,7 @@ talk_begun c from t moments old seen queue come come' moment request end le k gi
     (so.fills (length k.told.input) (most_of (length k.told.input) t.size k.told.size le))
 
 -- the clock failed, which the next request asks, where no reply waits
-pub talk_momentless : (c : Config) (from : Start) (t : Taken) (old : Stand) (come come' : Requests) (request : ConnRequest) → t.size ≤ 2 ^ 40 → Talks c from t old come → IsNext request come come' → asks_clock request ≡ true → old.waiting ≡ []
+pub talk_momentless : (c : Admission) (from : Start) (t : Taken) (old : Stand) (come come' : Requests) (request : ConnRequest) → t.size ≤ 2 ^ 40 → Talks c from t old come → IsNext request come come' → asks_clock request ≡ true → old.waiting ≡ []
     → Ends c from t.taken t.left t.moments answer.ClockFault old.seen old.held old.queue
 talk_momentless c from t old come come' request le k next asks none =
     told_rests c from t k.done old come answer.ClockFault k.told (λ h nothing. record {
@@ -225,12 +225,12 @@ talk_momentless c from t old come come' request le k next asks none =
 
 -- ---- ends between two requests
 
-no_names : (c : Config) (names : List (Kind × List ℕ)) → ForNames c names []
+no_names : (c : Admission) (names : List (Kind × List ℕ)) → ForNames c names []
 no_names c [] = nil
 no_names c (n ∷ names) = more ForName.none (no_names c names)
 
 -- no entry and no moment is a request's that was begun
-nothing_begun : (c : Config) (h : History) (caller n : ℕ) (rest : List ConnRequest) → deeds h caller n n ≡ [] → FirstBegun c h caller n n None rest
+nothing_begun : (c : Admission) (h : History) (caller n : ℕ) (rest : List ConnRequest) → deeds h caller n n ≡ [] → FirstBegun c h caller n n None rest
 nothing_begun c h caller n [] none = (refl, none)
 nothing_begun c h caller n (Http call ∷ rest) none = inl (refl, none)
 nothing_begun c h caller n (Telnet request ∷ rest) none = (refl, subst (λ (own : List Placed). BegunBy c (first n h) own (point_asked request)) (sym none) (at (point_asked request)))
@@ -240,7 +240,7 @@ nothing_begun c h caller n (Telnet request ∷ rest) none = (refl, subst (λ (ow
     at (Some point) = (Err put_fault.OutOfMemory, no_names c (names_of point))
 
 -- there was no memory, where no reply waits
-pub talk_memory : (c : Config) (from : Start) (t : Taken) (old : Stand) (come : Requests) → t.size ≤ 2 ^ 40 → Talks c from t old come → old.waiting ≡ []
+pub talk_memory : (c : Admission) (from : Start) (t : Taken) (old : Stand) (come : Requests) → t.size ≤ 2 ^ 40 → Talks c from t old come → old.waiting ≡ []
     → Ends c from t.taken t.left t.moments answer.OutOfMemory old.seen old.held old.queue
 talk_memory c from t old come le k none =
     told_rests c from t k.done old come answer.OutOfMemory k.told
@@ -248,18 +248,18 @@ talk_memory c from t old come le k none =
     (λ later. may_have from.queue (rows_in k.done) old.queue later k.told.queued) (most_of (length k.told.input) t.size k.told.size le)
 
 -- what waited was given, and there was no memory; or the sink failed
-pub talk_broken : (c : Config) (from : Start) (t : Taken) (old : Stand) (held : Option (List ℕ)) (result : Served) (come : Requests) → t.size ≤ 2 ^ 40 → Talks c from t old come → GivesLast old.held held old.waiting answer.OutOfMemory result
+pub talk_broken : (c : Admission) (from : Start) (t : Taken) (old : Stand) (held : Option (List ℕ)) (result : Served) (come : Requests) → t.size ≤ 2 ^ 40 → Talks c from t old come → GivesLast old.held held old.waiting answer.OutOfMemory result
     → Ends c from t.taken t.left t.moments result old.seen held old.queue
 talk_broken c from t old held result come le k (inl (g, is)) = subst (λ (r : Served). Ends c from t.taken t.left t.moments r old.seen held old.queue) (sym is) (talk_memory c from t _ come le (talk_gave c from t old held come k g) refl)
 talk_broken c from t old held result come le k (inr (g, is)) = subst (λ (r : Served). Ends c from t.taken t.left t.moments r old.seen held old.queue) (sym is) (talk_failed c from t old held come le k g)
 
 -- where no reply waits and no request is left in what was taken
-pub record Quiet (c : Config) (from : Start) (t : Taken) (old : Stand) : Type 0 where
+pub record Quiet (c : Admission) (from : Start) (t : Taken) (old : Stand) : Type 0 where
   pub end : t.size < 2 ^ 40 → Ends c from t.taken t.left t.moments answer.End old.seen old.held old.queue
   pub failed : t.size < 2 ^ 40 → Ends c from t.taken t.left t.moments answer.ReadFault old.seen old.held old.queue
   pub full : t.size ≡ 2 ^ 40 → Ends c from t.taken t.left t.moments answer.SessionFull old.seen old.held old.queue
 
-pub talk_quiet : (c : Config) (from : Start) (t : Taken) (old : Stand) (come : Requests) → Talks c from t old come → old.waiting ≡ [] → come [] ≡ [] → Quiet c from t old
+pub talk_quiet : (c : Admission) (from : Start) (t : Taken) (old : Stand) (come : Requests) → Talks c from t old come → old.waiting ≡ [] → come [] ≡ [] → Quiet c from t old
 talk_quiet c from t old come k quiet none =
     let is = k.told.size in
     record {
@@ -278,7 +278,7 @@ talk_quiet c from t old come k quiet none =
 
 -- ---- bytes that are taken
 
-told_took : (c : Config) (from : Start) (t : Taken) (taken left : Option (List ℕ)) (size : ℕ) (done : List Exchange) (now : Stand) (come : Requests) (piece : List ℕ) → Told c from t done now come
+told_took : (c : Admission) (from : Start) (t : Taken) (taken left : Option (List ℕ)) (size : ℕ) (done : List Exchange) (now : Stand) (come : Requests) (piece : List ℕ) → Told c from t done now come
     → Appends t.taken taken piece → Consumes t.left left piece → size ≡ t.size + length piece → Told c from (record { taken = taken; left = left; moments = t.moments; size = size }) done now (λ more. come (piece ++ more))
 told_took c from t taken left size done now come piece k takes leaves grows = record {
   input = k.input ++ piece;
@@ -296,12 +296,12 @@ told_took c from t taken left size done now come piece k takes leaves grows = re
   counted = k.counted;
 }
 
-pub talk_took : (c : Config) (from : Start) (t : Taken) (taken left : Option (List ℕ)) (size : ℕ) (now : Stand) (come : Requests) (piece : List ℕ) → Talks c from t now come
+pub talk_took : (c : Admission) (from : Start) (t : Taken) (taken left : Option (List ℕ)) (size : ℕ) (now : Stand) (come : Requests) (piece : List ℕ) → Talks c from t now come
     → Appends t.taken taken piece → Consumes t.left left piece → size ≡ t.size + length piece → Talks c from (record { taken = taken; left = left; moments = t.moments; size = size }) now (λ more. come (piece ++ more))
 talk_took c from t taken left size now come piece k takes leaves grows = record { done = k.done; told = told_took c from t taken left size k.done now come piece k.told takes leaves grows; open_still = k.open_still }
 
 -- the same requests are to come
-told_come : (c : Config) (from : Start) (t : Taken) (done : List Exchange) (now : Stand) (come come' : Requests) → Told c from t done now come → ((more : List ℕ) → come' more ≡ come more) → Told c from t done now come'
+told_come : (c : Admission) (from : Start) (t : Taken) (done : List Exchange) (now : Stand) (come come' : Requests) → Told c from t done now come → ((more : List ℕ) → come' more ≡ come more) → Told c from t done now come'
 told_come c from t done now come come' k same = record {
   input = k.input;
   output = k.output;
@@ -318,11 +318,11 @@ told_come c from t done now come come' k same = record {
   counted = k.counted;
 }
 
-pub talk_come : (c : Config) (from : Start) (t : Taken) (now : Stand) (come come' : Requests) → Talks c from t now come → ((more : List ℕ) → come' more ≡ come more) → Talks c from t now come'
+pub talk_come : (c : Admission) (from : Start) (t : Taken) (now : Stand) (come come' : Requests) → Talks c from t now come → ((more : List ℕ) → come' more ≡ come more) → Talks c from t now come'
 talk_come c from t now come come' k same = record { done = k.done; told = told_come c from t k.done now come come' k.told same; open_still = k.open_still }
 
 -- nothing was taken yet
-pub talk_start : (c : Config) (seen : Seen) (taken left moments held : Option (List ℕ)) (queue : List Stored)
+pub talk_start : (c : Admission) (seen : Seen) (taken left moments held : Option (List ℕ)) (queue : List Stored)
     → Talks c (record { seen = seen; taken = taken; left = left; moments = moments; held = held; queue = queue }) (record { taken = taken; left = left; moments = moments; size = 0 }) (record { seen = seen; held = held; queue = queue; waiting = []; counts = no_counts }) conn_requests
 talk_start c seen taken left moments held queue = record {
   done = [];

@@ -3,7 +3,7 @@ use Rattle.std.specs.Prelude.{ℕ, ◌+◌, ◌-◌, ◌^◌, min, ◌≡◌, Li
 use Rattle.tsd_base.specs.Faults.{point_fault_text}
 use Rattle.cell_model.specs.declared.answers.Stored.{Stored}
 use Rattle.point_put.specs.declared.fault.PutFault.{PutFault}
-use Rattle.point_put.specs.declared.fault.PutFault.TheVariants.{Unknown, Exhausted, OutOfMemory, Stopped}
+use Rattle.point_put.specs.declared.fault.PutFault.TheVariants.{Unknown, Filtered, Exhausted, OutOfMemory, Stopped}
 use Rattle.point_put.specs.PutFaults.{put_fault_text}
 use Rattle.telnet_put.specs.Requests.{Request}
 use Rattle.telnet_put.specs.Requests.Request.{Put, Version, Help, Stats, DropCaches, Exit, Die, TooLong, Other}
@@ -56,6 +56,7 @@ fixed_reply c Other = line (codes "unknown command")
 abbrev pub IsTold : Result Stored PutFault → List ℕ → List Stored → Type 0
 IsTold (Ok row) reply stored = (reply ≡ []) × (stored ≡ row ∷ [])
 IsTold (Err (Unknown kind name)) reply stored = (reply ≡ put_line (put_fault_text (Unknown kind name))) × (stored ≡ [])
+IsTold (Err (Filtered kind name)) reply stored = (reply ≡ put_line (put_fault_text (Filtered kind name))) × (stored ≡ [])
 IsTold (Err (Exhausted kind)) reply stored = (reply ≡ put_line (put_fault_text (Exhausted kind))) × (stored ≡ [])
 IsTold (Err OutOfMemory) reply stored = ⊥
 IsTold (Err Stopped) reply stored = ⊥

@@ -6,7 +6,7 @@ use Rattle.cell_model.specs.declared.answers.Stored.{Stored}
 use Rattle.cell_model.specs.declared.events.Placed.{Placed}
 use Rattle.cell_model.specs.History.{History, first}
 use Rattle.cell_model.specs.Deeds.{deeds}
-use Rattle.point_put.specs.declared.config.Config.{Config}
+use Rattle.point_put.specs.Admissions.{Admission}
 use Rattle.point_put.specs.declared.fault.PutFault.{PutFault}
 use Rattle.point_put.specs.PutPoint.{PointAsked}
 use Rattle.telnet_put.specs.Requests.{Request}
@@ -68,7 +68,7 @@ counts_of done = record {
 
 -- A request of a telnet session was answered by these entries of its caller, where the history is as long as the caller has seen it at its end, and the
 -- counts are those of the requests before it. A point is asked, and what is told of it is the reply. Any other request makes no entry.
-abbrev pub AnsweredBy : Config → History → List Placed → Counts → Request → Option DataPoint → List ℕ → List Stored → Type 0
+abbrev pub AnsweredBy : Admission → History → List Placed → Counts → Request → Option DataPoint → List ℕ → List Stored → Type 0
 AnsweredBy c h own counts request (Some point) reply stored = (outcome : Result Stored PutFault) × PointAsked c point h own outcome × IsTold outcome reply stored
 AnsweredBy c h own counts request None reply stored = (own ≡ []) × (reply ≡ fixed_reply counts request) × (stored ≡ [])
 
@@ -78,22 +78,22 @@ moment_for call now = if asks_clock (Http call) then Some now else None
 
 -- A request was answered between two lengths of the history with this reply, and these rows are to be queued, where the counts are those of the requests before
 -- it and the clock gave this moment for it. A telnet session's request never asks the clock.
-abbrev pub AnsweredBetween : Config → History → ℕ → ℕ → ℕ → Counts → Option ℕ → ConnRequest → List ℕ → List Stored → Type 0
+abbrev pub AnsweredBetween : Admission → History → ℕ → ℕ → ℕ → Counts → Option ℕ → ConnRequest → List ℕ → List Stored → Type 0
 AnsweredBetween c h caller n n2 counts moment (Telnet request) reply stored = (moment ≡ None) × AnsweredBy c (first n2 h) (deeds h caller n n2) counts request (point_asked request) reply stored
 AnsweredBetween c h caller n n2 counts moment (Http call) reply stored = (now : ℕ) × (moment ≡ moment_for call now) × CallAnswered c h caller n n2 now call reply stored
 
 -- a request of a telnet session was begun: a point was asked, whatever came of it
-abbrev pub BegunBy : Config → History → List Placed → Option DataPoint → Type 0
+abbrev pub BegunBy : Admission → History → List Placed → Option DataPoint → Type 0
 BegunBy c h own (Some point) = (outcome : Result Stored PutFault) × PointAsked c point h own outcome
 BegunBy c h own None = own ≡ []
 
 -- A request was begun between two lengths of the history, and the clock gave this moment for it. A call may have been given up before the clock was asked.
-abbrev pub BegunBetween : Config → History → ℕ → ℕ → ℕ → Option ℕ → ConnRequest → Type 0
+abbrev pub BegunBetween : Admission → History → ℕ → ℕ → ℕ → Option ℕ → ConnRequest → Type 0
 BegunBetween c h caller n n2 moment (Telnet request) = (moment ≡ None) × BegunBy c (first n2 h) (deeds h caller n n2) (point_asked request)
 BegunBetween c h caller n n2 moment (Http call) =
     ((moment ≡ None) × (deeds h caller n n2 ≡ [])) ⊎ ((now : ℕ) × (moment ≡ moment_for call now) × CallBegun c h caller n n2 now call)
 
 -- requests were answered one after the other, from one length on to another
-pub data Ran (c : Config) (h : History) (caller n : ℕ) : List Exchange → ℕ → Type 0 where
+pub data Ran (c : Admission) (h : History) (caller n : ℕ) : List Exchange → ℕ → Type 0 where
   start : Ran c h caller n [] n
   then_asked : {done : List Exchange} {e e2 : ℕ} (x : Exchange) → Ran c h caller n done e → e ≤ e2 → AnsweredBetween c h caller e e2 (counts_of done) x.moment x.request x.reply x.stored → Ran c h caller n (done ++ x ∷ []) e2

@@ -9,7 +9,7 @@ use Rattle.cell_model.specs.History.{History}
 use Rattle.cell_model.specs.Seen.{Seen, InEach}
 use Rattle.cell_model.specs.Deeds.{deeds, Extends, Since}
 use Rattle.compactor.specs.Queues.{HasRows}
-use Rattle.point_put.specs.declared.config.Config.{Config}
+use Rattle.point_put.specs.Admissions.{Admission}
 use Rattle.queued_put.specs.PutRows.{MayHaveRows}
 use Rattle.tsd_daemon.specs.declared.served.Served.{Served}
 use Rattle.tsd_daemon.specs.declared.served.Served.TheVariants as answer
@@ -40,12 +40,12 @@ pub record Closes (result : Served) (done : List Exchange) (input output times :
   pub with_it : end_of last ≡ Some result
 
 -- the first of these requests was begun between two lengths of the history with this moment of the clock, and the caller made no other entry
-abbrev pub FirstBegun : Config → History → ℕ → ℕ → ℕ → Option ℕ → List ConnRequest → Type 0
+abbrev pub FirstBegun : Admission → History → ℕ → ℕ → ℕ → Option ℕ → List ConnRequest → Type 0
 FirstBegun c h caller n n2 moment [] = (moment ≡ None) × (deeds h caller n n2 ≡ [])
 FirstBegun c h caller n n2 moment (request ∷ rest) = BegunBetween c h caller n n2 moment request
 
 -- the first requests of the input were answered, their replies were given, and the next was begun
-pub record BreaksOff (c : Config) (h : History) (caller n n2 : ℕ) (done : List Exchange) (input output times : List ℕ) : Type 0 where
+pub record BreaksOff (c : Admission) (h : History) (caller n n2 : ℕ) (done : List Exchange) (input output times : List ℕ) : Type 0 where
   pub rest : List ConnRequest
   pub requests : conn_requests input ≡ requests_in done ++ rest
   pub replies : output ≡ replies_in done
@@ -73,7 +73,7 @@ pub record GivesFront (done : List Exchange) (input output times : List ℕ) (la
   pub no_later : later ≡ []
 
 -- where the last of these exchanges ended at one length of the history and the connection at another
-abbrev pub Table : Served → Config → History → ℕ → ℕ → ℕ → List Exchange → List ℕ → List ℕ → List ℕ → Type 0
+abbrev pub Table : Served → Admission → History → ℕ → ℕ → ℕ → List Exchange → List ℕ → List ℕ → List ℕ → Type 0
 Table answer.End c h caller n n2 done input output times = Rests done input output times (deeds h caller n n2)
 Table answer.ReadFault c h caller n n2 done input output times = Rests done input output times (deeds h caller n n2)
 Table answer.SessionFull c h caller n n2 done input output times = Rests done input output times (deeds h caller n n2)
@@ -89,7 +89,7 @@ Table answer.WriteFault c h caller n n2 done input output times = GivesFront don
 
 -- One caller of the history served a connection between the lengths n and n2: these bytes were taken and these given, the clock gave these moments, and the
 -- answer was this.
-pub record IsServed (c : Config) (h : History) (caller n n2 : ℕ) (input output times : List ℕ) (result : Served) : Type 0 where
+pub record IsServed (c : Admission) (h : History) (caller n n2 : ℕ) (input output times : List ℕ) (result : Served) : Type 0 where
   pub done : List Exchange
   pub last : ℕ
   pub in_range : last ≤ n2
@@ -97,13 +97,13 @@ pub record IsServed (c : Config) (h : History) (caller n n2 : ℕ) (input output
   pub table : Table result c h caller last n2 done input output times
 
 -- the same in each lawful history that fits what the caller has seen after it
-pub record Serves (c : Config) (old : Seen) (input output times : List ℕ) (result : Served) (new : Seen) : Type 0 where
+pub record Serves (c : Admission) (old : Seen) (input output times : List ℕ) (result : Served) (new : Seen) : Type 0 where
   pub since : Since old new
   pub served : InEach new (λ h. IsServed c h old.caller old.length new.length input output times result)
 
 -- so it stays in each lawful history that fits what is seen later, by another caller too
 abbrev pub ServesStands : Type 0
-ServesStands = (c : Config) (old new later : Seen) (input output times : List ℕ) (result : Served) → Serves c old input output times result new → Extends new later
+ServesStands = (c : Admission) (old new later : Seen) (input output times : List ℕ) (result : Served) → Serves c old input output times result new → Extends new later
     → InEach later (λ h. IsServed c h old.caller old.length new.length input output times result)
 
 -- 2^40 bytes fill a session, and fewer do none
@@ -122,11 +122,11 @@ QueueTable answer.OutOfMemory before rows later after = MayHaveRows before rows 
 QueueTable result before rows later after = HasRows before rows after
 
 -- the connection was served so, and the queue has the rows of the points that were accepted for the requests that were answered
-pub record IsQueued (c : Config) (h : History) (caller n n2 : ℕ) (input output times : List ℕ) (result : Served) (before after : List Stored) : Type 0 where
+pub record IsQueued (c : Admission) (h : History) (caller n n2 : ℕ) (input output times : List ℕ) (result : Served) (before after : List Stored) : Type 0 where
   pub served : IsServed c h caller n n2 input output times result
   pub queued : QueueTable result before (rows_in served.done) (deeds h caller served.last n2) after
 
-abbrev pub Queues : Config → Seen → List Stored → List ℕ → List ℕ → List ℕ → Served → Seen → List Stored → Type 0
+abbrev pub Queues : Admission → Seen → List Stored → List ℕ → List ℕ → List ℕ → Served → Seen → List Stored → Type 0
 Queues c old before input output times result new after = InEach new (λ h. IsQueued c h old.caller old.length new.length input output times result before after)
 
 -- ---- the bytes and the moments of a call
@@ -142,10 +142,10 @@ pub record Passes (taken taken' left left' held held' moments moments' : Option 
   pub ticks : Gave moments times moments'
   pub so : P input output times
 
-abbrev pub ServesBytes : Config → Seen → Served → Seen → List ℕ → List ℕ → List ℕ → Type 0
+abbrev pub ServesBytes : Admission → Seen → Served → Seen → List ℕ → List ℕ → List ℕ → Type 0
 ServesBytes c old result new input output times = Serves c old input output times result new × Fills result (length input)
 
-abbrev pub QueuesBytes : Config → Seen → List Stored → Served → Seen → List Stored → List ℕ → List ℕ → List ℕ → Type 0
+abbrev pub QueuesBytes : Admission → Seen → List Stored → Served → Seen → List Stored → List ℕ → List ℕ → List ℕ → Type 0
 QueuesBytes c old before result new after input output times = Queues c old before input output times result new after
 
 -- ---- causes

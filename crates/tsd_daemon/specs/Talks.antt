@@ -1,5 +1,5 @@
 -- What was talked on a connection so far, and how that goes on.
-use Rattle.std.specs.Prelude.{◌≡◌, ◌⊎◌, ℕ, ◌^◌, ◌≤◌, Bool, true, false, List, [], ◌∷◌, ◌++◌, length, map, Option, None, Some, option_to_list, Result, Err}
+use Rattle.std.specs.Prelude.{◌≡◌, ◌⊎◌, ℕ, ◌^◌, ◌≤◌, Bool, true, false, List, [], ◌∷◌, ◌++◌, length, map, Option, None, Some, Result, Err}
 use Rattle.std.specs.List.{list_any}
 use Rattle.std.specs.Io.KnownBytes.{Appends, Consumes}
 use Rattle.tsd_io.specs.Causes.{Rose}
@@ -11,7 +11,7 @@ use Rattle.cell_model.specs.declared.answers.Stored.{Stored}
 use Rattle.cell_model.specs.Seen.{Seen, InEach}
 use Rattle.cell_model.specs.Deeds.{deeds, Since}
 use Rattle.compactor.specs.Queues.{HasRows}
-use Rattle.point_put.specs.declared.config.Config.{Config}
+use Rattle.point_put.specs.Admissions.{Admission}
 use Rattle.queued_put.specs.PutRows.{MayHaveRows}
 use Rattle.tsd_daemon.specs.declared.served.Served.{Served}
 use Rattle.tsd_daemon.specs.declared.served.Served.TheVariants as answer
@@ -41,7 +41,7 @@ abbrev pub counted_as : ConnRequest → List Stored → Counted
 counted_as request stored = counted_if (is_put request) stored
 
 -- the request was answered with this reply at this moment in each lawful history that fits, and the queue got the rows that were stored
-pub record Replied (c : Config) (counts : Counts) (moment : Option ℕ) (request : ConnRequest) (old : Seen) (before : List Stored) (reply : List ℕ) (how : Counted) (new : Seen) (after : List Stored) : Type 0 where
+pub record Replied (c : Admission) (counts : Counts) (moment : Option ℕ) (request : ConnRequest) (old : Seen) (before : List Stored) (reply : List ℕ) (how : Counted) (new : Seen) (after : List Stored) : Type 0 where
   pub stored : List Stored
   pub since : Since old new
   pub answered : InEach new (λ h. AnsweredBetween c h old.caller old.length new.length counts moment request reply stored)
@@ -49,7 +49,7 @@ pub record Replied (c : Config) (counts : Counts) (moment : Option ℕ) (request
   pub how_is : how ≡ counted_as request stored
 
 -- the request was begun at this moment, and the queue may have got rows
-pub record WasBegun (c : Config) (moment : Option ℕ) (request : ConnRequest) (old : Seen) (before : List Stored) (new : Seen) (after : List Stored) : Type 0 where
+pub record WasBegun (c : Admission) (moment : Option ℕ) (request : ConnRequest) (old : Seen) (before : List Stored) (new : Seen) (after : List Stored) : Type 0 where
   pub since : Since old new
   pub begun : InEach new (λ h. BegunBetween c h old.caller old.length new.length moment request)
   pub rows : InEach new (λ h. MayHaveRows before [] (deeds h old.caller old.length new.length) after)
@@ -109,7 +109,7 @@ abbrev pub http_to_come : http.Unread → List ℕ → List ConnRequest
 http_to_come unread more = map Http (calls.to_come unread more)
 
 -- these exchanges were done, the clock gave their moments, their replies were given or wait, and these requests are to come of more bytes
-pub record Told (c : Config) (from : Start) (t : Taken) (done : List Exchange) (now : Stand) (come : List ℕ → List ConnRequest) : Type 0 where
+pub record Told (c : Admission) (from : Start) (t : Taken) (done : List Exchange) (now : Stand) (come : List ℕ → List ConnRequest) : Type 0 where
   pub input : List ℕ
   pub output : List ℕ
   pub takes : Appends from.taken t.taken input
@@ -125,13 +125,13 @@ pub record Told (c : Config) (from : Start) (t : Taken) (done : List Exchange) (
   pub counted : now.counts ≡ counts_of done
 
 -- the connection goes on
-pub record Talks (c : Config) (from : Start) (t : Taken) (now : Stand) (come : List ℕ → List ConnRequest) : Type 0 where
+pub record Talks (c : Admission) (from : Start) (t : Taken) (now : Stand) (come : List ℕ → List ConnRequest) : Type 0 where
   pub done : List Exchange
   pub told : Told c from t done now come
   pub open_still : list_any closes_conn (requests_in done) ≡ false
 
 -- the connection was served to this end
-pub record Ends (c : Config) (from : Start) (taken left moments : Option (List ℕ)) (result : Served) (seen : Seen) (held : Option (List ℕ)) (queue : List Stored) : Type 0 where
+pub record Ends (c : Admission) (from : Start) (taken left moments : Option (List ℕ)) (result : Served) (seen : Seen) (held : Option (List ℕ)) (queue : List Stored) : Type 0 where
   pub input : List ℕ
   pub output : List ℕ
   pub times : List ℕ
@@ -143,21 +143,21 @@ pub record Ends (c : Config) (from : Start) (taken left moments : Option (List �
   pub served : InEach seen (λ h. IsQueued c h from.seen.caller from.seen.length seen.length input output times result from.queue queue)
   pub fills : Fills result (length input)
 
-abbrev pub GoesOn : Config → Start → Taken → Stand → (List ℕ → List ConnRequest) → Option Served → Type 0
+abbrev pub GoesOn : Admission → Start → Taken → Stand → (List ℕ → List ConnRequest) → Option Served → Type 0
 GoesOn c from t new come None = Talks c from t new come
 GoesOn c from t new come (Some result) = Ends c from t.taken t.left t.moments result new.seen new.held new.queue
 
 -- however the connection came here, it goes on or ended so
-abbrev pub Moves : Config → Stand → (List ℕ → List ConnRequest) → Stand → (List ℕ → List ConnRequest) → Option Served → Type 0
+abbrev pub Moves : Admission → Stand → (List ℕ → List ConnRequest) → Stand → (List ℕ → List ConnRequest) → Option Served → Type 0
 Moves c old come new come' result = (from : Start) (t : Taken) → t.size ≤ 2 ^ 40 → Talks c from t old come → GoesOn c from t new come' result
 
 -- the same where the clock may give moments, too
-abbrev pub ClockMoves : Config → Option (List ℕ) → Stand → (List ℕ → List ConnRequest) → Option (List ℕ) → Stand → (List ℕ → List ConnRequest) → Option Served → Type 0
+abbrev pub ClockMoves : Admission → Option (List ℕ) → Stand → (List ℕ → List ConnRequest) → Option (List ℕ) → Stand → (List ℕ → List ConnRequest) → Option Served → Type 0
 ClockMoves c moments old come moments' new come' result =
     (from : Start) (t : Taken) → t.size ≤ 2 ^ 40 → Talks c from (record t { moments = moments }) old come → GoesOn c from (record t { moments = moments' }) new come' result
 
 -- the same where more was taken, too
-abbrev pub MovesOn : Config → Taken → Stand → (List ℕ → List ConnRequest) → Taken → Stand → (List ℕ → List ConnRequest) → Type 0
+abbrev pub MovesOn : Admission → Taken → Stand → (List ℕ → List ConnRequest) → Taken → Stand → (List ℕ → List ConnRequest) → Type 0
 MovesOn c t old come t' new come' = (from : Start) → Talks c from t old come → Talks c from t' new come'
 
 -- What waited was given, and then the next piece was taken. Where the sink failed nothing was taken.
@@ -166,7 +166,7 @@ PieceMoves taken taken' left left' held held' waiting old (Err answer.WriteFault
 PieceMoves taken taken' left left' held held' waiting old result new = Gives held held' waiting [] × TakesNext taken taken' left left' old result new
 
 -- a connection whose first piece was taken was served to an end, however it came there, where this is what bytes ask
-abbrev pub SessionServed : (List ℕ → List ConnRequest) → Config → Seen → Option (List ℕ) → List Stored → PieceTaken → Option (List ℕ) → Option (List ℕ) → Option (List ℕ) → Served → Seen → Option (List ℕ) → List Stored → Option (List ℕ) → Option (List ℕ) → Option (List ℕ) → Type 0
+abbrev pub SessionServed : (List ℕ → List ConnRequest) → Admission → Seen → Option (List ℕ) → List Stored → PieceTaken → Option (List ℕ) → Option (List ℕ) → Option (List ℕ) → Served → Seen → Option (List ℕ) → List Stored → Option (List ℕ) → Option (List ℕ) → Option (List ℕ) → Type 0
 SessionServed asks c seen held queue input taken left moments result seen' held' queue' taken' left' moments' =
     (from : Start) → Talks c from (record { taken = taken; left = left; moments = moments; size = input.taken }) (record { seen = seen; held = held; queue = queue; waiting = []; counts = no_counts }) (λ more. asks (input.piece ++ more))
     → Ends c from taken' left' moments' result seen' held' queue'
@@ -179,7 +179,7 @@ pub record IsNext (request : ConnRequest) (come come' : List ℕ → List ConnRe
 -- the same of a request that asks for no step, whatever the caller has seen and queued
 abbrev pub FixedMoves : ConnRequest → Option (List ℕ) → List ℕ → Counts → Option Served → Option (List ℕ) → List ℕ → Counts → Type 0
 FixedMoves request held waiting counts result held' waiting' counts' =
-    (c : Config) (seen : Seen) (queue : List Stored) (come come' : List ℕ → List ConnRequest) → IsNext request come come'
+    (c : Admission) (seen : Seen) (queue : List Stored) (come come' : List ℕ → List ConnRequest) → IsNext request come come'
     → Moves c (record { seen = seen; held = held; queue = queue; waiting = waiting; counts = counts }) come (record { seen = seen; held = held'; queue = queue; waiting = waiting'; counts = counts' }) come' result
 
 -- ---- causes

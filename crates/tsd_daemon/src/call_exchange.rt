@@ -2,6 +2,7 @@
 ghost use Rattle.std.specs.Prelude.{◌≡◌, ℕ, true, List, [], Option, option_to_list, IfOk, OnErr};
 ghost use Rattle.http_routes.specs.Routes.{route_table, valued};
 ghost use Rattle.tsd_io.specs.Causes.{HasCause};
+ghost use Rattle.point_put.specs.Admissions.{admission};
 ghost use Rattle.tsd_daemon.specs.ConnClocks.{Gave};
 ghost use Rattle.tsd_daemon.specs.ConnRequests.{ConnRequest, asks_clock};
 ghost use Rattle.tsd_daemon.specs.ConnRequests.ConnRequest.{Http};
@@ -20,6 +21,7 @@ use http_routes::routes::Route;
 use matchit::Router;
 use point_put::Config;
 use std::alloc::Global;
+use tsd_hooks::UidRule;
 use tsd_io::clock::Clock;
 use tsd_io::ports::{Failed, Sink};
 use uid_table::uids::Uids;
@@ -29,6 +31,7 @@ pub fn exchange_call<R: Rows + Drop, K: Sink, C: Clock>(
     alloc: Global,
     router: &Router<Route>,
     names: &mut Uids<R>,
+    rule: &UidRule,
     config: &Config,
     queue: &mut Queue,
     sink: &mut K,
@@ -38,13 +41,13 @@ pub fn exchange_call<R: Rows + Drop, K: Sink, C: Clock>(
 ) -> Option<Served>
     requires { valued router.now ≡ route_table }
     ensures moves { (come come' : List ℕ → List ConnRequest) → IsNext (Http call) come come'
-        → ClockMoves config.now (C.moments clock.old) (record { seen = R.seen names.old; held = K.held sink.old; queue = queue.old; waiting = session.old.replies; counts = session.old.counts }) come
+        → ClockMoves (admission config.now rule.now.patterns) (C.moments clock.old) (record { seen = R.seen names.old; held = K.held sink.old; queue = queue.old; waiting = session.old.replies; counts = session.old.counts }) come
         (C.moments clock.new) (record { seen = R.seen names.new; held = K.held sink.new; queue = queue.new; waiting = session.new.replies; counts = session.new.counts }) come' result }
     ensures causes { ClockCauses (K.faults sink.old) (K.faults sink.new) (R.stops names.old) (R.stops names.new) (C.faults clock.old) (C.faults clock.new) result }
     ensures number { K.number sink.new ≡ K.number sink.old }
 {
     work_call(
-        alloc, router, names, config, queue, sink, clock, session, &call,
+        alloc, router, names, rule, config, queue, sink, clock, session, &call,
     )
 }
 
@@ -53,6 +56,7 @@ fn work_call<R: Rows + Drop, K: Sink, C: Clock>(
     alloc: Global,
     router: &Router<Route>,
     names: &mut Uids<R>,
+    rule: &UidRule,
     config: &Config,
     queue: &mut Queue,
     sink: &mut K,
@@ -62,14 +66,14 @@ fn work_call<R: Rows + Drop, K: Sink, C: Clock>(
 ) -> Option<Served>
     requires { valued router.now ≡ route_table }
     ensures moves { (come come' : List ℕ → List ConnRequest) → IsNext (Http call.now) come come'
-        → ClockMoves config.now (C.moments clock.old) (record { seen = R.seen names.old; held = K.held sink.old; queue = queue.old; waiting = session.old.replies; counts = session.old.counts }) come
+        → ClockMoves (admission config.now rule.now.patterns) (C.moments clock.old) (record { seen = R.seen names.old; held = K.held sink.old; queue = queue.old; waiting = session.old.replies; counts = session.old.counts }) come
         (C.moments clock.new) (record { seen = R.seen names.new; held = K.held sink.new; queue = queue.new; waiting = session.new.replies; counts = session.new.counts }) come' result }
     ensures causes { ClockCauses (K.faults sink.old) (K.faults sink.new) (R.stops names.old) (R.stops names.new) (C.faults clock.old) (C.faults clock.new) result }
     ensures number { K.number sink.new ≡ K.number sink.old }
 {
     match session.replies.give(sink) {
         Ok(()) => call_in_turn(
-            alloc, router, names, config, queue, sink, clock, session, call,
+            alloc, router, names, rule, config, queue, sink, clock, session, call,
         ),
         Err(_) => Some(Served::WriteFault),
     }
@@ -80,6 +84,7 @@ fn call_in_turn<R: Rows + Drop, K: Sink, C: Clock>(
     alloc: Global,
     router: &Router<Route>,
     names: &mut Uids<R>,
+    rule: &UidRule,
     config: &Config,
     queue: &mut Queue,
     sink: &mut K,
@@ -90,14 +95,14 @@ fn call_in_turn<R: Rows + Drop, K: Sink, C: Clock>(
     requires router { valued router.now ≡ route_table }
     requires quiet { session.old.replies ≡ [] }
     ensures moves { (come come' : List ℕ → List ConnRequest) → IsNext (Http call.now) come come'
-        → ClockMoves config.now (C.moments clock.old) (record { seen = R.seen names.old; held = K.held sink.old; queue = queue.old; waiting = session.old.replies; counts = session.old.counts }) come
+        → ClockMoves (admission config.now rule.now.patterns) (C.moments clock.old) (record { seen = R.seen names.old; held = K.held sink.old; queue = queue.old; waiting = session.old.replies; counts = session.old.counts }) come
         (C.moments clock.new) (record { seen = R.seen names.new; held = K.held sink.new; queue = queue.new; waiting = session.new.replies; counts = session.new.counts }) come' result }
     ensures causes { ClockCauses (K.faults sink.old) (K.faults sink.new) (R.stops names.old) (R.stops names.new) (C.faults clock.old) (C.faults clock.new) result }
     ensures number { K.number sink.new ≡ K.number sink.old }
 {
     match moment_of(clock, call) {
         Ok(now) => call_at(
-            alloc, router, names, config, queue, sink, session, call, now,
+            alloc, router, names, rule, config, queue, sink, session, call, now,
         ),
         Err(_) => Some(Served::ClockFault),
     }
@@ -120,6 +125,7 @@ fn call_at<R: Rows + Drop, K: Sink>(
     alloc: Global,
     router: &Router<Route>,
     names: &mut Uids<R>,
+    rule: &UidRule,
     config: &Config,
     queue: &mut Queue,
     sink: &mut K,
@@ -131,12 +137,12 @@ fn call_at<R: Rows + Drop, K: Sink>(
     requires quiet { session.old.replies ≡ [] }
     ensures moves { (come come' : List ℕ → List ConnRequest) → IsNext (Http call.now) come come'
         → (moments moments' : Option (List ℕ)) → Gave moments (option_to_list (moment_for call.now now)) moments'
-        → ClockMoves config.now moments (record { seen = R.seen names.old; held = K.held sink.old; queue = queue.old; waiting = session.old.replies; counts = session.old.counts }) come
+        → ClockMoves (admission config.now rule.now.patterns) moments (record { seen = R.seen names.old; held = K.held sink.old; queue = queue.old; waiting = session.old.replies; counts = session.old.counts }) come
         moments' (record { seen = R.seen names.new; held = K.held sink.new; queue = queue.new; waiting = session.new.replies; counts = session.new.counts }) come' result }
     ensures causes { Causes (K.faults sink.old) (K.faults sink.new) (R.stops names.old) (R.stops names.new) result }
     ensures number { K.number sink.new ≡ K.number sink.old }
 {
-    let reply = match answer(alloc, router, names, config, queue, call, now) {
+    let reply = match answer(alloc, router, names, rule, config, queue, call, now) {
         Ok(reply) => reply,
         Err(RowsFault::OutOfMemory) => return Some(Served::OutOfMemory),
         Err(RowsFault::Stopped) => return Some(Served::Stopped),

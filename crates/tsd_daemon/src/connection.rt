@@ -1,6 +1,7 @@
 //! Serving a connection.
 ghost use Rattle.std.specs.Prelude.{◌≡◌};
 ghost use Rattle.std.specs.Io.KnownBytes.{IsAtEnd};
+ghost use Rattle.point_put.specs.Admissions.{admission};
 ghost use Rattle.tsd_daemon.specs.ConnRequests.{begins_http};
 ghost use Rattle.tsd_daemon.specs.ServedConns.{ConnCauses, Passes, QueuesBytes, ServesBytes};
 
@@ -12,6 +13,7 @@ use cell_model::rows::Rows;
 use compactor::queue::Queue;
 use point_put::Config;
 use std::alloc::Global;
+use tsd_hooks::UidRule;
 use tsd_io::clock::Clock;
 use tsd_io::ports::{Sink, Source};
 use uid_table::uids::Uids;
@@ -28,6 +30,7 @@ use uid_table::uids::Uids;
 pub fn serve_conn<R: Rows + Drop, S: Source, K: Sink, C: Clock>(
     alloc: Global,
     names: &mut Uids<R>,
+    rule: &UidRule,
     config: &Config,
     source: &mut S,
     sink: &mut K,
@@ -35,9 +38,9 @@ pub fn serve_conn<R: Rows + Drop, S: Source, K: Sink, C: Clock>(
     queue: &mut Queue,
 ) -> Served
     ensures served { Passes (S.taken source.old) (S.taken source.new) (S.left source.old) (S.left source.new) (K.held sink.old) (K.held sink.new) (C.moments clock.old) (C.moments clock.new)
-        (ServesBytes config.now (R.seen names.old) result (R.seen names.new)) }
+        (ServesBytes (admission config.now rule.now.patterns) (R.seen names.old) result (R.seen names.new)) }
     ensures queue { Passes (S.taken source.old) (S.taken source.new) (S.left source.old) (S.left source.new) (K.held sink.old) (K.held sink.new) (C.moments clock.old) (C.moments clock.new)
-        (QueuesBytes config.now (R.seen names.old) queue.old result (R.seen names.new) queue.new) }
+        (QueuesBytes (admission config.now rule.now.patterns) (R.seen names.old) queue.old result (R.seen names.new) queue.new) }
     ensures end { result ≡ Served.End → IsAtEnd (S.left source.new) }
     ensures causes { ConnCauses (S.faults source.old) (S.faults source.new) (K.faults sink.old) (K.faults sink.new) (R.stops names.old) (R.stops names.new) (C.faults clock.old) (C.faults clock.new) result }
     ensures source { S.number source.new ≡ S.number source.old }
@@ -51,9 +54,11 @@ pub fn serve_conn<R: Rows + Drop, S: Source, K: Sink, C: Clock>(
         Err(end) => return end,
     }
     if begins_http(input.piece()) {
-        return serve_http(alloc, names, config, queue, source, sink, clock, &mut input);
+        return serve_http(
+            alloc, names, rule, config, queue, source, sink, clock, &mut input,
+        );
     }
-    serve_telnet(alloc, names, config, queue, source, sink, &mut input)
+    serve_telnet(alloc, names, rule, config, queue, source, sink, &mut input)
 }
 
 /// Whether the first byte is `A` to `Z`.

@@ -3,6 +3,7 @@ ghost use Rattle.std.specs.Prelude.{◌≡◌, ℕ, List, [], ◌++◌, None, So
 ghost use Rattle.tsd_base.specs.Points.{data_point};
 ghost use Rattle.telnet_put.specs.Requests.Request.{Put};
 ghost use Rattle.telnet_put.specs.TelnetCommands.{request_of};
+ghost use Rattle.point_put.specs.Admissions.{admission};
 ghost use Rattle.tsd_daemon.specs.ConnRequests.{ConnRequest, end_of, point_asked};
 ghost use Rattle.tsd_daemon.specs.ConnRequests.ConnRequest.{Telnet};
 ghost use Rattle.tsd_daemon.specs.ConnReplies.{counts_with};
@@ -21,6 +22,7 @@ use point_put::Config;
 use std::alloc::Global;
 use telnet_put::telnet_command::Command;
 use tsd_base::points::Point;
+use tsd_hooks::UidRule;
 use tsd_io::ports::Sink;
 use uid_table::uids::Uids;
 
@@ -28,6 +30,7 @@ use uid_table::uids::Uids;
 pub fn exchange<R: Rows + Drop, K: Sink>(
     alloc: Global,
     names: &mut Uids<R>,
+    rule: &UidRule,
     config: &Config,
     queue: &mut Queue,
     sink: &mut K,
@@ -35,18 +38,19 @@ pub fn exchange<R: Rows + Drop, K: Sink>(
     command: Command,
 ) -> Option<Served>
     ensures moves { (come come' : List ℕ → List ConnRequest) → IsNext (Telnet (request_of command)) come come'
-        → Moves config.now (record { seen = R.seen names.old; held = K.held sink.old; queue = queue.old; waiting = session.old.replies; counts = session.old.counts }) come
+        → Moves (admission config.now rule.now.patterns) (record { seen = R.seen names.old; held = K.held sink.old; queue = queue.old; waiting = session.old.replies; counts = session.old.counts }) come
         (record { seen = R.seen names.new; held = K.held sink.new; queue = queue.new; waiting = session.new.replies; counts = session.new.counts }) come' result }
     ensures causes { Causes (K.faults sink.old) (K.faults sink.new) (R.stops names.old) (R.stops names.new) result }
     ensures number { K.number sink.new ≡ K.number sink.old }
 {
-    work(alloc, names, config, queue, sink, session, &command)
+    work(alloc, names, rule, config, queue, sink, session, &command)
 }
 
 /// Works one request. The session may end with it.
 fn work<R: Rows + Drop, K: Sink>(
     alloc: Global,
     names: &mut Uids<R>,
+    rule: &UidRule,
     config: &Config,
     queue: &mut Queue,
     sink: &mut K,
@@ -54,13 +58,13 @@ fn work<R: Rows + Drop, K: Sink>(
     command: &Command,
 ) -> Option<Served>
     ensures moves { (come come' : List ℕ → List ConnRequest) → IsNext (Telnet (request_of command.now)) come come'
-        → Moves config.now (record { seen = R.seen names.old; held = K.held sink.old; queue = queue.old; waiting = session.old.replies; counts = session.old.counts }) come
+        → Moves (admission config.now rule.now.patterns) (record { seen = R.seen names.old; held = K.held sink.old; queue = queue.old; waiting = session.old.replies; counts = session.old.counts }) come
         (record { seen = R.seen names.new; held = K.held sink.new; queue = queue.new; waiting = session.new.replies; counts = session.new.counts }) come' result }
     ensures causes { Causes (K.faults sink.old) (K.faults sink.new) (R.stops names.old) (R.stops names.new) result }
     ensures number { K.number sink.new ≡ K.number sink.old }
 {
     if let Some(point) = point_of(command) {
-        return work_point(alloc, names, config, queue, sink, session, point);
+        return work_point(alloc, names, rule, config, queue, sink, session, point);
     }
     forget(names, command);
     work_fixed(alloc, sink, session, command)
@@ -89,6 +93,7 @@ fn point_of(command: &Command) -> Option<&Point>
 fn work_point<R: Rows + Drop, K: Sink>(
     alloc: Global,
     names: &mut Uids<R>,
+    rule: &UidRule,
     config: &Config,
     queue: &mut Queue,
     sink: &mut K,
@@ -96,13 +101,13 @@ fn work_point<R: Rows + Drop, K: Sink>(
     point: &Point,
 ) -> Option<Served>
     ensures moves { (come come' : List ℕ → List ConnRequest) → IsNext (put_of (data_point point.now)) come come'
-        → Moves config.now (record { seen = R.seen names.old; held = K.held sink.old; queue = queue.old; waiting = session.old.replies; counts = session.old.counts }) come
+        → Moves (admission config.now rule.now.patterns) (record { seen = R.seen names.old; held = K.held sink.old; queue = queue.old; waiting = session.old.replies; counts = session.old.counts }) come
         (record { seen = R.seen names.new; held = K.held sink.new; queue = queue.new; waiting = session.new.replies; counts = session.new.counts }) come' result }
     ensures causes { Causes (K.faults sink.old) (K.faults sink.new) (R.stops names.old) (R.stops names.new) result }
     ensures number { K.number sink.new ≡ K.number sink.old }
 {
     match session.replies.give(sink) {
-        Ok(()) => put_in_turn(alloc, names, config, queue, sink, session, point),
+        Ok(()) => put_in_turn(alloc, names, rule, config, queue, sink, session, point),
         Err(_) => Some(Served::WriteFault),
     }
 }
@@ -111,6 +116,7 @@ fn work_point<R: Rows + Drop, K: Sink>(
 fn put_in_turn<R: Rows + Drop, K: Sink>(
     alloc: Global,
     names: &mut Uids<R>,
+    rule: &UidRule,
     config: &Config,
     queue: &mut Queue,
     sink: &mut K,
@@ -119,12 +125,12 @@ fn put_in_turn<R: Rows + Drop, K: Sink>(
 ) -> Option<Served>
     requires { session.old.replies ≡ [] }
     ensures moves { (come come' : List ℕ → List ConnRequest) → IsNext (put_of (data_point point.now)) come come'
-        → Moves config.now (record { seen = R.seen names.old; held = K.held sink.old; queue = queue.old; waiting = session.old.replies; counts = session.old.counts }) come
+        → Moves (admission config.now rule.now.patterns) (record { seen = R.seen names.old; held = K.held sink.old; queue = queue.old; waiting = session.old.replies; counts = session.old.counts }) come
         (record { seen = R.seen names.new; held = K.held sink.new; queue = queue.new; waiting = session.new.replies; counts = session.new.counts }) come' result }
     ensures causes { Causes (K.faults sink.old) (K.faults sink.new) (R.stops names.old) (R.stops names.new) result }
     ensures number { K.number sink.new ≡ K.number sink.old }
 {
-    let answer = match answer_point(alloc, names, config, queue, point) {
+    let answer = match answer_point(alloc, names, rule, config, queue, point) {
         Ok(answer) => answer,
         Err(RowsFault::OutOfMemory) => return Some(Served::OutOfMemory),
         Err(RowsFault::Stopped) => return Some(Served::Stopped),

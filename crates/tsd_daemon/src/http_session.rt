@@ -2,6 +2,7 @@
 ghost use Rattle.std.specs.Prelude.{◌≡◌, ℕ, ◌^◌, ◌<◌, ◌≤◌, [], length, None};
 ghost use Rattle.std.specs.Io.KnownBytes.{IsAtEnd};
 ghost use Rattle.http_routes.specs.Routes.{route_table, valued};
+ghost use Rattle.point_put.specs.Admissions.{admission};
 ghost use Rattle.tsd_daemon.specs.ConnRequests.{http_asks};
 ghost use Rattle.tsd_daemon.specs.ServedConns.{ConnCauses};
 ghost use Rattle.tsd_daemon.specs.Talks.{ClockCauses, ClockMoves, SessionServed, http_to_come};
@@ -18,6 +19,7 @@ use http_routes::routes::{Route, make_router};
 use matchit::Router;
 use point_put::Config;
 use std::alloc::Global;
+use tsd_hooks::UidRule;
 use tsd_io::clock::Clock;
 use tsd_io::ports::{Sink, Source};
 use uid_table::uids::Uids;
@@ -26,6 +28,7 @@ use uid_table::uids::Uids;
 pub fn serve_http<R: Rows + Drop, S: Source, K: Sink, C: Clock>(
     alloc: Global,
     names: &mut Uids<R>,
+    rule: &UidRule,
     config: &Config,
     queue: &mut Queue,
     source: &mut S,
@@ -34,7 +37,7 @@ pub fn serve_http<R: Rows + Drop, S: Source, K: Sink, C: Clock>(
     input: &mut ConnInput,
 ) -> Served
     requires { input.old.taken ≤ 2 ^ 40 }
-    ensures served { SessionServed http_asks config.now (R.seen names.old) (K.held sink.old) queue.old input.old (S.taken source.old) (S.left source.old) (C.moments clock.old)
+    ensures served { SessionServed http_asks (admission config.now rule.now.patterns) (R.seen names.old) (K.held sink.old) queue.old input.old (S.taken source.old) (S.left source.old) (C.moments clock.old)
         result (R.seen names.new) (K.held sink.new) queue.new (S.taken source.new) (S.left source.new) (C.moments clock.new) }
     ensures end { result ≡ Served.End → IsAtEnd (S.left source.new) }
     ensures causes { ConnCauses (S.faults source.old) (S.faults source.new) (K.faults sink.old) (K.faults sink.new) (R.stops names.old) (R.stops names.new) (C.faults clock.old) (C.faults clock.new) result }
@@ -55,6 +58,7 @@ pub fn serve_http<R: Rows + Drop, S: Source, K: Sink, C: Clock>(
             alloc,
             &router,
             names,
+            rule,
             config,
             queue,
             sink,
@@ -76,6 +80,7 @@ fn answer_calls<R: Rows + Drop, K: Sink, C: Clock>(
     alloc: Global,
     router: &Router<Route>,
     names: &mut Uids<R>,
+    rule: &UidRule,
     config: &Config,
     queue: &mut Queue,
     sink: &mut K,
@@ -84,7 +89,7 @@ fn answer_calls<R: Rows + Drop, K: Sink, C: Clock>(
     calls: &mut Exchange,
 ) -> Option<Served>
     requires { valued router.now ≡ route_table }
-    ensures moves { ClockMoves config.now (C.moments clock.old) (record { seen = R.seen names.old; held = K.held sink.old; queue = queue.old; waiting = session.old.replies; counts = session.old.counts }) (http_to_come calls.old)
+    ensures moves { ClockMoves (admission config.now rule.now.patterns) (C.moments clock.old) (record { seen = R.seen names.old; held = K.held sink.old; queue = queue.old; waiting = session.old.replies; counts = session.old.counts }) (http_to_come calls.old)
         (C.moments clock.new) (record { seen = R.seen names.new; held = K.held sink.new; queue = queue.new; waiting = session.new.replies; counts = session.new.counts }) (http_to_come calls.new) result }
     ensures none { result ≡ None → http_to_come calls.new [] ≡ [] }
     ensures causes { ClockCauses (K.faults sink.old) (K.faults sink.new) (R.stops names.old) (R.stops names.new) (C.faults clock.old) (C.faults clock.new) result }
@@ -96,7 +101,7 @@ fn answer_calls<R: Rows + Drop, K: Sink, C: Clock>(
             Ok(None) => return None,
             Ok(Some(call)) => {
                 if let Some(end) = exchange_call(
-                    alloc, router, names, config, queue, sink, clock, session, call,
+                    alloc, router, names, rule, config, queue, sink, clock, session, call,
                 ) {
                     return Some(end);
                 }

@@ -2,6 +2,7 @@
 ghost use Rattle.std.specs.Prelude.{◌≡◌, [], None, Err, IfOk, OnErr};
 ghost use Rattle.tsd_base.specs.Points.{data_point};
 ghost use Rattle.cell_model.specs.Stops.{CountsStops, is_stop};
+ghost use Rattle.point_put.specs.Admissions.{admission};
 ghost use Rattle.tsd_daemon.specs.declared.counts.Counts.{Counts};
 ghost use Rattle.tsd_daemon.specs.declared.counts.Counted.TheVariants as counted;
 ghost use Rattle.tsd_daemon.specs.PointAnswers.{IsRefusal, put_of};
@@ -16,6 +17,7 @@ use point_put::{Config, PutFault};
 use queued_put::put_queued;
 use std::alloc::Global;
 use tsd_base::points::Point;
+use tsd_hooks::UidRule;
 use uid_table::uids::Uids;
 
 /// The reply to a request, and how the request counts.
@@ -30,15 +32,16 @@ pub struct Answer {
 pub fn answer_point<R: Rows + Drop>(
     alloc: Global,
     names: &mut Uids<R>,
+    rule: &UidRule,
     config: &Config,
     queue: &mut Queue,
     point: &Point,
 ) -> Result<Answer, RowsFault>
-    ensures ok { IfOk result (λ answer. (counts : Counts) → Replied config.now counts None (put_of (data_point point.now)) (R.seen names.old) queue.old answer.reply.items answer.counted (R.seen names.new) queue.new) }
-    ensures err { OnErr result (WasBegun config.now None (put_of (data_point point.now)) (R.seen names.old) queue.old (R.seen names.new) queue.new) }
+    ensures ok { IfOk result (λ answer. (counts : Counts) → Replied (admission config.now rule.now.patterns) counts None (put_of (data_point point.now)) (R.seen names.old) queue.old answer.reply.items answer.counted (R.seen names.new) queue.new) }
+    ensures err { OnErr result (WasBegun (admission config.now rule.now.patterns) None (put_of (data_point point.now)) (R.seen names.old) queue.old (R.seen names.new) queue.new) }
     ensures stops { CountsStops is_stop result (R.stops names.old) (R.stops names.new) }
 {
-    match put_queued(alloc, names, config, queue, point) {
+    match put_queued(alloc, names, rule, config, queue, point) {
         Ok(()) => Ok(accepted(alloc)),
         Err(fault) => refused(alloc, &fault),
     }
@@ -64,7 +67,9 @@ fn refused(alloc: Global, fault: &PutFault) -> Result<Answer, RowsFault>
     let line = match fault {
         PutFault::OutOfMemory => return Err(RowsFault::OutOfMemory),
         PutFault::Stopped => return Err(RowsFault::Stopped),
-        PutFault::Unknown { .. } | PutFault::Exhausted { .. } => refused_line(alloc, fault),
+        PutFault::Unknown { .. } | PutFault::Filtered { .. } | PutFault::Exhausted { .. } => {
+            refused_line(alloc, fault)
+        }
     };
     match line {
         Ok(reply) => Ok(Answer {

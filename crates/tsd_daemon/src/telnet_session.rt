@@ -1,6 +1,7 @@
 //! A telnet session, from its bytes to its replies.
 ghost use Rattle.std.specs.Prelude.{◌≡◌, ℕ, ◌^◌, ◌<◌, ◌≤◌, List, [], length, Option, None};
 ghost use Rattle.std.specs.Io.KnownBytes.{IsAtEnd};
+ghost use Rattle.point_put.specs.Admissions.{admission};
 ghost use Rattle.tsd_daemon.specs.ConnRequests.{telnet_asks};
 ghost use Rattle.tsd_daemon.specs.ServedConns.{ConnCauses};
 ghost use Rattle.tsd_daemon.specs.Talks.{Causes, Moves, SessionServed, telnet_to_come};
@@ -15,6 +16,7 @@ use compactor::queue::Queue;
 use point_put::Config;
 use std::alloc::Global;
 use telnet_put::telnet_lines::Lines;
+use tsd_hooks::UidRule;
 use tsd_io::ports::{Sink, Source};
 use uid_table::uids::Uids;
 
@@ -22,6 +24,7 @@ use uid_table::uids::Uids;
 pub fn serve_telnet<R: Rows + Drop, S: Source, K: Sink>(
     alloc: Global,
     names: &mut Uids<R>,
+    rule: &UidRule,
     config: &Config,
     queue: &mut Queue,
     source: &mut S,
@@ -29,7 +32,7 @@ pub fn serve_telnet<R: Rows + Drop, S: Source, K: Sink>(
     input: &mut ConnInput,
 ) -> Served
     requires { input.old.taken ≤ 2 ^ 40 }
-    ensures served { (moments : Option (List ℕ)) → SessionServed telnet_asks config.now (R.seen names.old) (K.held sink.old) queue.old input.old (S.taken source.old) (S.left source.old) moments
+    ensures served { (moments : Option (List ℕ)) → SessionServed telnet_asks (admission config.now rule.now.patterns) (R.seen names.old) (K.held sink.old) queue.old input.old (S.taken source.old) (S.left source.old) moments
         result (R.seen names.new) (K.held sink.new) queue.new (S.taken source.new) (S.left source.new) moments }
     ensures end { result ≡ Served.End → IsAtEnd (S.left source.new) }
     ensures causes { (ticks : ℕ) → ConnCauses (S.faults source.old) (S.faults source.new) (K.faults sink.old) (K.faults sink.new) (R.stops names.old) (R.stops names.new) ticks ticks result }
@@ -43,7 +46,16 @@ pub fn serve_telnet<R: Rows + Drop, S: Source, K: Sink>(
             Ok(()) => {}
             Err(_) => return Served::OutOfMemory,
         }
-        if let Some(end) = answer_all(alloc, names, config, queue, sink, &mut session, &mut lines) {
+        if let Some(end) = answer_all(
+            alloc,
+            names,
+            rule,
+            config,
+            queue,
+            sink,
+            &mut session,
+            &mut lines,
+        ) {
             return end;
         }
         match next_piece(source, sink, &mut session.replies, input) {
@@ -57,13 +69,14 @@ pub fn serve_telnet<R: Rows + Drop, S: Source, K: Sink>(
 fn answer_all<R: Rows + Drop, K: Sink>(
     alloc: Global,
     names: &mut Uids<R>,
+    rule: &UidRule,
     config: &Config,
     queue: &mut Queue,
     sink: &mut K,
     session: &mut Session,
     lines: &mut Lines,
 ) -> Option<Served>
-    ensures moves { Moves config.now (record { seen = R.seen names.old; held = K.held sink.old; queue = queue.old; waiting = session.old.replies; counts = session.old.counts }) (telnet_to_come lines.old)
+    ensures moves { Moves (admission config.now rule.now.patterns) (record { seen = R.seen names.old; held = K.held sink.old; queue = queue.old; waiting = session.old.replies; counts = session.old.counts }) (telnet_to_come lines.old)
         (record { seen = R.seen names.new; held = K.held sink.new; queue = queue.new; waiting = session.new.replies; counts = session.new.counts }) (telnet_to_come lines.new) result }
     ensures none { result ≡ None → telnet_to_come lines.new [] ≡ [] }
     ensures causes { Causes (K.faults sink.old) (K.faults sink.new) (R.stops names.old) (R.stops names.new) result }
@@ -74,7 +87,9 @@ fn answer_all<R: Rows + Drop, K: Sink>(
             Err(_) => return Some(break_off(sink, &mut session.replies)),
             Ok(None) => return None,
             Ok(Some(command)) => {
-                if let Some(end) = exchange(alloc, names, config, queue, sink, session, command) {
+                if let Some(end) = exchange(
+                    alloc, names, rule, config, queue, sink, session, command,
+                ) {
                     return Some(end);
                 }
             }

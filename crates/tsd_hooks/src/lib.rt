@@ -2,8 +2,6 @@
 #![tactic(auto)]
 
 pub mod name_patterns;
-#[cfg(test)]
-mod tests;
 pub mod uid_rule;
 
 pub use name_patterns::Patterns;

@@ -18,7 +18,7 @@ use Rattle.tsd_run.specs.declared.input.BadLine.{BadLine}
 use Rattle.tsd_run.specs.declared.run_fault.RunFault.{RunFault}
 use Rattle.tsd_run.specs.declared.run_fault.RunFault.TheVariants as fault
 use Rattle.tsd_run.specs.declared.output_text.Printed.{Printed}
-use Rattle.command_words.specs.CommandWords.{Batch, Asked, asked_of}
+use Rattle.command_words.specs.CommandWords.{Batch}
 use Rattle.batch_job.specs.Pending.{Gathers, SoFar}
 use Rattle.batch_job.specs.JobAnswers.{GivesAnswer, answered}
 use Rattle.json_reply.specs.declared.reply.Reply.{Reply}

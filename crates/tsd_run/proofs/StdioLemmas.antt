@@ -1,23 +1,42 @@
--- Runs whose words had no memory.
-use Rattle.std.proofs.Common.{◌≡◌, ℕ, List, [], false, refl}
+-- Runs whose words, or whose rule for new names, had no memory.
+use Rattle.std.proofs.Common.{◌≡◌, ℕ, List, [], false, refl, subst}
 use Rattle.std.specs.Prelude.{Option, None, Some}
 use Rattle.std.proofs.KnownBytes.{Appends-nil, Consumes-nil}
-use Rattle.command_words.specs.CommandWords.{Batch, Asked}
+use Rattle.command_words.specs.CommandWords.{Batch, Stdio, Asked}
 use Rattle.command_words.specs.CommandWords.Asked.{BatchAsked, StdioAsked}
+use Rattle.tsd_hooks.specs.declared.name_patterns.Patterns.{Patterns}
+use Rattle.point_put.specs.Admissions.{admission}
+use Rattle.tsd_daemon.specs.declared.served.Served.{Served}
+use Rattle.tsd_daemon.specs.ServedConns.{Passes}
+use Rattle.stdio_job.specs.LoneConnections.{ServesAlone}
 use Rattle.tsd_daemon.specs.declared.served.Served.TheVariants as served
 use Rattle.stdio_job.proofs.CallerLemmas.{none_served, nothing_fills}
+use Rattle.tsd_run.specs.declared.status.Status.{Status}
 use Rattle.tsd_run.specs.declared.status.Status.TheVariants.{Memory}
-use Rattle.tsd_run.specs.Runs.{Runs, RunsPrinted, config_of}
+use Rattle.tsd_run.specs.Runs.{HasStatus, Runs, RunsPrinted, ServesStdio, admission_of}
 use Rattle.tsd_run.proofs.RunLemmas.{nothing_taken}
+
+-- a connection was served by the patterns that the words say
+pub served_by : (s : Stdio) (patterns : Patterns) (taken taken' left left' held held' moments moments' : Option (List ℕ)) (result : Served) (status : Status) → patterns ≡ s.patterns → HasStatus result status
+    → Passes taken taken' left left' held held' moments moments' (ServesAlone (admission (admission_of s).config patterns) result) → Passes taken taken' left left' held held' moments moments' (ServesStdio s status)
+served_by s patterns taken taken' left left' held held' moments moments' result status is how p = record {
+  input = p.input;
+  output = p.output;
+  times = p.times;
+  takes = p.takes;
+  leaves = p.leaves;
+  gives = p.gives;
+  ticks = p.ticks;
+  so = (result, subst (λ (ps : Patterns). ServesAlone (admission (admission_of s).config ps) result p.input p.output p.times) is p.so, how);
+}
 
 module _ (taken left held moments : Option (List ℕ)) where
   unread_printed : (batch : Option Batch) → RunsPrinted batch taken taken left left held held Memory
   unread_printed batch = record { input = []; ended = false; output = []; bytes = nothing_taken taken left batch; gives = Appends-nil held; answers = refl }
 
-  -- there was no memory for the words
-  pub runs_unread : (asked : Option Asked) → Runs asked taken taken left left held held moments moments Memory
-  runs_unread (Some (BatchAsked batch)) = (unread_printed (Some batch), refl)
-  runs_unread (Some (StdioAsked s)) = record {
+  -- there was no memory to serve a connection
+  pub unserved : (s : Stdio) (status : Status) → status ≡ Memory → Passes taken taken left left held held moments moments (ServesStdio s status)
+  unserved s status is = record {
     input = [];
     output = [];
     times = [];
@@ -25,6 +44,11 @@ module _ (taken left held moments : Option (List ℕ)) where
     leaves = Consumes-nil left;
     gives = Appends-nil held;
     ticks = refl;
-    so = (served.OutOfMemory, (none_served (config_of s), nothing_fills), refl);
+    so = (served.OutOfMemory, (none_served (admission_of s), nothing_fills), is);
   }
+
+  -- there was no memory for the words
+  pub runs_unread : (asked : Option Asked) → Runs asked taken taken left left held held moments moments Memory
+  runs_unread (Some (BatchAsked batch)) = (unread_printed (Some batch), refl)
+  runs_unread (Some (StdioAsked s)) = unserved s Memory refl
   runs_unread None = (unread_printed None, refl)

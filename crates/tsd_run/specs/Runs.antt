@@ -6,7 +6,7 @@ use Rattle.tsd_run.specs.declared.status.Status.TheVariants.{Done, Usage, Refuse
 use Rattle.tsd_run.specs.declared.run_fault.RunFault.{RunFault}
 use Rattle.tsd_run.specs.declared.run_fault.RunFault.TheVariants.{Failed, Full, OutOfMemory, Stopped}
 use Rattle.tsd_run.specs.declared.output_text.Printed.{Printed}
-use Rattle.point_put.specs.declared.config.Config.{Config}
+use Rattle.point_put.specs.Admissions.{Admission, admission}
 use Rattle.tsd_daemon.specs.declared.served.Served.{Served}
 use Rattle.tsd_daemon.specs.declared.served.Served.TheVariants as served
 use Rattle.tsd_daemon.specs.ServedConns.{Passes}
@@ -101,14 +101,14 @@ HasStatus served.Stopped status = status ≡ Halted
 HasStatus served.SessionFull status = status ≡ SessionFull
 HasStatus served.OutOfMemory status = status ≡ Memory
 
--- of which kinds names that have no id are given one
-abbrev pub config_of : Stdio → Config
-config_of s = record { auto_metric = s.auto_metric; auto_tag_key = s.auto_tag_key; auto_tag_value = s.auto_tag_value }
+-- of which kinds names that have no id are given one, and how these must begin
+abbrev pub admission_of : Stdio → Admission
+admission_of s = admission (record { auto_metric = s.auto_metric; auto_tag_key = s.auto_tag_key; auto_tag_value = s.auto_tag_value }) s.patterns
 
 -- One connection was served over an empty store that nobody else steps: these bytes were taken and these given, the clock gave these moments, and the
 -- status is that of its end.
 abbrev pub ServesStdio : Stdio → Status → List ℕ → List ℕ → List ℕ → Type 0
-ServesStdio s status input output times = (result : Served) × ServesAlone (config_of s) result input output times × HasStatus result status
+ServesStdio s status input output times = (result : Served) × ServesAlone (admission_of s) result input output times × HasStatus result status
 
 -- the words ask for a connection
 abbrev pub is_stdio : Option Asked → Bool

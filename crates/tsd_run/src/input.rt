@@ -1,6 +1,7 @@
 //! Reading all points of an input.
 ghost use Rattle.std.specs.Prelude.{◌≡◌, ◌≤◌, [], codes, length, IfOk, IfErr};
 ghost use Rattle.line_stream.specs.declared.line.TheConstants.{LONGEST_LINE};
+ghost use Rattle.batch_job.specs.OpenRules.{AllowsAll};
 ghost use Rattle.batch_job.specs.Pending.{Gathers, so_far};
 ghost use Rattle.batch_job.specs.NotedIds.{exhausted_text};
 ghost use Rattle.tsd_run.specs.Inputs.{ReadsLine, ReadsInputTo};
@@ -13,6 +14,7 @@ use cell_model::Rows;
 use line_stream::reader::{LineReader, NextLine};
 use std::alloc::{AllocError, Global};
 use tsd_base::kinds::Kind;
+use tsd_hooks::UidRule;
 use tsd_io::ports::Source;
 use uid_table::Uids;
 
@@ -23,13 +25,16 @@ pub struct BadLine {
     pub text: Vec<u8>,
 }
 
-/// Reads lines to the end of the input, or to the first line that is refused, which is the answer.
+/// Reads lines to the end of the input, or to the first line that is refused, which is the answer. The rule for new names is one
+/// that allows each of them.
 pub fn read_points<S: Source, R: Rows + Drop>(
     alloc: Global,
     source: &mut S,
     store: &mut Uids<R>,
+    rule: &UidRule,
     gathered: &mut Gathered,
 ) -> Result<Option<BadLine>, RunFault>
+    requires allows { AllowsAll rule.now.patterns }
     requires empty { Gathers [] (so_far (R.seen store.old) gathered.old) }
     ensures reads { ReadsInputTo (S.taken source.old) (S.taken source.new) (S.left source.old) (S.left source.new) (so_far (R.seen store.new) gathered.new) result }
     ensures later { S.faults source.old ≤ S.faults source.new }
@@ -41,7 +46,15 @@ pub fn read_points<S: Source, R: Rows + Drop>(
         match reader.next_line(source)? {
             NextLine::Whole { end } => {
                 let line = &reader.bytes()[..end];
-                if let Some(bad) = read_line(alloc, line, true, reader.number(), store, gathered)? {
+                if let Some(bad) = read_line(
+                    alloc,
+                    line,
+                    true,
+                    reader.number(),
+                    store,
+                    rule,
+                    gathered,
+                )? {
                     return Ok(Some(bad));
                 }
                 reader.skip_line(end);
@@ -53,6 +66,7 @@ pub fn read_points<S: Source, R: Rows + Drop>(
                     false,
                     reader.number(),
                     store,
+                    rule,
                     gathered,
                 );
             }
@@ -76,16 +90,18 @@ fn read_line<R: Rows + Drop>(
     ended: bool,
     number: u64,
     store: &mut Uids<R>,
+    rule: &UidRule,
     gathered: &mut Gathered,
 ) -> Result<Option<BadLine>, RunFault>
-    requires { length bytes.now ≤ LONGEST_LINE }
+    requires short { length bytes.now ≤ LONGEST_LINE }
+    requires allows { AllowsAll rule.now.patterns }
     ensures reads { IfOk result (ReadsLine (record { bytes = bytes.now; ended = ended }) number (so_far (R.seen store.old) gathered.old) (so_far (R.seen store.new) gathered.new)) }
     ensures grows { R.stops store.old ≤ R.stops store.new }
     ensures cause { IfErr result (LineCause (R.stops store.old) (R.stops store.new)) }
 {
     match judge(alloc, bytes, ended)? {
         Judgement::Blank => Ok(None),
-        Judgement::Taken { point } => match gathered.add(alloc, store, point)? {
+        Judgement::Taken { point } => match gathered.add(alloc, store, rule, point)? {
             None => Ok(None),
             Some(kind) => Ok(Some(exhausted(alloc, kind, number)?)),
         },

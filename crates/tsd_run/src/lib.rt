@@ -2,6 +2,7 @@
 #![tactic(auto)]
 
 mod input;
+mod new_names;
 mod output_text;
 mod query;
 mod refusal;

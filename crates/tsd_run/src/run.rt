@@ -1,14 +1,16 @@
 //! The top call: everything that the program does.
-ghost use Rattle.std.specs.Prelude.{◌≡◌, ◌≢◌, ◌≤◌, false, map, string_bytes, Some, IfErr, IfOk, IfSome};
+ghost use Rattle.std.specs.Prelude.{◌≡◌, ◌≢◌, ◌≤◌, true, false, map, string_bytes, Some, IfErr, IfOk, IfSome};
 ghost use Rattle.query_text.specs.QueryFaultTexts.{query_fault_text};
 ghost use Rattle.tsd_io.specs.Causes.{Rose};
 ghost use Rattle.batch_job.specs.JobAnswers.{CanAsk};
+ghost use Rattle.batch_job.specs.OpenRules.{AllowsAll};
 ghost use Rattle.batch_job.specs.PendingIds.{no_names};
 ghost use Rattle.batch_job.specs.Storing.{IsNaming};
 ghost use Rattle.command_words.specs.CommandWords as plain;
 ghost use Rattle.command_words.specs.CommandWords.{asked_of};
-ghost use Rattle.command_words.specs.PlainAsked.{InRange, batch_of, plain_batch, plain_stdio, what_asked};
+ghost use Rattle.command_words.specs.PlainAsked.{InRange, batch_of, plain_batch, plain_patterns, plain_stdio, what_asked};
 ghost use Rattle.tsd_daemon.specs.ServedConns.{Passes};
+ghost use Rattle.tsd_hooks.specs.AllowedNames.{allowed};
 ghost use Rattle.tsd_run.specs.Outcomes.{refused_line, refused_query as plain_refusal, usage_line};
 ghost use Rattle.tsd_run.specs.OutputText.{outcome_of};
 ghost use Rattle.tsd_run.specs.BatchQueries.{IsQueryOf};
@@ -16,6 +18,7 @@ ghost use Rattle.tsd_run.specs.RunFaults.{RunCause};
 ghost use Rattle.tsd_run.specs.Runs.{HasStatus, Runs, RunsPrinted, ServesStdio, Works, is_stdio};
 
 use crate::input::{BadLine, read_points};
+use crate::new_names::patterns_of;
 use crate::output_text::Printed;
 use crate::query::read_query;
 use crate::refusal::bad_query;
@@ -32,7 +35,10 @@ use query_text::queries::{Query, QueryFault};
 use std::alloc::{AllocError, Global};
 use stdio_job::{Finished, serve_alone};
 use tsd_base::decimals::write_number;
+use tsd_base::kinds::Kind;
+use tsd_base::names::Name;
 use tsd_daemon::Served;
+use tsd_hooks::{Patterns, UidRule};
 use tsd_io::clock::Clock;
 use tsd_io::give_all::give_all;
 use tsd_io::halt::Halt;
@@ -65,8 +71,9 @@ struct Decided<H> {
 /// then the first line that is refused, then too many buckets, a name that no point has, two values of one series at one
 /// time, or a sum outside `i64`.
 ///
-/// `stdio [--auto-metric] [--no-auto-tagk] [--no-auto-tagv]` serves one connection over an empty store, whose requests come
-/// from the input and whose replies go to the output.
+/// `stdio [--auto-metric] [--no-auto-tagk] [--no-auto-tagv] [--allow-metric P] [--allow-tagk P] [--allow-tagv P]` serves one
+/// connection over an empty store, whose requests come from the input and whose replies go to the output. A name that has no id
+/// is given one only where it begins with the P of its kind, if there is one.
 ///
 /// Words that are no command print the usage line. No command but `stdio` asks the clock.
 pub fn run<S: Source, K: Sink, C: Clock, H: Halt + Drop>(
@@ -141,7 +148,7 @@ fn act<S: Source, K: Sink, C: Clock, H: Halt + Drop>(
 /// Serves one connection over the input and the output.
 fn serve<S: Source, K: Sink, C: Clock, H: Halt + Drop>(
     alloc: Global,
-    stdio: &Stdio,
+    stdio: &Stdio<'_>,
     input: &mut S,
     output: &mut K,
     clock: &mut C,
@@ -157,12 +164,51 @@ fn serve<S: Source, K: Sink, C: Clock, H: Halt + Drop>(
     ensures clock_fault { result.status ≡ Status.ClockFault → Rose (C.faults clock.old) (C.faults clock.new) }
     ensures stopped { result.status ≡ Status.Stopped → Rose (H.stops halt) (H.stops result.halt) }
 {
+    let Ok(patterns) = patterns_of(alloc, &stdio.patterns) else {
+        return no_memory(halt);
+    };
+    let Ok(kept) = patterns.again(alloc) else {
+        return no_memory(halt);
+    };
+    let Ok(test) = Box::new(
+        alloc,
+        move |kind: Kind, name: &Name|
+            ensures { result ≡ allowed patterns kind name.now }
+        { patterns.allow(kind, name) },
+    ) else {
+        return no_memory(halt);
+    };
+    let rule = UidRule::keep(kept, test);
+    serve_by(alloc, &rule, stdio, input, output, clock, halt)
+}
+
+/// Serves one connection over the input and the output, with the rule for new names.
+fn serve_by<S: Source, K: Sink, C: Clock, H: Halt + Drop>(
+    alloc: Global,
+    rule: &UidRule,
+    stdio: &Stdio<'_>,
+    input: &mut S,
+    output: &mut K,
+    clock: &mut C,
+    halt: H,
+) -> Ended<H>
+    requires rule { rule.now.patterns ≡ plain_patterns stdio.now.patterns }
+    ensures serves { Passes (S.taken input.old) (S.taken input.new) (S.left input.old) (S.left input.new) (K.held output.old) (K.held output.new) (C.moments clock.old) (C.moments clock.new) (ServesStdio (plain_stdio stdio.now) result.status) }
+    ensures reads_later { S.faults input.old ≤ S.faults input.new }
+    ensures writes_later { K.faults output.old ≤ K.faults output.new }
+    ensures clock_later { C.faults clock.old ≤ C.faults clock.new }
+    ensures stops_later { H.stops halt ≤ H.stops result.halt }
+    ensures read_fault { result.status ≡ Status.ReadFault → Rose (S.faults input.old) (S.faults input.new) }
+    ensures write_fault { result.status ≡ Status.WriteFault → Rose (K.faults output.old) (K.faults output.new) }
+    ensures clock_fault { result.status ≡ Status.ClockFault → Rose (C.faults clock.old) (C.faults clock.new) }
+    ensures stopped { result.status ≡ Status.Stopped → Rose (H.stops halt) (H.stops result.halt) }
+{
     let config = Config {
         auto_metric: stdio.auto_metric,
         auto_tag_key: stdio.auto_tag_key,
         auto_tag_value: stdio.auto_tag_value,
     };
-    let Finished { served, halt } = serve_alone(alloc, &config, input, output, clock, halt);
+    let Finished { served, halt } = serve_alone(alloc, rule, &config, input, output, clock, halt);
     let status = status_of(served);
     Ended { status, halt }
 }
@@ -296,7 +342,7 @@ fn refused_query(alloc: Global, fault: QueryFault) -> Result<Printed, RunFault>
     Ok(printed)
 }
 
-/// Makes a store under the halt, and answers the query of a batch over the points of the input.
+/// Makes the rule that allows each new name, and answers the query of a batch over the points of the input.
 fn run_query<S: Source, H: Halt + Drop>(
     alloc: Global,
     query: &Query,
@@ -309,10 +355,40 @@ fn run_query<S: Source, H: Halt + Drop>(
     ensures grows { H.stops halt ≤ H.stops result.halt }
     ensures cause { IfErr result.printed (RunCause (S.faults input.old) (S.faults input.new) (H.stops halt) (H.stops result.halt)) }
 {
+    let Ok(test) = Box::new(
+        alloc,
+        |_kind: Kind, _name: &Name|
+            ensures { result ≡ true }
+        { true },
+    ) else {
+        return Decided {
+            printed: Err(RunFault::OutOfMemory),
+            halt,
+        };
+    };
+    let rule = UidRule::keep(Patterns::none(), test);
+    run_open(alloc, query, input, &rule, halt)
+}
+
+/// Makes a store under the halt, and answers the query of a batch over the points of the input.
+fn run_open<S: Source, H: Halt + Drop>(
+    alloc: Global,
+    query: &Query,
+    input: &mut S,
+    rule: &UidRule,
+    halt: H,
+) -> Decided<H>
+    requires can { CanAsk query.now }
+    requires allows { AllowsAll rule.now.patterns }
+    ensures works { (batch : plain.Batch) → IsQueryOf query.now batch → Works (Some batch) (S.taken input.old) (S.taken input.new) (S.left input.old) (S.left input.new) result.printed }
+    ensures later { S.faults input.old ≤ S.faults input.new }
+    ensures grows { H.stops halt ≤ H.stops result.halt }
+    ensures cause { IfErr result.printed (RunCause (S.faults input.old) (S.faults input.new) (H.stops halt) (H.stops result.halt)) }
+{
     match empty(alloc, halt) {
         Ok(store) => {
             let mut store = store;
-            let printed = over_store(alloc, query, input, &mut store);
+            let printed = over_store(alloc, query, input, &mut store, rule);
             let halt = halt_of(store);
             Decided { printed, halt }
         }
@@ -329,8 +405,10 @@ fn over_store<S: Source, R: Rows + Drop>(
     query: &Query,
     input: &mut S,
     store: &mut Uids<R>,
+    rule: &UidRule,
 ) -> Result<Printed, RunFault>
     requires can { CanAsk query.now }
+    requires allows { AllowsAll rule.now.patterns }
     requires naming { IsNaming no_names (R.seen store.old) }
     ensures works { (batch : plain.Batch) → IsQueryOf query.now batch → Works (Some batch) (S.taken input.old) (S.taken input.new) (S.left input.old) (S.left input.new) result }
     ensures later { S.faults input.old ≤ S.faults input.new }
@@ -338,9 +416,9 @@ fn over_store<S: Source, R: Rows + Drop>(
     ensures cause { IfErr result (RunCause (S.faults input.old) (S.faults input.new) (R.stops store.old) (R.stops store.new)) }
 {
     let mut gathered = Gathered::make(alloc);
-    match read_points(alloc, input, store, &mut gathered)? {
+    match read_points(alloc, input, store, rule, &mut gathered)? {
         Some(bad) => Ok(bad_line(alloc, &bad)?),
-        None => printed_answer(alloc, answer(alloc, query, store, gathered)),
+        None => printed_answer(alloc, answer(alloc, query, store, rule, gathered)),
     }
 }
 

@@ -1,9 +1,11 @@
 -- The entries of calls that are made of other calls.
-use Rattle.std.proofs.Common.{◌≡◌, inl, inr, ℕ, List, [], ◌∷◌, ◌++◌, refl, sym, ap, subst, ◌∙◌, arith}
+use Rattle.std.proofs.Common.{◌≡◌, inl, inr, ℕ, true, false, List, [], ◌∷◌, ◌++◌, refl, sym, ap, subst, ◌∙◌}
 use Rattle.std.proofs.lemmas.Bool.{false≢true}
 use Rattle.std.proofs.lemmas.Result.{err_from_is_err_and}
 use Rattle.std.specs.Prelude.{Result, Ok, Err, IsErr, IsErrAnd, Option, None}
 use Rattle.tsd_base.specs.declared.kinds.Kind.{Kind}
+use Rattle.tsd_hooks.specs.declared.name_patterns.Patterns.{Patterns}
+use Rattle.tsd_hooks.specs.AllowedNames.{allowed}
 use Rattle.row_key.specs.Key.{IsId}
 use Rattle.qual_codec.specs.declared.cells.Cell.{Cell}
 use Rattle.cell_model.specs.declared.row.Row.{Row}
@@ -21,14 +23,14 @@ use Rattle.cell_model.specs.Store.{value_among}
 use Rattle.cell_model.specs.Machine.{kind_qual}
 use Rattle.cell_model.specs.IdRows.{name_row, id_row, id_bytes}
 use Rattle.cell_model.specs.Seen.{Seen, Waited, Stepped, IsPossible}
-use Rattle.cell_model.specs.Deeds.{Made, placed}
+use Rattle.cell_model.specs.Deeds.{placed}
 use Rattle.uid_table.specs.declared.id_answers.Assigned.{Assigned}
 use Rattle.uid_table.specs.declared.id_answers.Assigned.TheVariants.{Fresh, Existing, Lost}
 use Rattle.uid_table.specs.declared.id_answers.AssignFault.{AssignFault}
 use Rattle.uid_table.specs.declared.id_answers.AssignFault.TheVariants as assign
 use Rattle.uid_table.specs.declared.id_answers.ResolveFault.{ResolveFault}
 use Rattle.uid_table.specs.IdAnswers.{resolve_fault, assign_fault}
-use Rattle.uid_table.specs.IdSteps.{MadeSo, DidReverse, DidForward, Gave, OneLook, LookMade, ResolveMade, ReverseMade, ForwardMade, BindMade, GiveMade, GaveUp, AssignMade}
+use Rattle.uid_table.specs.IdSteps.{MadeSo, DidReverse, DidForward, Gave, OneLook, LookMade, ResolveMade, ReverseMade, ForwardMade, BindMade, GiveMade, GiveAllowedMade, GaveUp, AssignMade}
 use Rattle.uid_table.specs.IdSteps.GaveUp.{before, bumped, reversed}
 use Rattle.cell_laws.proofs.CallerLemmas.{given_id, wait_made, step_made, made_joined}
 -- nothing was made yet
@@ -131,19 +133,33 @@ give_full a b kind name bump p = (_, step_made a b _ _ bump p, (refl, (_, refl, 
 pub give_stopped : (a b : Seen) (kind : Kind) (name : List ℕ) → Waited a b → (IsPossible a → IsPossible b) → MadeSo a (GiveMade kind name (Err assign.Stopped)) b
 give_stopped a b kind name w lives = ([], wait_made a b w lives, before)
 
--- a look that found no cell, and then the giving
-pub assign_made : (a b c : Seen) (kind : Kind) (name : List ℕ) (r : Result Assigned AssignFault) → MadeSo a (LookMade kind name (Ok None)) b → MadeSo b (GiveMade kind name r) c → MadeSo a (AssignMade kind name r) c
-assign_made a b c kind name (Ok (Fresh id)) (xs, m, (d, is, did)) (ys, n, q) = (xs ++ ys, made_joined a b c xs ys m n, (d, ys, ap (λ zs. zs ++ ys) is, did, q))
-assign_made a b c kind name (Ok (Existing id)) (xs, m, (d, is, did)) (ys, n, q) = absurd q
-assign_made a b c kind name (Ok (Lost w id)) (xs, m, (d, is, did)) (ys, n, q) = (xs ++ ys, made_joined a b c xs ys m n, (d, ys, ap (λ zs. zs ++ ys) is, did, q))
-assign_made a b c kind name (Err (assign.Exhausted k)) (xs, m, (d, is, did)) (ys, n, q) = (xs ++ ys, made_joined a b c xs ys m n, (d, ys, ap (λ zs. zs ++ ys) is, did, q))
-assign_made a b c kind name (Err assign.OutOfMemory) (xs, m, (d, is, did)) (ys, n, q) = (xs ++ ys, made_joined a b c xs ys m n, inr (d, ys, ap (λ zs. zs ++ ys) is, did, q))
-assign_made a b c kind name (Err assign.Stopped) (xs, m, (d, is, did)) (ys, n, q) = (xs ++ ys, made_joined a b c xs ys m n, inr (d, ys, ap (λ zs. zs ++ ys) is, did, q))
+-- the giving of an id to a name that is allowed
+pub given_allowed : (a b : Seen) (patterns : Patterns) (kind : Kind) (name : List ℕ) (r : Result Assigned AssignFault) → allowed patterns kind name ≡ true → MadeSo a (GiveMade kind name r) b → MadeSo a (GiveAllowedMade patterns kind name r) b
+given_allowed a b patterns kind name (Ok answer) is (xs, m, q) = (xs, m, (is, q))
+given_allowed a b patterns kind name (Err (assign.Filtered k)) is (xs, m, q) = absurd q
+given_allowed a b patterns kind name (Err (assign.Exhausted k)) is (xs, m, q) = (xs, m, (is, q))
+given_allowed a b patterns kind name (Err assign.OutOfMemory) is (xs, m, q) = (xs, m, (is, q))
+given_allowed a b patterns kind name (Err assign.Stopped) is (xs, m, q) = (xs, m, (is, q))
+
+-- nothing is made for a name that isn't
+pub filtered : (s : Seen) (patterns : Patterns) (kind : Kind) (name : List ℕ) → allowed patterns kind name ≡ false → MadeSo s (GiveAllowedMade patterns kind name (Err (assign.Filtered kind))) s
+filtered s patterns kind name not_so = ([], nothing_made s, (refl, not_so, refl))
+
+-- a look that found no cell, and then what is made for a name that has no id
+pub assign_made : (a b c : Seen) (patterns : Patterns) (kind : Kind) (name : List ℕ) (r : Result Assigned AssignFault) → MadeSo a (LookMade kind name (Ok None)) b → MadeSo b (GiveAllowedMade patterns kind name r) c
+    → MadeSo a (AssignMade patterns kind name r) c
+assign_made a b c patterns kind name (Ok (Fresh id)) (xs, m, (d, is, did)) (ys, n, q) = (xs ++ ys, made_joined a b c xs ys m n, (d, ys, ap (λ zs. zs ++ ys) is, did, q))
+assign_made a b c patterns kind name (Ok (Existing id)) (xs, m, (d, is, did)) (ys, n, q) = absurd q.1
+assign_made a b c patterns kind name (Ok (Lost w id)) (xs, m, (d, is, did)) (ys, n, q) = (xs ++ ys, made_joined a b c xs ys m n, (d, ys, ap (λ zs. zs ++ ys) is, did, q))
+assign_made a b c patterns kind name (Err (assign.Filtered k)) (xs, m, (d, is, did)) (ys, n, q) = (xs ++ ys, made_joined a b c xs ys m n, (d, ys, ap (λ zs. zs ++ ys) is, did, q))
+assign_made a b c patterns kind name (Err (assign.Exhausted k)) (xs, m, (d, is, did)) (ys, n, q) = (xs ++ ys, made_joined a b c xs ys m n, (d, ys, ap (λ zs. zs ++ ys) is, did, q))
+assign_made a b c patterns kind name (Err assign.OutOfMemory) (xs, m, (d, is, did)) (ys, n, q) = (xs ++ ys, made_joined a b c xs ys m n, inr (d, ys, ap (λ zs. zs ++ ys) is, did, q))
+assign_made a b c patterns kind name (Err assign.Stopped) (xs, m, (d, is, did)) (ys, n, q) = (xs ++ ys, made_joined a b c xs ys m n, inr (d, ys, ap (λ zs. zs ++ ys) is, did, q))
 
 -- a look that wasn't made
-pub assign_stopped : (a b : Seen) (kind : Kind) (name : List ℕ) (e : RowsFault) → MadeSo a (LookMade kind name (Err e)) b → MadeSo a (AssignMade kind name (Err (assign_fault e))) b
-assign_stopped a b kind name rows.OutOfMemory (xs, m, q) = (xs, m, inl q)
-assign_stopped a b kind name rows.Stopped (xs, m, q) = (xs, m, inl q)
+pub assign_stopped : (a b : Seen) (patterns : Patterns) (kind : Kind) (name : List ℕ) (e : RowsFault) → MadeSo a (LookMade kind name (Err e)) b → MadeSo a (AssignMade patterns kind name (Err (assign_fault e))) b
+assign_stopped a b patterns kind name rows.OutOfMemory (xs, m, q) = (xs, m, inl q)
+assign_stopped a b patterns kind name rows.Stopped (xs, m, q) = (xs, m, inl q)
 
 pub resolve_stopped : (a b : Seen) (kind : Kind) (name : List ℕ) (e : RowsFault) → MadeSo a (LookMade kind name (Err e)) b → MadeSo a (ResolveMade kind name (Err (resolve_fault e))) b
 resolve_stopped a b kind name rows.OutOfMemory m = m

@@ -1,6 +1,8 @@
 -- The entries that a call makes, by its answer.
-use Rattle.std.specs.Prelude.{◌≡◌, ◌⊎◌, ℕ, List, [], ◌∷◌, Option, None, Some, Result, Ok, Err, option_map}
+use Rattle.std.specs.Prelude.{◌≡◌, ◌⊎◌, ℕ, true, false, List, [], ◌∷◌, Option, None, Some, Result, Ok, Err, option_map}
 use Rattle.tsd_base.specs.declared.kinds.Kind.{Kind}
+use Rattle.tsd_hooks.specs.declared.name_patterns.Patterns.{Patterns}
+use Rattle.tsd_hooks.specs.AllowedNames.{allowed}
 use Rattle.qual_codec.specs.declared.cells.Cell.{Cell}
 use Rattle.cell_model.specs.declared.row.Row.{Row}
 use Rattle.cell_model.specs.declared.events.Step.TheVariants.{Read, Bump, Claim}
@@ -114,6 +116,7 @@ abbrev pub GiveMade : Kind → List ℕ → Result Assigned AssignFault → List
 GiveMade kind name (Ok (Fresh id)) list = Gave kind name id Done list
 GiveMade kind name (Ok (Existing id)) list = ⊥
 GiveMade kind name (Ok (Lost wasted id)) list = Gave kind name wasted (Held (id_bytes id)) list
+GiveMade kind name (Err (assign.Filtered k)) list = ⊥
 GiveMade kind name (Err (assign.Exhausted k)) list = (k ≡ kind) × WasFull kind list
 GiveMade kind name (Err assign.OutOfMemory) list = GaveUp kind name list
 GiveMade kind name (Err assign.Stopped) list = GaveUp kind name list
@@ -122,14 +125,32 @@ GiveMade kind name (Err assign.Stopped) list = GaveUp kind name list
 abbrev pub AfterLook : Kind → List ℕ → (List Placed → Type 0) → List Placed → Type 0
 AfterLook kind name P list = (d : Placed) × (rest : List Placed) × (list ≡ d ∷ rest) × DidLook d kind name None × P rest
 
--- An assignment makes no entry where the pair was kept, and else one read. Where that found the cell it makes nothing more; else it gives an id.
-abbrev pub AssignMade : Kind → List ℕ → Result Assigned AssignFault → List Placed → Type 0
-AssignMade kind name (Ok (Existing id)) list = LookedOrKept kind name id list
-AssignMade kind name (Ok (Fresh id)) list = AfterLook kind name (GiveMade kind name (Ok (Fresh id))) list
-AssignMade kind name (Ok (Lost wasted id)) list = AfterLook kind name (GiveMade kind name (Ok (Lost wasted id))) list
-AssignMade kind name (Err (assign.Exhausted k)) list = AfterLook kind name (GiveMade kind name (Err (assign.Exhausted k))) list
-AssignMade kind name (Err assign.OutOfMemory) list = (list ≡ []) ⊎ AfterLook kind name (GiveMade kind name (Err assign.OutOfMemory)) list
-AssignMade kind name (Err assign.Stopped) list = (list ≡ []) ⊎ AfterLook kind name (GiveMade kind name (Err assign.Stopped)) list
+-- the patterns allow the name, and its giving makes those
+abbrev pub AllowedGive : Patterns → Kind → List ℕ → Result Assigned AssignFault → List Placed → Type 0
+AllowedGive patterns kind name answer list = (allowed patterns kind name ≡ true) × GiveMade kind name answer list
+
+-- the patterns don't allow the name, and nothing is made
+abbrev pub NotAllowed : Patterns → Kind → List ℕ → Kind → List Placed → Type 0
+NotAllowed patterns kind name told list = (told ≡ kind) × (allowed patterns kind name ≡ false) × (list ≡ [])
+
+-- what is made for a name that has no id: the giving of one where the patterns allow the name, and else nothing
+abbrev pub GiveAllowedMade : Patterns → Kind → List ℕ → Result Assigned AssignFault → List Placed → Type 0
+GiveAllowedMade patterns kind name (Ok answer) list = AllowedGive patterns kind name (Ok answer) list
+GiveAllowedMade patterns kind name (Err (assign.Filtered k)) list = NotAllowed patterns kind name k list
+GiveAllowedMade patterns kind name (Err (assign.Exhausted k)) list = AllowedGive patterns kind name (Err (assign.Exhausted k)) list
+GiveAllowedMade patterns kind name (Err assign.OutOfMemory) list = AllowedGive patterns kind name (Err assign.OutOfMemory) list
+GiveAllowedMade patterns kind name (Err assign.Stopped) list = AllowedGive patterns kind name (Err assign.Stopped) list
+
+-- An assignment makes no entry where the pair was kept, and else one read. Where that found the cell it makes nothing more. Else it gives an id where
+-- the patterns allow the name, and is `Filtered` where they don't.
+abbrev pub AssignMade : Patterns → Kind → List ℕ → Result Assigned AssignFault → List Placed → Type 0
+AssignMade patterns kind name (Ok (Existing id)) list = LookedOrKept kind name id list
+AssignMade patterns kind name (Ok (Fresh id)) list = AfterLook kind name (AllowedGive patterns kind name (Ok (Fresh id))) list
+AssignMade patterns kind name (Ok (Lost wasted id)) list = AfterLook kind name (AllowedGive patterns kind name (Ok (Lost wasted id))) list
+AssignMade patterns kind name (Err (assign.Filtered k)) list = AfterLook kind name (NotAllowed patterns kind name k) list
+AssignMade patterns kind name (Err (assign.Exhausted k)) list = AfterLook kind name (AllowedGive patterns kind name (Err (assign.Exhausted k))) list
+AssignMade patterns kind name (Err assign.OutOfMemory) list = (list ≡ []) ⊎ AfterLook kind name (AllowedGive patterns kind name (Err assign.OutOfMemory)) list
+AssignMade patterns kind name (Err assign.Stopped) list = (list ≡ []) ⊎ AfterLook kind name (AllowedGive patterns kind name (Err assign.Stopped)) list
 
 -- one read of the id's row, which showed this name
 abbrev pub OneNameRead : Kind → ℕ → List ℕ → List Placed → Type 0

@@ -11,7 +11,7 @@ ghost use Rattle.cell_model.specs.Stops.{CountsStops, is_stop};
 ghost use Rattle.cell_model.specs.Calls.{Leaves};
 ghost use Rattle.uid_table.specs.IdAnswers.{answered_id, is_assign_stop};
 ghost use Rattle.uid_table.specs.Shown.{HasShown, HasReversed};
-ghost use Rattle.uid_table.specs.IdSteps.{MadeSo, ReverseMade, ForwardMade, BindMade, GiveMade, AssignMade};
+ghost use Rattle.uid_table.specs.IdSteps.{MadeSo, ReverseMade, ForwardMade, BindMade, GiveMade, GiveAllowedMade, AssignMade};
 
 use crate::id_answers::{AssignFault, Assigned};
 use crate::id_reads::{bytes_of_id, id_from, look, qualifier, row_of_id};
@@ -20,6 +20,8 @@ use cell_model::row::Row;
 use cell_model::rows::Rows;
 use std::alloc::Global;
 use tsd_base::kinds::Kind;
+use tsd_base::names::Name;
+use tsd_hooks::UidRule;
 
 /// Claims an id that was just given for a name, in the table of names. No one else claimed it.
 fn claim_reverse<R: Rows>(
@@ -119,22 +121,49 @@ fn give<R: Rows>(
     }
 }
 
-/// The id of the name of a row, which is given one where it has none.
+/// Gives a name an id, where the rule allows it.
+fn give_allowed<R: Rows>(
+    rows: &mut R,
+    alloc: Global,
+    rule: &UidRule,
+    kind: Kind,
+    name: &Name,
+    row: &Row,
+) -> Result<Assigned, AssignFault>
+    requires row { row.now ≡ name_row row.now.bytes }
+    requires named { IsName row.now.bytes }
+    requires same { row.now.bytes ≡ name.now }
+    requires spare { 1 ≤ R.spare rows.old }
+    ensures made { MadeSo (R.seen rows.old) (GiveAllowedMade rule.now.patterns kind row.now.bytes result) (R.seen rows.new) }
+    ensures id { IfOk result (λ a. HasShown (R.seen rows.new) kind row.now.bytes (answered_id a)) }
+    ensures leaves { Leaves is_assign_stop result (R.seen rows.new) (R.stops rows.old) (R.stops rows.new) }
+{
+    if rule.allows(kind, name) {
+        give(rows, alloc, kind, row)
+    } else {
+        Err(AssignFault::Filtered { kind })
+    }
+}
+
+/// The id of the name of a row, which is given one where it has none and the rule allows it.
 pub fn look_or_give<R: Rows>(
     rows: &mut R,
     alloc: Global,
+    rule: &UidRule,
     kind: Kind,
-    name: &Row,
+    name: &Name,
+    row: &Row,
 ) -> Result<Assigned, AssignFault>
-    requires row { name.now ≡ name_row name.now.bytes }
-    requires named { IsName name.now.bytes }
-    ensures made { MadeSo (R.seen rows.old) (AssignMade kind name.now.bytes result) (R.seen rows.new) }
-    ensures id { IfOk result (λ a. HasShown (R.seen rows.new) kind name.now.bytes (answered_id a)) }
+    requires row { row.now ≡ name_row row.now.bytes }
+    requires named { IsName row.now.bytes }
+    requires same { row.now.bytes ≡ name.now }
+    ensures made { MadeSo (R.seen rows.old) (AssignMade rule.now.patterns kind row.now.bytes result) (R.seen rows.new) }
+    ensures id { IfOk result (λ a. HasShown (R.seen rows.new) kind row.now.bytes (answered_id a)) }
     ensures leaves { Leaves is_assign_stop result (R.seen rows.new) (R.stops rows.old) (R.stops rows.new) }
 {
-    let shown = look(rows, alloc, kind, name)?;
+    let shown = look(rows, alloc, kind, row)?;
     match shown {
         Some(id) => Ok(Assigned::Existing { id }),
-        None => give(rows, alloc, kind, name),
+        None => give_allowed(rows, alloc, rule, kind, name, row),
     }
 }

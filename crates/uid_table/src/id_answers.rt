@@ -41,6 +41,8 @@ pub enum ResolveFault {
 /// Why a name wasn't assigned an id.
 #[derive(Clone, Copy, Debug, PartialEq, Eq)]
 pub enum AssignFault {
+    /// The name has no id, and the rule for new names doesn't allow it. No id was spent.
+    Filtered { kind: Kind },
     /// All 16,777,215 ids of this kind were given.
     Exhausted { kind: Kind },
     /// There was no memory for one of the steps. The steps before it stay done.

@@ -28,6 +28,7 @@ use std::marker::Model;
 use tsd_base::kinds::Kind;
 use tsd_base::names::Name;
 use tsd_base::points::Point;
+use tsd_hooks::UidRule;
 
 /// Rows, with calls that give ids to names and find the names of ids.
 ///
@@ -105,26 +106,28 @@ impl<R: Rows + Drop> Uids<R> {
         resolve_in(&mut self.rows, &mut self.ids, alloc, key)
     }
 
-    /// The id of a name, which is given one where it has none.
+    /// The id of a name, which is given one where it has none and the rule allows it.
     ///
-    /// Where the pair is kept it is `Existing`, by no step. Else it reads the cell of the name. Where there is none it bumps
-    /// the counter of the kind, claims the new id for the name, and then the name with this id. Where another caller was
+    /// Where the pair is kept it is `Existing`, by no step. Else it reads the cell of the name. Where there is none the rule
+    /// is asked. A name that it doesn't allow is `Filtered`, by no further step; a name that has an id is never asked of it.
+    /// For one that it allows it bumps the counter of the kind, claims the new id for the name, and then the name with this id. Where another caller was
     /// faster with the last of these, the name has the other's id, and the own one is nobody's. The id that the name has is
     /// kept. What was done before a fault stays done.
     pub fn assign(
         &mut self,
         alloc: Global,
+        rule: &UidRule,
         kind: Kind,
         name: &Name,
     ) -> Result<Assigned, AssignFault>
-        ensures made { MadeSo (R.seen self.old) (AssignMade kind name.now result) (R.seen self.new) }
+        ensures made { MadeSo (R.seen self.old) (AssignMade rule.now.patterns kind name.now result) (R.seen self.new) }
         ensures id { IfOk result (λ a. HasShown (R.seen self.new) kind name.now (answered_id a)) }
         ensures leaves { Leaves is_assign_stop result (R.seen self.new) (R.stops self.old) (R.stops self.new) }
     {
         let Ok(key) = name_key(alloc, kind, name) else {
             return Err(AssignFault::OutOfMemory);
         };
-        assign_in(&mut self.rows, &mut self.ids, alloc, key)
+        assign_in(&mut self.rows, &mut self.ids, alloc, rule, name, key)
     }
 
     /// The name of an id that a name is known to have, by one read, or by none where the pair is kept.
@@ -211,19 +214,22 @@ fn assign_in<R: Rows>(
     rows: &mut R,
     ids: &mut Ids,
     alloc: Global,
+    rule: &UidRule,
+    name: &Name,
     key: NameKey,
 ) -> Result<Assigned, AssignFault>
     requires row { key.row ≡ name_row key.row.bytes }
     requires named { IsName key.row.bytes }
+    requires same { key.row.bytes ≡ name.now }
     requires kept { KeepsIds (R.seen rows.old) ids.old.entries }
-    ensures made { MadeSo (R.seen rows.old) (AssignMade key.kind key.row.bytes result) (R.seen rows.new) }
+    ensures made { MadeSo (R.seen rows.old) (AssignMade rule.now.patterns key.kind key.row.bytes result) (R.seen rows.new) }
     ensures id { IfOk result (λ a. HasShown (R.seen rows.new) key.kind key.row.bytes (answered_id a)) }
     ensures leaves { Leaves is_assign_stop result (R.seen rows.new) (R.stops rows.old) (R.stops rows.new) }
     ensures kept { KeepsIds (R.seen rows.new) ids.new.entries }
 {
     match kept_id(ids, &key) {
         Some(id) => Ok(Assigned::Existing { id }),
-        None => assign_anew(rows, ids, alloc, key),
+        None => assign_anew(rows, ids, alloc, rule, name, key),
     }
 }
 
@@ -232,17 +238,20 @@ fn assign_anew<R: Rows>(
     rows: &mut R,
     ids: &mut Ids,
     alloc: Global,
+    rule: &UidRule,
+    name: &Name,
     key: NameKey,
 ) -> Result<Assigned, AssignFault>
     requires row { key.row ≡ name_row key.row.bytes }
     requires named { IsName key.row.bytes }
+    requires same { key.row.bytes ≡ name.now }
     requires kept { KeepsIds (R.seen rows.old) ids.old.entries }
-    ensures made { MadeSo (R.seen rows.old) (AssignMade key.kind key.row.bytes result) (R.seen rows.new) }
+    ensures made { MadeSo (R.seen rows.old) (AssignMade rule.now.patterns key.kind key.row.bytes result) (R.seen rows.new) }
     ensures id { IfOk result (λ a. HasShown (R.seen rows.new) key.kind key.row.bytes (answered_id a)) }
     ensures leaves { Leaves is_assign_stop result (R.seen rows.new) (R.stops rows.old) (R.stops rows.new) }
     ensures kept { KeepsIds (R.seen rows.new) ids.new.entries }
 {
-    let assigned = look_or_give(rows, alloc, key.kind, &key.row)?;
+    let assigned = look_or_give(rows, alloc, rule, key.kind, name, &key.row)?;
     keep_id(ids, key, assigned.id());
     Ok(assigned)
 }

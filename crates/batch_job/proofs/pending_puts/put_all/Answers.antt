@@ -7,6 +7,7 @@ loop-name-init g c = record { puts = none_put (g.R.Rows.seen c.args.store.now) c
 
 pub put_series-requires : goal.put_series-requires
 put_series-requires g c = record {
+  allows = c.requires.allows;
   may = may_next (g.R.Rows.seen c.args.store.now) (g.R.Rows.seen c.loop-name.store) c.args.series.entries c.loop-name.name-iterator c.next.new.self (c.in-Some.name, c.in-Some.values) c.in-Some.ensures.steps c.requires.may c.loop-name.invariant.puts;
 }
 

@@ -18,6 +18,7 @@ set-requires g c =
 
 pub put_point-requires : goal.put_point-requires
 put_point-requires g c = record {
+  allows = c.requires.allows;
   resolved = point_resolved c.args.metric c.args.tags c.args.fine (data_point c.set.new.point) c.args.values.now _ (g.R.Rows.seen c.args.store.now) (g.R.Rows.seen c.loop-time.store)
       (c.set.ensures.metric ∙ c.loop-time.invariant.metric) (c.set.ensures.tags ∙ c.loop-time.invariant.tags) c.requires.may c.loop-time.invariant.adds;
 }

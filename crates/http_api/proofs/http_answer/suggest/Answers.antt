@@ -2,7 +2,7 @@ use Rattle.std.proofs.Common.{◌≡◌, ◌∙◌, ap, List, ℕ, subst, IfOk}
 use Rattle.cell_model.specs.declared.answers.Stored.{Stored}
 use Rattle.cell_model.specs.Seen.{InEach}
 use Rattle.http_assign.specs.SuggestNames.{SuggestAsked}
-use Rattle.point_put.specs.declared.config.Config.{Config}
+use Rattle.point_put.specs.Admissions.{Admission}
 use Rattle.json_reply.specs.Texts.{names_text}
 use Rattle.http_reply.specs.declared.reply_status.Status.TheVariants as status
 use Rattle.http_reply.specs.ReplyBytes.{reply_bytes}
@@ -13,20 +13,20 @@ use Rattle.http_api.proofs.Answering.{in_error, suggestion_broken, suggestion_re
 use Rattle.http_api.proofs.http_answer.suggest.Goals as goal
 
 pub returns-in_err-found-clause-err : goal.returns-in_err-found-clause-err
-returns-in_err-found-clause-err g c = in_error ((config : Config) (queue : List Stored) → WorkBroken config (Suggests (suggestion c.args.request.now)) (g.R.Rows.seen c.args.names.now) queue (g.R.Rows.seen c.suggest_names.new.names) queue) c.from_residual.result
-    (λ config queue. suggestion_broken config (suggestion c.args.request.now) (g.R.Rows.seen c.args.names.now) (g.R.Rows.seen c.suggest_names.new.names) queue c.in_err-found.ensures.since c.in_err-found.ensures.err)
+returns-in_err-found-clause-err g c = in_error ((a : Admission) (queue : List Stored) → WorkBroken a (Suggests (suggestion c.args.request.now)) (g.R.Rows.seen c.args.names.now) queue (g.R.Rows.seen c.suggest_names.new.names) queue) c.from_residual.result
+    (λ a queue. suggestion_broken a (suggestion c.args.request.now) (g.R.Rows.seen c.args.names.now) (g.R.Rows.seen c.suggest_names.new.names) queue c.in_err-found.ensures.since c.in_err-found.ensures.err)
 
 pub returns-in-Ok-clause-ok : goal.returns-in-Ok-clause-ok
 returns-in-Ok-clause-ok g c =
     let names = c.in_ok-found.found.items in
     let bytes = reply_bytes status.Ok c.args.closing (names_text names) in
-    with_bytes (λ (b : List ℕ). (config : Config) (queue : List Stored) → WorkReplied config (Suggests (suggestion c.args.request.now)) c.args.closing (g.R.Rows.seen c.args.names.now) queue b (g.R.Rows.seen c.suggest_names.new.names) queue)
+    with_bytes (λ (b : List ℕ). (a : Admission) (queue : List Stored) → WorkReplied a (Suggests (suggestion c.args.request.now)) c.args.closing (g.R.Rows.seen c.args.names.now) queue b (g.R.Rows.seen c.suggest_names.new.names) queue)
     bytes c.told.result
     (c.told.ensures.ok bytes (subst (λ (body : List ℕ). IfOk c.reply.result (λ r. r.items ≡ reply_bytes status.Ok c.args.closing body)) (c.as_slice-in-Ok.ensures.value ∙ c.in-Ok.ensures ∙ ap names_text c.as_slice.ensures.value) c.reply.ensures))
-    (λ config queue. suggestion_replied config (suggestion c.args.request.now) c.args.closing (g.R.Rows.seen c.args.names.now) (g.R.Rows.seen c.suggest_names.new.names) queue names c.in_ok-found.ensures.since
+    (λ a queue. suggestion_replied a (suggestion c.args.request.now) c.args.closing (g.R.Rows.seen c.args.names.now) (g.R.Rows.seen c.suggest_names.new.names) queue names c.in_ok-found.ensures.since
     (subst (λ (prefix : List ℕ). InEach (g.R.Rows.seen c.suggest_names.new.names) (λ h. SuggestAsked h (g.R.Rows.seen c.args.names.now).caller (g.R.Rows.seen c.args.names.now).length c.args.request.now.kind prefix c.args.request.now.max c.in_ok-found.found.items (g.R.Rows.seen c.suggest_names.new.names).length)) c.list.ensures c.in_ok-found.ensures.ok))
 
 pub returns-in-Ok-clause-err : goal.returns-in-Ok-clause-err
-returns-in-Ok-clause-err g c = in_error ((config : Config) (queue : List Stored) → WorkBroken config (Suggests (suggestion c.args.request.now)) (g.R.Rows.seen c.args.names.now) queue (g.R.Rows.seen c.suggest_names.new.names) queue) c.told.result
-    (λ config queue. suggestion_untold config (suggestion c.args.request.now) (g.R.Rows.seen c.args.names.now) (g.R.Rows.seen c.suggest_names.new.names) queue c.in_ok-found.found.items c.in_ok-found.ensures.since
+returns-in-Ok-clause-err g c = in_error ((a : Admission) (queue : List Stored) → WorkBroken a (Suggests (suggestion c.args.request.now)) (g.R.Rows.seen c.args.names.now) queue (g.R.Rows.seen c.suggest_names.new.names) queue) c.told.result
+    (λ a queue. suggestion_untold a (suggestion c.args.request.now) (g.R.Rows.seen c.args.names.now) (g.R.Rows.seen c.suggest_names.new.names) queue c.in_ok-found.found.items c.in_ok-found.ensures.since
     (subst (λ (prefix : List ℕ). InEach (g.R.Rows.seen c.suggest_names.new.names) (λ h. SuggestAsked h (g.R.Rows.seen c.args.names.now).caller (g.R.Rows.seen c.args.names.now).length c.args.request.now.kind prefix c.args.request.now.max c.in_ok-found.found.items (g.R.Rows.seen c.suggest_names.new.names).length)) c.list.ensures c.in_ok-found.ensures.ok))

@@ -12,7 +12,7 @@ pub loop-text-init : goal.loop-text-init
 loop-text-init g c = record {
   made = made_none (g.R.Rows.seen c.args.names.now);
   goes_on =
-      subst (λ (outs : List IdTold). GoesOn [] (g.R.Rows.seen c.args.names.now) outs (g.R.Rows.seen c.args.names.now)) (sym (ap outcomes_of c.new-outs.ensures.items)) (goes_none (g.R.Rows.seen c.args.names.now));
+      subst (λ (outs : List IdTold). GoesOn c.args.rule.now.patterns [] (g.R.Rows.seen c.args.names.now) outs (g.R.Rows.seen c.args.names.now)) (sym (ap outcomes_of c.new-outs.ensures.items)) (goes_none c.args.rule.now.patterns (g.R.Rows.seen c.args.names.now));
   each = ap length c.new-outs.ensures.items;
   grows = omega arith;
 }
@@ -25,9 +25,9 @@ loop-text-preserved g c =
     record {
       made = made_more (g.R.Rows.seen c.args.names.now) (g.R.Rows.seen l.names) (g.R.Rows.seen c.assign_text.new.names) l.invariant.made (c.in_ok-out.ensures.ok.own, c.in_ok-out.ensures.ok.made);
       goes_on =
-          subst (λ (x : List NameOf × List IdTold). GoesOn x.0 (g.R.Rows.seen c.args.names.now) x.1 (g.R.Rows.seen c.assign_text.new.names)) (λ i. (sym texts i, sym outs i))
-          (goes_more (of_kind c.args.kind (take l.text-index c.args.texts.now)) c.args.kind c.text-item.result (g.R.Rows.seen c.args.names.now) (g.R.Rows.seen l.names) (g.R.Rows.seen c.assign_text.new.names) (outcomes_of l.outs.items) (outcome_of c.in_ok-out.out) l.invariant.goes_on
-          (subst (λ (text : List ℕ). TextSays c.args.kind (name_of text) (g.R.Rows.seen l.names) (outcome_of c.in_ok-out.out) (g.R.Rows.seen c.assign_text.new.names)) c.list.ensures c.in_ok-out.ensures.ok));
+          subst (λ (x : List NameOf × List IdTold). GoesOn c.args.rule.now.patterns x.0 (g.R.Rows.seen c.args.names.now) x.1 (g.R.Rows.seen c.assign_text.new.names)) (λ i. (sym texts i, sym outs i))
+          (goes_more c.args.rule.now.patterns (of_kind c.args.kind (take l.text-index c.args.texts.now)) c.args.kind c.text-item.result (g.R.Rows.seen c.args.names.now) (g.R.Rows.seen l.names) (g.R.Rows.seen c.assign_text.new.names) (outcomes_of l.outs.items) (outcome_of c.in_ok-out.out) l.invariant.goes_on
+          (subst (λ (text : List ℕ). TextSays c.args.rule.now.patterns c.args.kind (name_of text) (g.R.Rows.seen l.names) (outcome_of c.in_ok-out.out) (g.R.Rows.seen c.assign_text.new.names)) c.list.ensures c.in_ok-out.ensures.ok));
       each = ap length c.in-Ok.ensures.items ∙ length_push l.outs.items c.in_ok-out.out ∙ ap (λ (n : ℕ). n + 1) l.invariant.each;
       grows = let a = l.invariant.grows in let b = c.in_ok-out.ensures.stops.grows in omega (arith, a, b);
     }
@@ -41,9 +41,9 @@ pub returns-in_err-out-clause-err : goal.returns-in_err-out-clause-err
 returns-in_err-out-clause-err g c =
     let l = c.loop-text in
     at_err c.from_residual.result
-    (ends_more (of_kind c.args.kind (take l.text-index c.args.texts.now)) (of_kind c.args.kind (drop (l.text-index + 1) c.args.texts.now)) (of_kind c.args.kind c.args.texts.now) c.args.kind c.text-item.result (g.R.Rows.seen c.args.names.now) (g.R.Rows.seen l.names) (g.R.Rows.seen c.assign_text.new.names) (outcomes_of l.outs.items)
+    (ends_more c.args.rule.now.patterns (of_kind c.args.kind (take l.text-index c.args.texts.now)) (of_kind c.args.kind (drop (l.text-index + 1) c.args.texts.now)) (of_kind c.args.kind c.args.texts.now) c.args.kind c.text-item.result (g.R.Rows.seen c.args.names.now) (g.R.Rows.seen l.names) (g.R.Rows.seen c.assign_text.new.names) (outcomes_of l.outs.items)
     (split_map (λ (text : List ℕ). (c.args.kind, text)) c.args.texts.now l.text-index c.text-item.result c.loop-text-test.true c.text-item.is) l.invariant.goes_on
-    (subst (λ (text : List ℕ). TextBegun c.args.kind (name_of text) (g.R.Rows.seen l.names) (g.R.Rows.seen c.assign_text.new.names)) c.list.ensures c.in_err-out.ensures.err))
+    (subst (λ (text : List ℕ). TextBegun c.args.rule.now.patterns c.args.kind (name_of text) (g.R.Rows.seen l.names) (g.R.Rows.seen c.assign_text.new.names)) c.list.ensures c.in_err-out.ensures.err))
 
 pub returns-in-Err-clause-made : goal.returns-in-Err-clause-made
 returns-in-Err-clause-made g c =
@@ -53,7 +53,7 @@ returns-in-Err-clause-made g c =
 pub returns-in-Err-clause-err : goal.returns-in-Err-clause-err
 returns-in-Err-clause-err g c =
     let l = c.loop-text in
-    ends_there ((of_kind c.args.kind (take l.text-index c.args.texts.now)) ++ (c.args.kind, c.text-item.result) ∷ []) (of_kind c.args.kind (drop (l.text-index + 1) c.args.texts.now)) (of_kind c.args.kind c.args.texts.now) (g.R.Rows.seen c.args.names.now) (g.R.Rows.seen c.assign_text.new.names) (outcomes_of l.outs.items ++ outcome_of c.in_ok-out.out ∷ [])
+    ends_there c.args.rule.now.patterns ((of_kind c.args.kind (take l.text-index c.args.texts.now)) ++ (c.args.kind, c.text-item.result) ∷ []) (of_kind c.args.kind (drop (l.text-index + 1) c.args.texts.now)) (of_kind c.args.kind c.args.texts.now) (g.R.Rows.seen c.args.names.now) (g.R.Rows.seen c.assign_text.new.names) (outcomes_of l.outs.items ++ outcome_of c.in_ok-out.out ∷ [])
     (behind_map (λ (text : List ℕ). (c.args.kind, text)) c.args.texts.now l.text-index c.text-item.result c.loop-text-test.true c.text-item.is)
-    (goes_more (of_kind c.args.kind (take l.text-index c.args.texts.now)) c.args.kind c.text-item.result (g.R.Rows.seen c.args.names.now) (g.R.Rows.seen l.names) (g.R.Rows.seen c.assign_text.new.names) (outcomes_of l.outs.items) (outcome_of c.in_ok-out.out) l.invariant.goes_on
-    (subst (λ (text : List ℕ). TextSays c.args.kind (name_of text) (g.R.Rows.seen l.names) (outcome_of c.in_ok-out.out) (g.R.Rows.seen c.assign_text.new.names)) c.list.ensures c.in_ok-out.ensures.ok))
+    (goes_more c.args.rule.now.patterns (of_kind c.args.kind (take l.text-index c.args.texts.now)) c.args.kind c.text-item.result (g.R.Rows.seen c.args.names.now) (g.R.Rows.seen l.names) (g.R.Rows.seen c.assign_text.new.names) (outcomes_of l.outs.items) (outcome_of c.in_ok-out.out) l.invariant.goes_on
+    (subst (λ (text : List ℕ). TextSays c.args.rule.now.patterns c.args.kind (name_of text) (g.R.Rows.seen l.names) (outcome_of c.in_ok-out.out) (g.R.Rows.seen c.assign_text.new.names)) c.list.ensures c.in_ok-out.ensures.ok))

@@ -6,7 +6,7 @@ use Rattle.http_assign.proofs.assign_lists.assign_texts.Given as goal
 abbrev pub invariant-loop-text : goal.invariant-loop-text
 invariant-loop-text g l = record {
   made : MadeSome (g.R.Rows.seen l.fn.names) (g.R.Rows.seen l.names);
-  goes_on : GoesOn (of_kind l.kind (take l.text-index l.texts)) (g.R.Rows.seen l.fn.names) (outcomes_of l.outs.items) (g.R.Rows.seen l.names);
+  goes_on : GoesOn l.rule.patterns (of_kind l.kind (take l.text-index l.texts)) (g.R.Rows.seen l.fn.names) (outcomes_of l.outs.items) (g.R.Rows.seen l.names);
   each : length l.outs.items ≡ l.text-index;
   grows : g.R.Rows.stops l.fn.names ≤ g.R.Rows.stops l.names;
 }

@@ -8,10 +8,10 @@ use Rattle.lone_store.proofs.run_store.alone.Goals as goal
 
 pub make-requires-clause-base : goal.make-requires-clause-base
 make-requires-clause-base c =
-    let none : c.in_ok-body.body ≡ empty = search rules in
+    let none : c.in_ok-body.body.content ≡ empty = search rules in
     subst IsBase (sym none) empty_base
 
 pub returns : goal.returns
 returns c =
-    let none : c.in_ok-body.body ≡ empty = search rules in
+    let none : c.in_ok-body.body.content ≡ empty = search rules in
     record { seen = c.in_ok-rows.ensures.seen ∙ ap (λ (s : Store). whole_seen (opened s 1) 1 true) none; possible = c.in_ok-rows.ensures.possible }

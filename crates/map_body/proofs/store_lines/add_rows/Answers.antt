@@ -11,18 +11,15 @@ use Rattle.map_body.proofs.Rise.{row_rises}
 
 pub add_row-requires : goal.add_row-requires
 add_row-requires c =
-    row_rises c.args.table c.in-Some.bytes.now c.in-Some.row.now c.loop-bytes.bytes-iterator c.next.new.self (c.args.listing.now ++ lines_in c.args.table c.args.rows) c.loop-bytes.listing c.in-Some.ensures.steps c.loop-bytes.invariant c.requires
-
-pub loop-bytes-init : goal.loop-bytes-init
-loop-bytes-init c = ap (λ (r : List (List ℕ × CellMap)). c.args.listing.now ++ lines_in c.args.table r) c.into_iter-bytes-iterator.ensures.into_iter_gives
+    row_rises c.args.table c.in-Some.bytes.now c.in-Some.row.now c.loop-bytes.rows c.next.new.self (c.args.listing.now ++ lines_in c.args.table c.args.rows) c.loop-bytes.listing c.in-Some.ensures c.loop-bytes.invariant c.requires
 
 pub loop-bytes-preserved : goal.loop-bytes-preserved
 loop-bytes-preserved c =
     ap (λ (l : List ListLine). l ++ lines_in c.args.table c.next.new.self) c.in_ok-add_row.ensures
     ∙ joined c.loop-bytes.listing (map line_of (map (placed (record { table = c.args.table; bytes = c.in-Some.bytes.now })) (entries c.in-Some.row.now))) (lines_in c.args.table c.next.new.self)
     ∙ ap (λ (l : List ListLine). c.loop-bytes.listing ++ l) (sym (lines_next c.args.table c.in-Some.bytes.now c.in-Some.row.now c.next.new.self))
-    ∙ ap (λ (r : List (List ℕ × CellMap)). c.loop-bytes.listing ++ lines_in c.args.table r) (sym c.in-Some.ensures.steps)
+    ∙ ap (λ (r : List (List ℕ × CellMap)). c.loop-bytes.listing ++ lines_in c.args.table r) (sym c.in-Some.ensures)
     ∙ c.loop-bytes.invariant
 
 pub returns : goal.returns
-returns c = sym (nothing_behind c.loop-bytes.listing) ∙ ap (λ (r : List (List ℕ × CellMap)). c.loop-bytes.listing ++ lines_in c.args.table r) (sym c.in-None.ensures.steps.0) ∙ c.loop-bytes.invariant
+returns c = sym (nothing_behind c.loop-bytes.listing) ∙ ap (λ (r : List (List ℕ × CellMap)). c.loop-bytes.listing ++ lines_in c.args.table r) (sym c.in_default.ensures.0) ∙ c.loop-bytes.invariant

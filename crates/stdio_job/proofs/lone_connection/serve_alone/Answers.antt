@@ -1,5 +1,6 @@
 use Rattle.std.proofs.Common.{[], refl}
 use Rattle.std.proofs.KnownBytes.{Appends-nil, Consumes-nil}
+use Rattle.point_put.specs.Admissions.{admission}
 use Rattle.stdio_job.proofs.Alone.{none_served, nothing_fills, served_alone}
 use Rattle.stdio_job.proofs.lone_connection.serve_alone.Goals as goal
 
@@ -14,7 +15,7 @@ returns-in-Ok-clause-served g c =
       leaves = s.leaves;
       gives = s.gives;
       ticks = s.ticks;
-      so = (served_alone c.args.config.now _ _ s.input s.output s.times c.serve_conn-served.result c.in-Ok.ensures.fresh s.so.0, s.so.1);
+      so = (served_alone (admission c.args.config.now c.args.rule.now.patterns) _ _ s.input s.output s.times c.serve_conn-served.result c.in-Ok.ensures.fresh s.so.0, s.so.1);
     }
 
 pub returns-in-Err-clause-served : goal.returns-in-Err-clause-served
@@ -28,5 +29,5 @@ returns-in-Err-clause-served g c =
       leaves = Consumes-nil (s.left c.args.source.now);
       gives = Appends-nil (g.K.Sink.held c.args.sink.now);
       ticks = refl;
-      so = (none_served c.args.config.now, nothing_fills);
+      so = (none_served (admission c.args.config.now c.args.rule.now.patterns), nothing_fills);
     }

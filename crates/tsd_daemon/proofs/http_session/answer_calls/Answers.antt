@@ -1,5 +1,6 @@
 use Rattle.std.proofs.Common.{◌∙◌, refl, subst, arith}
 use Rattle.std.specs.Prelude.{Option, None, Some}
+use Rattle.point_put.specs.Admissions.{admission}
 use Rattle.http_exchange.specs.declared.http_call.Call.{Call}
 use Rattle.http_exchange.specs.HttpSessions.{Turns}
 use Rattle.tsd_daemon.specs.Talks.{http_to_come}
@@ -12,7 +13,7 @@ use Rattle.tsd_daemon.proofs.http_session.answer_calls.Goals as goal
 pub returns-in-Err-clause-moves : goal.returns-in-Err-clause-moves
 returns-in-Err-clause-moves g c = λ from t le k.
     let held = g.K.Sink.held in
-    talk_broken c.args.config.now from (record t { moments = g.C.Clock.moments c.loop-sink.clock }) (record { seen = g.R.Rows.seen c.loop-sink.names; held = held c.loop-sink.sink; queue = c.loop-sink.queue; waiting = c.loop-sink.session.replies; counts = c.loop-sink.session.counts })
+    talk_broken (admission c.args.config.now c.args.rule.now.patterns) from (record t { moments = g.C.Clock.moments c.loop-sink.clock }) (record { seen = g.R.Rows.seen c.loop-sink.names; held = held c.loop-sink.sink; queue = c.loop-sink.queue; waiting = c.loop-sink.session.replies; counts = c.loop-sink.session.counts })
     (held c.break_off.new.sink) c.break_off.result (http_to_come c.loop-sink.calls) le (c.loop-sink.invariant.moves from t le k) c.break_off.ensures.gives
 
 pub returns-in-Err-clause-causes : goal.returns-in-Err-clause-causes
@@ -27,7 +28,7 @@ returns-in-Err-clause-causes g c =
 pub returns-in-Ok-None-clause-moves : goal.returns-in-Ok-None-clause-moves
 returns-in-Ok-None-clause-moves g c = λ from t le k.
     let w = subst (λ (o : Option Call). Turns c.loop-sink.calls o c.turn.new.self) c.in-Ok-None.field-0-is c.in-Ok-None.ensures.ok in
-    talk_come c.args.config.now from (record t { moments = g.C.Clock.moments c.loop-sink.clock }) _ (http_to_come c.loop-sink.calls) (http_to_come c.turn.new.self) (c.loop-sink.invariant.moves from t le k) (same_calls c.loop-sink.calls c.turn.new.self w.same)
+    talk_come (admission c.args.config.now c.args.rule.now.patterns) from (record t { moments = g.C.Clock.moments c.loop-sink.clock }) _ (http_to_come c.loop-sink.calls) (http_to_come c.turn.new.self) (c.loop-sink.invariant.moves from t le k) (same_calls c.loop-sink.calls c.turn.new.self w.same)
 
 pub returns-in-Ok-None-clause-none : goal.returns-in-Ok-None-clause-none
 returns-in-Ok-None-clause-none g c = λ same.
@@ -41,7 +42,7 @@ returns-in-Some-clause-moves g c =
     let seen = g.R.Rows.seen in
     let held = g.K.Sink.held in
     let moments = g.C.Clock.moments in
-    clock_moves_on c.args.config.now (record { seen = seen c.args.names.now; held = held c.args.sink.now; queue = c.args.queue.now; waiting = c.args.session.now.replies; counts = c.args.session.now.counts }) (record { seen = seen c.loop-sink.names; held = held c.loop-sink.sink; queue = c.loop-sink.queue; waiting = c.loop-sink.session.replies; counts = c.loop-sink.session.counts })
+    clock_moves_on (admission c.args.config.now c.args.rule.now.patterns) (record { seen = seen c.args.names.now; held = held c.args.sink.now; queue = c.args.queue.now; waiting = c.args.session.now.replies; counts = c.args.session.now.counts }) (record { seen = seen c.loop-sink.names; held = held c.loop-sink.sink; queue = c.loop-sink.queue; waiting = c.loop-sink.session.replies; counts = c.loop-sink.session.counts })
     (record { seen = seen c.exchange_call.new.names; held = held c.exchange_call.new.sink; queue = c.exchange_call.new.queue; waiting = c.exchange_call.new.session.replies; counts = c.exchange_call.new.session.counts })
     (moments c.args.clock.now) (moments c.loop-sink.clock) (moments c.exchange_call.new.clock) (http_to_come c.args.calls.now) (http_to_come c.loop-sink.calls) (http_to_come c.turn.new.self) (Some c.in-Some.end) c.loop-sink.invariant.moves (c.in-Some.ensures.moves (http_to_come c.loop-sink.calls) (http_to_come c.turn.new.self) next)
 
@@ -67,7 +68,7 @@ loop-sink-preserved g c =
     let stops = g.R.Rows.stops in
     let ticks = g.C.Clock.faults in
     record {
-      moves = clock_moves_on c.args.config.now (record { seen = seen c.args.names.now; held = held c.args.sink.now; queue = c.args.queue.now; waiting = c.args.session.now.replies; counts = c.args.session.now.counts })
+      moves = clock_moves_on (admission c.args.config.now c.args.rule.now.patterns) (record { seen = seen c.args.names.now; held = held c.args.sink.now; queue = c.args.queue.now; waiting = c.args.session.now.replies; counts = c.args.session.now.counts })
           (record { seen = seen c.loop-sink.names; held = held c.loop-sink.sink; queue = c.loop-sink.queue; waiting = c.loop-sink.session.replies; counts = c.loop-sink.session.counts })
           (record { seen = seen c.exchange_call.new.names; held = held c.exchange_call.new.sink; queue = c.exchange_call.new.queue; waiting = c.exchange_call.new.session.replies; counts = c.exchange_call.new.session.counts })
           (moments c.args.clock.now) (moments c.loop-sink.clock) (moments c.exchange_call.new.clock) (http_to_come c.args.calls.now) (http_to_come c.loop-sink.calls) (http_to_come c.turn.new.self) None c.loop-sink.invariant.moves (c.in_default.ensures.moves (http_to_come c.loop-sink.calls) (http_to_come c.turn.new.self) next);

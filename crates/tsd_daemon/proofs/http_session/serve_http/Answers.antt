@@ -1,4 +1,5 @@
 use Rattle.std.proofs.Common.{ℕ, ◌∙◌, ◌++◌, List, [], map, refl, sym, subst, arith, ap}
+use Rattle.point_put.specs.Admissions.{admission}
 use Rattle.tsd_daemon.specs.declared.counts.Counts.{Counts}
 use Rattle.tsd_daemon.specs.ConnReplies.{no_counts}
 use Rattle.tsd_daemon.specs.ConnRequests.{http_asks}
@@ -12,18 +13,18 @@ use Rattle.tsd_daemon.proofs.http_session.serve_http.Goals as goal
 
 pub returns-in_default-clause-served : goal.returns-in_default-clause-served
 returns-in_default-clause-served g c = λ from k.
-    talk_memory c.args.config.now from _ (record { seen = g.R.Rows.seen c.args.names.now; held = g.K.Sink.held c.args.sink.now; queue = c.args.queue.now; waiting = []; counts = no_counts }) (λ more. http_asks (c.args.input.now.piece ++ more)) c.requires k refl
+    talk_memory (admission c.args.config.now c.args.rule.now.patterns) from _ (record { seen = g.R.Rows.seen c.args.names.now; held = g.K.Sink.held c.args.sink.now; queue = c.args.queue.now; waiting = []; counts = no_counts }) (λ more. http_asks (c.args.input.now.piece ++ more)) c.requires k refl
 
 pub returns-in-Err-clause-served : goal.returns-in-Err-clause-served
 returns-in-Err-clause-served g c = λ from k.
     let l = c.loop-session in
-    talk_memory c.args.config.now from _ (record { seen = g.R.Rows.seen l.names; held = g.K.Sink.held l.sink; queue = l.queue; waiting = l.session.replies; counts = l.session.counts }) (λ more. http_to_come l.calls (l.input.piece ++ more))
+    talk_memory (admission c.args.config.now c.args.rule.now.patterns) from _ (record { seen = g.R.Rows.seen l.names; held = g.K.Sink.held l.sink; queue = l.queue; waiting = l.session.replies; counts = l.session.counts }) (λ more. http_to_come l.calls (l.input.piece ++ more))
     l.invariant.most (l.invariant.talks from k) l.invariant.quiet
 
 pub returns-in-Some-clause-served : goal.returns-in-Some-clause-served
 returns-in-Some-clause-served g c = λ from k.
     let l = c.loop-session in
-    let fed = talk_come c.args.config.now from _ (record { seen = g.R.Rows.seen l.names; held = g.K.Sink.held l.sink; queue = l.queue; waiting = l.session.replies; counts = l.session.counts })
+    let fed = talk_come (admission c.args.config.now c.args.rule.now.patterns) from _ (record { seen = g.R.Rows.seen l.names; held = g.K.Sink.held l.sink; queue = l.queue; waiting = l.session.replies; counts = l.session.counts })
     (λ more. http_to_come l.calls (l.input.piece ++ more)) (http_to_come c.feed.new.self) (l.invariant.talks from k) (fed_calls l.calls c.feed.new.self c.piece.result.now l.input.piece c.piece.ensures c.in-Ok-feed.ensures.ok) in
     c.in-Some.ensures.moves from (record { taken = g.S.Source.taken l.source; left = g.S.Source.left l.source; moments = g.C.Clock.moments l.clock; size = l.input.taken }) l.invariant.most fed
 
@@ -41,10 +42,10 @@ loop-session-init g c = record {
       let seen = g.R.Rows.seen c.args.names.now in
       let held = g.K.Sink.held c.args.sink.now in
       let t : Taken = record { taken = g.S.Source.taken c.args.source.now; left = g.S.Source.left c.args.source.now; moments = g.C.Clock.moments c.args.clock.now; size = c.args.input.now.taken } in
-      let come = talk_come c.args.config.now from t (record { seen = seen; held = held; queue = c.args.queue.now; waiting = []; counts = no_counts })
+      let come = talk_come (admission c.args.config.now c.args.rule.now.patterns) from t (record { seen = seen; held = held; queue = c.args.queue.now; waiting = []; counts = no_counts })
       (λ more. http_asks (c.args.input.now.piece ++ more)) (λ more. http_to_come c.make-calls.result (c.args.input.now.piece ++ more)) k (λ more. ap (map Http) (c.make-calls.ensures (c.args.input.now.piece ++ more))) in
-      subst (λ (n : Counts). Talks c.args.config.now from t (record { seen = seen; held = held; queue = c.args.queue.now; waiting = c.make-session.result.replies; counts = n }) (λ more. http_to_come c.make-calls.result (c.args.input.now.piece ++ more))) (sym c.make-session.ensures.counts)
-      (subst (λ (w : List ℕ). Talks c.args.config.now from t (record { seen = seen; held = held; queue = c.args.queue.now; waiting = w; counts = no_counts }) (λ more. http_to_come c.make-calls.result (c.args.input.now.piece ++ more))) (sym c.make-session.ensures.replies) come);
+      subst (λ (n : Counts). Talks (admission c.args.config.now c.args.rule.now.patterns) from t (record { seen = seen; held = held; queue = c.args.queue.now; waiting = c.make-session.result.replies; counts = n }) (λ more. http_to_come c.make-calls.result (c.args.input.now.piece ++ more))) (sym c.make-session.ensures.counts)
+      (subst (λ (w : List ℕ). Talks (admission c.args.config.now c.args.rule.now.patterns) from t (record { seen = seen; held = held; queue = c.args.queue.now; waiting = w; counts = no_counts }) (λ more. http_to_come c.make-calls.result (c.args.input.now.piece ++ more))) (sym c.make-session.ensures.replies) come);
   quiet = c.make-session.ensures.replies;
   most = c.requires;
   reads = omega arith;
@@ -61,9 +62,9 @@ returns-in-Err-next_piece-clause-served g c = λ from k.
     let seen = g.R.Rows.seen in
     let held = g.K.Sink.held in
     let s = g.S.Source in
-    let fed = talk_come c.args.config.now from _ (record { seen = seen l.names; held = held l.sink; queue = l.queue; waiting = l.session.replies; counts = l.session.counts })
+    let fed = talk_come (admission c.args.config.now c.args.rule.now.patterns) from _ (record { seen = seen l.names; held = held l.sink; queue = l.queue; waiting = l.session.replies; counts = l.session.counts })
     (λ more. http_to_come l.calls (l.input.piece ++ more)) (http_to_come c.feed.new.self) (l.invariant.talks from k) (fed_calls l.calls c.feed.new.self c.piece.result.now l.input.piece c.piece.ensures c.in-Ok-feed.ensures.ok) in
-    talk_no_piece c.args.config.now from (s.taken l.source) (s.left l.source) (s.taken c.next_piece.new.source) (s.left c.next_piece.new.source) (g.C.Clock.moments c.answer_calls.new.clock)
+    talk_no_piece (admission c.args.config.now c.args.rule.now.patterns) from (s.taken l.source) (s.left l.source) (s.taken c.next_piece.new.source) (s.left c.next_piece.new.source) (g.C.Clock.moments c.answer_calls.new.clock)
     (record { seen = seen c.answer_calls.new.names; held = held c.answer_calls.new.sink; queue = c.answer_calls.new.queue; waiting = c.answer_calls.new.session.replies; counts = c.answer_calls.new.session.counts })
     (held c.next_piece.new.sink) l.input c.next_piece.new.input c.in-Err-next_piece.end (http_to_come c.answer_calls.new.calls) l.invariant.most (c.in_default-answer_calls.ensures.moves from (record { taken = s.taken l.source; left = s.left l.source; moments = g.C.Clock.moments l.clock; size = l.input.taken }) l.invariant.most fed) (c.in_default-answer_calls.ensures.none refl) c.in-Err-next_piece.ensures.moves
 
@@ -86,12 +87,12 @@ loop-session-preserved g c =
     let piece = c.in-Ok-next_piece.ensures in
     record {
       talks = λ from k.
-          let fed = talk_come c.args.config.now from _ (record { seen = seen l.names; held = held l.sink; queue = l.queue; waiting = l.session.replies; counts = l.session.counts })
+          let fed = talk_come (admission c.args.config.now c.args.rule.now.patterns) from _ (record { seen = seen l.names; held = held l.sink; queue = l.queue; waiting = l.session.replies; counts = l.session.counts })
           (λ more. http_to_come l.calls (l.input.piece ++ more)) (http_to_come c.feed.new.self) (i.talks from k) (fed_calls l.calls c.feed.new.self c.piece.result.now l.input.piece c.piece.ensures c.in-Ok-feed.ensures.ok) in
-          let talked = talk_piece c.args.config.now from (s.taken l.source) (s.left l.source) (s.taken c.next_piece.new.source) (s.left c.next_piece.new.source) (g.C.Clock.moments c.answer_calls.new.clock)
+          let talked = talk_piece (admission c.args.config.now c.args.rule.now.patterns) from (s.taken l.source) (s.left l.source) (s.taken c.next_piece.new.source) (s.left c.next_piece.new.source) (g.C.Clock.moments c.answer_calls.new.clock)
           (record { seen = seen c.answer_calls.new.names; held = held c.answer_calls.new.sink; queue = c.answer_calls.new.queue; waiting = c.answer_calls.new.session.replies; counts = c.answer_calls.new.session.counts })
           (held c.next_piece.new.sink) l.input c.next_piece.new.input (http_to_come c.answer_calls.new.calls) (asked.moves from (record { taken = s.taken l.source; left = s.left l.source; moments = g.C.Clock.moments l.clock; size = l.input.taken }) i.most fed) piece.moves in
-          subst (λ (w : List ℕ). Talks c.args.config.now from (record { taken = s.taken c.next_piece.new.source; left = s.left c.next_piece.new.source; moments = g.C.Clock.moments c.answer_calls.new.clock; size = c.next_piece.new.input.taken })
+          subst (λ (w : List ℕ). Talks (admission c.args.config.now c.args.rule.now.patterns) from (record { taken = s.taken c.next_piece.new.source; left = s.left c.next_piece.new.source; moments = g.C.Clock.moments c.answer_calls.new.clock; size = c.next_piece.new.input.taken })
           (record { seen = seen c.answer_calls.new.names; held = held c.next_piece.new.sink; queue = c.answer_calls.new.queue; waiting = w; counts = c.answer_calls.new.session.counts }) (λ more. http_to_come c.answer_calls.new.calls (c.next_piece.new.input.piece ++ more)))
           (sym piece.none) talked;
       quiet = piece.none;

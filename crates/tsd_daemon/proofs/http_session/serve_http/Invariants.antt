@@ -1,4 +1,5 @@
 use Rattle.std.proofs.Common.{◌≡◌, ◌-◌, ◌^◌, ◌≤◌, ◌++◌, []}
+use Rattle.point_put.specs.Admissions.{admission}
 use Rattle.tsd_daemon.specs.ConnReplies.{no_counts}
 use Rattle.tsd_daemon.specs.ConnRequests.{http_asks}
 use Rattle.tsd_daemon.specs.Talks.{MovesOn, http_to_come}
@@ -11,7 +12,7 @@ invariant-loop-session g l =
     let held = g.K.Sink.held in
     let s = g.S.Source in
     record {
-      talks : MovesOn l.config (record { taken = s.taken l.fn.source; left = s.left l.fn.source; moments = g.C.Clock.moments l.fn.clock; size = l.fn.input.taken })
+      talks : MovesOn (admission l.config l.rule.patterns) (record { taken = s.taken l.fn.source; left = s.left l.fn.source; moments = g.C.Clock.moments l.fn.clock; size = l.fn.input.taken })
           (record { seen = seen l.fn.names; held = held l.fn.sink; queue = l.fn.queue; waiting = []; counts = no_counts }) (λ more. http_asks (l.fn.input.piece ++ more))
           (record { taken = s.taken l.source; left = s.left l.source; moments = g.C.Clock.moments l.clock; size = l.input.taken })
           (record { seen = seen l.names; held = held l.sink; queue = l.queue; waiting = l.session.replies; counts = l.session.counts }) (λ more. http_to_come l.calls (l.input.piece ++ more));

@@ -1,5 +1,6 @@
 use Rattle.std.proofs.Common.{◌≡◌, length, []}
 use Rattle.std.specs.Prelude.{None}
+use Rattle.point_put.specs.Admissions.{admission}
 use Rattle.telnet_put.specs.Sessions.{to_come}
 use Rattle.tsd_daemon.specs.Talks.{Causes, Moves, telnet_to_come}
 use Rattle.tsd_daemon.proofs.telnet_session.answer_all.Given as goal
@@ -10,7 +11,7 @@ invariant-loop-sink g l =
     let seen = g.R.Rows.seen in
     let held = g.K.Sink.held in
     record {
-      moves : Moves l.config (record { seen = seen l.fn.names; held = held l.fn.sink; queue = l.fn.queue; waiting = l.fn.session.replies; counts = l.fn.session.counts }) (telnet_to_come l.fn.lines)
+      moves : Moves (admission l.config l.rule.patterns) (record { seen = seen l.fn.names; held = held l.fn.sink; queue = l.fn.queue; waiting = l.fn.session.replies; counts = l.fn.session.counts }) (telnet_to_come l.fn.lines)
           (record { seen = seen l.names; held = held l.sink; queue = l.queue; waiting = l.session.replies; counts = l.session.counts }) (telnet_to_come l.lines) None;
       causes : Causes (g.K.Sink.faults l.fn.sink) (g.K.Sink.faults l.sink) (g.R.Rows.stops l.fn.names) (g.R.Rows.stops l.names) None;
       number : g.K.Sink.number l.sink ≡ g.K.Sink.number l.fn.sink;

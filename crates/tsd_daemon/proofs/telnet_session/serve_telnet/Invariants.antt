@@ -1,5 +1,6 @@
 use Rattle.std.proofs.Common.{◌≡◌, ℕ, ◌-◌, ◌^◌, ◌≤◌, ◌++◌, List, []}
 use Rattle.std.specs.Prelude.{Option}
+use Rattle.point_put.specs.Admissions.{admission}
 use Rattle.tsd_daemon.specs.ConnReplies.{no_counts}
 use Rattle.tsd_daemon.specs.ConnRequests.{telnet_asks}
 use Rattle.tsd_daemon.specs.Talks.{MovesOn, telnet_to_come}
@@ -12,7 +13,7 @@ invariant-loop-session g l =
     let held = g.K.Sink.held in
     let s = g.S.Source in
     record {
-      talks : (moments : Option (List ℕ)) → MovesOn l.config (record { taken = s.taken l.fn.source; left = s.left l.fn.source; moments = moments; size = l.fn.input.taken })
+      talks : (moments : Option (List ℕ)) → MovesOn (admission l.config l.rule.patterns) (record { taken = s.taken l.fn.source; left = s.left l.fn.source; moments = moments; size = l.fn.input.taken })
           (record { seen = seen l.fn.names; held = held l.fn.sink; queue = l.fn.queue; waiting = []; counts = no_counts }) (λ more. telnet_asks (l.fn.input.piece ++ more))
           (record { taken = s.taken l.source; left = s.left l.source; moments = moments; size = l.input.taken })
           (record { seen = seen l.names; held = held l.sink; queue = l.queue; waiting = l.session.replies; counts = l.session.counts }) (λ more. telnet_to_come l.lines (l.input.piece ++ more));

@@ -1,5 +1,5 @@
-use Rattle.std.proofs.Common.{◌≡◌, subst, arith}
-use Rattle.std.specs.Prelude.{Ok, Some, None}
+use Rattle.std.proofs.Common.{subst}
+use Rattle.std.specs.Prelude.{Ok}
 use Rattle.std.proofs.lemmas.Result.{err_from_is_err_and}
 use Rattle.batch_job.specs.Pending.{so_far}
 use Rattle.tsd_run.specs.Inputs.{ReadsInputTo}
@@ -7,7 +7,7 @@ use Rattle.tsd_run.proofs.RunLemmas.{answer_cause, line_refused, not_read, not_t
 use Rattle.tsd_run.proofs.run.over_store.Goals as goal
 
 pub read_points-requires : goal.read_points-requires
-read_points-requires g c = record { empty = c.make-gathered.ensures (g.R.Rows.seen c.args.store.now) c.requires.naming }
+read_points-requires g c = record { allows = c.requires.allows; empty = c.make-gathered.ensures (g.R.Rows.seen c.args.store.now) c.requires.naming }
 
 pub answer-requires-clause-gathers : goal.answer-requires-clause-gathers
 answer-requires-clause-gathers g c =

@@ -1,10 +1,9 @@
 use Rattle.std.proofs.Common.{List, ℕ, subst, sym, take, drop}
-use Rattle.std.specs.Prelude.{Ok, Err}
 use Rattle.std.specs.Io.KnownBytes.{Appends}
 use Rattle.std.proofs.lemmas.List.{take-append-drop}
 use Rattle.command_words.specs.PlainAsked.{batch_of}
 use Rattle.tsd_run.specs.Runs.{Works}
-use Rattle.tsd_run.proofs.RunLemmas.{IsPrinted, printed_status, runs_front, runs_fault, runs_printed}
+use Rattle.tsd_run.proofs.RunLemmas.{IsPrinted, printed_status, runs_front, runs_printed}
 use Rattle.tsd_run.proofs.run.print.Goals as goal
 
 pub returns-in-Ok-give_all-clause-runs : goal.returns-in-Ok-give_all-clause-runs

@@ -1,21 +1,17 @@
-use Rattle.std.proofs.Common.{[], ◌∷◌, sym, ap, subst, ◌∙◌, refl}
+use Rattle.std.proofs.Common.{sym, ap, subst, ◌∙◌}
 use Rattle.map_body.proofs.store_maps.MapBody.of.Goals as goal
-use Rattle.map_body.proofs.Bodies.{empty_whole, empty_row}
 use Rattle.list_lemmas.proofs.ListCuts.{take_none, take_whole}
 use Rattle.map_body.proofs.Listings.{store_next}
 use Rattle.cell_model.specs.Store.{written}
 use Rattle.cell_model.specs.Rising.{LinesRise}
 use Rattle.cell_model.specs.Listed.{store_of}
 
-pub invariant_of-body : goal.invariant_of-body
-invariant_of-body c = (empty_row c.make.result (0 ∷ []) c.make.ensures, refl)
-
 pub loop-line-init : goal.loop-line-init
-loop-line-init c = empty_whole c.make.result c.make-2.result c.make-3.result c.make-4.result c.make.ensures c.make-2.ensures c.make-3.ensures c.make-4.ensures ∙ sym (ap store_of (take_none c.lines-line-items.result.now))
+loop-line-init c = c.make-body.ensures ∙ sym (ap store_of (take_none c.lines-line-items.result.now))
 
 pub loop-line-preserved : goal.loop-line-preserved
 loop-line-preserved c =
-    c.in_ok-load.ensures
+    c.in_ok-load.ensures.ok
     ∙ (λ i. written (c.loop-line.invariant i) (record { table = (c.line-item.is i).table; bytes = (c.line-item.is i).row }) (c.line-item.is i).qual (c.line-item.is i).value 0)
     ∙ sym (store_next c.lines-line-items.result.now c.loop-line.line-index c.line-item.result (subst LinesRise (sym c.lines-line-items.ensures.lines) c.lines-line-items.ensures.rising) c.loop-line-test.true)
 

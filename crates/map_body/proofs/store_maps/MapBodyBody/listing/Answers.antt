@@ -6,7 +6,7 @@ use Rattle.std.specs.Prelude.{slice_index_or}
 use Rattle.map_body.proofs.Bodies.{at_table}
 use Rattle.row_key.specs.declared.tables.Table.TheVariants.{Ids, Names, Points}
 use Rattle.map_body.proofs.Listings.{all_listed}
-use Rattle.map_body.specs.TableRows.{rows_below, rows_from}
+use Rattle.row_pages.specs.RowMaps.{rows_below, rows_from}
 use Rattle.map_body.proofs.Rise.{below_rise, counters_rise, ids_rise, names_rise, points_rise}
 use Rattle.cell_model.specs.Rising.{LinesRise}
 use Rattle.cell_model.specs.declared.row.ListLine.{ListLine}

@@ -4,7 +4,7 @@ use Rattle.map_body.proofs.store_maps.MapBodyBody.next_row.Goals as goal
 use Rattle.std.specs.FinMap.{entries}
 use Rattle.std.specs.Prelude as std
 use Rattle.packed_cells.specs.Keyed.{CellMap}
-use Rattle.map_body.specs.TableRows.{Rows}
+use Rattle.row_pages.specs.RowMaps.{Rows}
 use Rattle.std.specs.Prelude.{slice_index_or}
 use Rattle.map_body.proofs.Bodies.{at_table, some_next, no_next}
 use Rattle.map_body.specs.TableRows.{NoneEmpty}

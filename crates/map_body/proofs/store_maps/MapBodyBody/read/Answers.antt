@@ -2,7 +2,8 @@ use Rattle.std.proofs.Common.{sym, ap, ◌∙◌, refl}
 use Rattle.map_body.proofs.store_maps.MapBodyBody.read.Goals as goal
 use Rattle.std.specs.FinMap.{empty}
 use Rattle.packed_cells.specs.Keyed.{cells_in}
-use Rattle.map_body.specs.TableRows.{Rows, row_in}
+use Rattle.map_body.specs.TableRows.{row_in}
+use Rattle.row_pages.specs.RowMaps.{Rows}
 use Rattle.std.specs.Prelude.{slice_index_or}
 use Rattle.map_body.proofs.Bodies.{at_table, counter_cells_read, row_cells_read}
 use Rattle.map_body.proofs.Bodies.{cells_none}

@@ -1,11 +1,11 @@
 use Rattle.std.proofs.Common.{[], ◌∷◌, length, ap, subst, ◌∙◌}
 use Rattle.map_body.proofs.store_maps.MapBodyBody.tally.Goals as goal
 use Rattle.std.specs.FinMap.{entries}
-use Rattle.map_body.specs.TableRows.{Rows}
+use Rattle.row_pages.specs.RowMaps.{Rows}
 use Rattle.std.specs.Prelude.{slice_index_or}
-use Rattle.map_body.proofs.Bodies.{at_table, counters_read, number_read, cells_counted, rows_counted}
+use Rattle.map_body.proofs.Bodies.{at_table, counters_read, number_read, rows_counted}
 use Rattle.row_key.specs.declared.tables.Table.TheVariants.{Points}
-use Rattle.map_body.specs.TableRows.{NoneEmpty, cells_among}
+use Rattle.map_body.specs.TableRows.{NoneEmpty}
 use Rattle.tsd_base.specs.declared.kinds.Kind.TheVariants.{Metric, TagKey, TagValue}
 
 pub returns-clause-counters : goal.returns-clause-counters
@@ -22,8 +22,3 @@ returns-clause-rows c =
     rw (← c.self.view_is)
     (c.len.ensures.rows ∙ ap (λ (r : Rows). length (entries r)) (at_table c.self.inside.tables Points c.number-4.result (slice_index_or c.self.inside.tables c.number-4.result c.index-self-number.result) c.self.invariant.1 c.number-4.ensures (ap (slice_index_or c.self.inside.tables c.number-4.result) c.index-self-number.is))
     ∙ rows_counted c.self.inside.tables c.self.inside.counters (subst NoneEmpty (at_table c.self.inside.tables Points c.number-4.result (slice_index_or c.self.inside.tables c.number-4.result c.index-self-number.result) c.self.invariant.1 c.number-4.ensures (ap (slice_index_or c.self.inside.tables c.number-4.result) c.index-self-number.is)) c.len.ensures.none_empty))
-
-pub returns-clause-cells : goal.returns-clause-cells
-returns-clause-cells c =
-    rw (← c.self.view_is)
-    (c.count.ensures ∙ ap (λ (r : Rows). cells_among (entries r)) (at_table c.self.inside.tables Points c.number-4.result (slice_index_or c.self.inside.tables c.number-4.result c.index-self-number.result) c.self.invariant.1 c.number-4.ensures (ap (slice_index_or c.self.inside.tables c.number-4.result) c.index-self-number.is)) ∙ cells_counted c.self.inside.tables c.self.inside.counters)

@@ -1,17 +1,17 @@
-use Rattle.std.proofs.Common.{◌∙◌}
+use Rattle.std.proofs.Common.{sym, ◌∙◌}
+use Rattle.std.specs.FinMap.{entries, entries_sorted}
+use Rattle.map_body.proofs.Ranges.{none_within, first_within, first_behind}
 use Rattle.map_body.proofs.table_rows.TableRows.next.Goals as goal
-use Rattle.std.specs.FinMap.{entries}
-use Rattle.map_body.proofs.Ranges.{none_within, first_within}
-use Rattle.map_body.proofs.Listings.{head_is}
 
-pub returns-then-ge-clause-first : goal.returns-then-ge-clause-first
-returns-then-ge-clause-first c = none_within (entries c.args.self.now) c.args.from.now c.args.to.now c.if-ge.ensures
-
-pub returns-then-ge-clause-none_empty : goal.returns-then-ge-clause-none_empty
-returns-then-ge-clause-none_empty c = rw (← c.self.view_is) c.self.invariant.0
-
-pub returns-clause-first : goal.returns-clause-first
-returns-clause-first c =
+pub returns-then-is_below-clause-first : goal.returns-then-is_below-clause-first
+returns-then-is_below-clause-first c =
     rw (← c.self.view_is)
-    (head_is (λ r. (r.0.now, r.1.now)) c.next.result c.range.result c.next.new.self c.next.ensures.steps
-    ∙ first_within c.self.inside.rows c.args.from.now c.args.to.now c.range.result c.range.ensures.ordered (c.range.ensures.between tt))
+    (first_within c.args.from.now c.args.to.now (entries c.self.inside.rows) (c.in-Some.found.0.now, c.in-Some.found.1.now) c.next.new.self (sym c.walk_from-walk.ensures ∙ c.in-Some.ensures) (sym c.is_below.ensures ∙ c.if-is_below.true))
+
+pub returns-else-is_below-clause-first : goal.returns-else-is_below-clause-first
+returns-else-is_below-clause-first c =
+    rw (← c.self.view_is)
+    (first_behind c.args.from.now c.args.to.now (entries c.self.inside.rows) (c.in-Some.found.0.now, c.in-Some.found.1.now) c.next.new.self (entries_sorted c.self.inside.rows) (sym c.walk_from-walk.ensures ∙ c.in-Some.ensures) (sym c.is_below.ensures ∙ c.if-is_below.false))
+
+pub returns-in-None-clause-first : goal.returns-in-None-clause-first
+returns-in-None-clause-first c = rw (← c.self.view_is) (none_within c.args.from.now c.args.to.now (entries c.self.inside.rows) (sym c.walk_from-walk.ensures ∙ c.in-None.ensures.0))

@@ -1,19 +1,19 @@
 use Rattle.std.proofs.Common.{◌≡◌, ℕ, ap, arith, cond}
 use Rattle.std.specs.FinMap.{insert}
-use Rattle.map_body.specs.TableRows.{rows_of, row_in}
+use Rattle.map_body.specs.TableRows.{row_in}
 use Rattle.map_body.proofs.Maps.{inserted, none_empty_set, written_some}
 use Rattle.map_body.proofs.table_rows.TableRows.put.Goals as goal
 
 pub invariant_of-self-then-branch : goal.invariant_of-self-then-branch
 invariant_of-self-then-branch c = (
-  none_empty_set (rows_of c.self.inside.rows) (rows_of c.put_cell.new.rows) c.args.row.now (insert (row_in (rows_of c.self.inside.rows) c.args.row.now) c.args.qual.now (c.args.value.now, 0)) c.self.invariant.0 (written_some (row_in (rows_of c.self.inside.rows) c.args.row.now) c.args.qual.now (c.args.value.now, 0)) c.in_ok-put_cell.ensures.ok,
+  none_empty_set c.self.inside.rows c.put_cell.new.rows c.args.row.now (insert (row_in c.self.inside.rows c.args.row.now) c.args.qual.now (c.args.value.now, 0)) c.self.invariant.0 (written_some (row_in c.self.inside.rows c.args.row.now) c.args.qual.now (c.args.value.now, 0)) c.in_ok-put_cell.ensures.ok,
   let one : ◌≡◌ {A = ℕ} (cond c.in_ok-put_cell.field-0 1 0) 1 = ap (λ b. cond b 1 0) c.if-branch.true in
       omega (arith, one, c.in_ok-put_cell.ensures.count, c.self.invariant.1),
 )
 
 pub invariant_of-self-else-branch : goal.invariant_of-self-else-branch
 invariant_of-self-else-branch c = (
-  none_empty_set (rows_of c.self.inside.rows) (rows_of c.put_cell.new.rows) c.args.row.now (insert (row_in (rows_of c.self.inside.rows) c.args.row.now) c.args.qual.now (c.args.value.now, 0)) c.self.invariant.0 (written_some (row_in (rows_of c.self.inside.rows) c.args.row.now) c.args.qual.now (c.args.value.now, 0)) c.in_ok-put_cell.ensures.ok,
+  none_empty_set c.self.inside.rows c.put_cell.new.rows c.args.row.now (insert (row_in c.self.inside.rows c.args.row.now) c.args.qual.now (c.args.value.now, 0)) c.self.invariant.0 (written_some (row_in c.self.inside.rows c.args.row.now) c.args.qual.now (c.args.value.now, 0)) c.in_ok-put_cell.ensures.ok,
   let none : ◌≡◌ {A = ℕ} (cond c.in_ok-put_cell.field-0 1 0) 0 = ap (λ b. cond b 1 0) c.if-branch.false in
       omega (arith, none, c.in_ok-put_cell.ensures.count, c.self.invariant.1),
 )
@@ -21,9 +21,9 @@ invariant_of-self-else-branch c = (
 pub returns-then-branch-clause-ok : goal.returns-then-branch-clause-ok
 returns-then-branch-clause-ok c =
     rw (← c.self.view_is)
-    (inserted (rows_of c.self.inside.rows) (rows_of c.put_cell.new.rows) c.args.row.now (insert (row_in (rows_of c.self.inside.rows) c.args.row.now) c.args.qual.now (c.args.value.now, 0)) c.in_ok-put_cell.ensures.ok)
+    (inserted c.self.inside.rows c.put_cell.new.rows c.args.row.now (insert (row_in c.self.inside.rows c.args.row.now) c.args.qual.now (c.args.value.now, 0)) c.in_ok-put_cell.ensures.ok)
 
 pub returns-else-branch-clause-ok : goal.returns-else-branch-clause-ok
 returns-else-branch-clause-ok c =
     rw (← c.self.view_is)
-    (inserted (rows_of c.self.inside.rows) (rows_of c.put_cell.new.rows) c.args.row.now (insert (row_in (rows_of c.self.inside.rows) c.args.row.now) c.args.qual.now (c.args.value.now, 0)) c.in_ok-put_cell.ensures.ok)
+    (inserted c.self.inside.rows c.put_cell.new.rows c.args.row.now (insert (row_in c.self.inside.rows c.args.row.now) c.args.qual.now (c.args.value.now, 0)) c.in_ok-put_cell.ensures.ok)

@@ -8,8 +8,8 @@ use Rattle.list_lemmas.specs.BytesOrder.{bytes_cmp}
 
 pub returns-in-Some : goal.returns-in-Some
 returns-in-Some c =
-    rw (← c.self.view_is) (c.value.ensures ∙ ap (λ (m : CellMap). option_map (λ (p : List ℕ × ℕ). p.0) (get m c.args.qual.now)) (sym (row_found c.self.inside.rows c.args.row.now c.in-Some.cells.now c.in-Some.ensures.value)))
+    rw (← c.self.view_is) (c.value.ensures ∙ ap (λ (m : CellMap). option_map (λ (p : List ℕ × ℕ). p.0) (get m c.args.qual.now)) (sym (row_found c.self.inside.rows c.args.row.now c.in-Some.cells.now c.in-Some.ensures)))
 
 pub returns-in-None : goal.returns-in-None
 returns-in-None c =
-    rw (← c.self.view_is) (ap (option_map (λ (p : List ℕ × ℕ). p.0)) (sym (get-empty bytes_cmp c.args.qual.now)) ∙ ap (λ (m : CellMap). option_map (λ (p : List ℕ × ℕ). p.0) (get m c.args.qual.now)) (sym (row_absent c.self.inside.rows c.args.row.now c.in-None.ensures.value)))
+    rw (← c.self.view_is) (ap (option_map (λ (p : List ℕ × ℕ). p.0)) (sym (get-empty bytes_cmp c.args.qual.now)) ∙ ap (λ (m : CellMap). option_map (λ (p : List ℕ × ℕ). p.0) (get m c.args.qual.now)) (sym (row_absent c.self.inside.rows c.args.row.now c.in-None.ensures)))

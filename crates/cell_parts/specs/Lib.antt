@@ -1,0 +1,3 @@
+pub mod StoreParts
+pub mod Laws
+pub mod JoinedParts

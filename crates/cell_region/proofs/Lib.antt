@@ -1,0 +1,5 @@
+mod Answered
+mod OwnRows
+mod RegionSteps
+mod RegionSums
+mod RegionOrder

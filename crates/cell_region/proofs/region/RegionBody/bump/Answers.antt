@@ -1,0 +1,9 @@
+use Rattle.std.proofs.Common.{subst, sym}
+use Rattle.cell_parts.specs.StoreParts.{is_in}
+use Rattle.cell_region.proofs.OwnRows.{Fits, bump_fits}
+use Rattle.cell_region.proofs.region.RegionBody.bump.Goals as goal
+
+pub invariant_of-self : goal.invariant_of-self
+invariant_of-self c =
+    let f = subst (Fits (is_in c.args.self.now.data_regions c.args.self.now.number)) (sym c.bump.ensures.content) (bump_fits (is_in c.args.self.now.data_regions c.args.self.now.number) c.args.self.now.body (record { own = c.args.self.now.own; few = c.args.self.now.few }) c.args.kind c.requires.covered) in
+    record { own = f.own; few = f.few }

@@ -1,0 +1,2 @@
+pub mod DividedStore
+pub mod RegionLists

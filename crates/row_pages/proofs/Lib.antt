@@ -1,0 +1,6 @@
+mod RowLists
+mod PageLists
+mod PageChanges
+mod PageSearches
+mod PageSets
+mod PageSplits

@@ -1,0 +1,4 @@
+pub mod RowMaps
+pub mod Pages
+pub mod PagePlaces
+pub mod LentRows

@@ -1,0 +1,29 @@
+//! The patterns for new names that words say.
+ghost use Rattle.std.specs.Prelude.{◌≡◌, IfOk};
+ghost use Rattle.command_words.specs.PlainAsked.{plain_pattern, plain_patterns};
+
+use command_words::PatternTexts;
+use short_bytes::short::Bytes;
+use std::alloc::{AllocError, Global};
+use tsd_hooks::Patterns;
+
+/// Patterns of these texts. It fails only for want of memory.
+pub fn patterns_of(alloc: Global, texts: &PatternTexts<'_>) -> Result<Patterns, AllocError>
+    ensures { IfOk result (λ patterns. patterns ≡ plain_patterns texts.now) }
+{
+    Ok(Patterns {
+        metric: pattern_of(alloc, texts.metric)?,
+        tag_key: pattern_of(alloc, texts.tag_key)?,
+        tag_value: pattern_of(alloc, texts.tag_value)?,
+    })
+}
+
+/// The pattern of a text, where there is one. It fails only for want of memory.
+fn pattern_of(alloc: Global, text: Option<&[u8]>) -> Result<Option<Bytes>, AllocError>
+    ensures { IfOk result (λ pattern. pattern ≡ plain_pattern text.entry) }
+{
+    match text {
+        Some(text) => Ok(Some(Bytes::of(alloc, text)?)),
+        None => Ok(None),
+    }
+}
