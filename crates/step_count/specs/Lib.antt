@@ -1,0 +1,4 @@
+pub mod CounterRule
+pub mod ViewSteps
+pub mod FirstViews
+pub mod Tokens

@@ -1,0 +1,249 @@
+//! The counter of a store's entries, and the tokens of those who share it.
+ghost use Rattle.std.specs.Prelude.{◌≡◌, ℕ, ◌+◌, ◌-◌, ◌<◌, ◌≤◌, [], Some, IfOk, All, map};
+ghost use Rattle.std.specs.Arc.{arc_value};
+ghost use Rattle.row_key.specs.declared.regions.TheConstants.{NAME_REGIONS, MOST_DATA_REGIONS};
+ghost use Rattle.cell_model.specs.Sound.{IsBase};
+ghost use Rattle.step_count.specs.FirstViews.{holding, named, unused_licences};
+ghost use Rattle.step_count.specs.ViewSteps.{HasLicence, Lives, MayAdd, added, learned, licence_alone, met, newcomer, noted, opened, without_licence};
+
+use crate::counter_rule::{
+    Add, Base, Both, Chosen, Copied, Counter, Entry, Learn, Leaves, Names, NoRule, Open, Sit,
+    TokenSeat,
+};
+use crate::view::Named;
+use atomic_table::Table;
+use std::alloc::{AllocError, Global};
+use std::marker::Brand;
+use std::sync::{Arc, Wait};
+
+/// The counter. Its word is the length of the store's history, and stays where it is at 2^64 - 1.
+#[derive(Drop)]
+pub struct Steps {
+    counter: Arc<Counter, Global>,
+    ghost one_word: { (arc_value counter).shared.table_id.words ≡ 1 },
+}
+
+/// A caller's token: with it the caller learns the history's length and makes its entries.
+#[derive(Drop)]
+pub struct Pass {
+    counter: Arc<Counter, Global>,
+    seat: TokenSeat,
+    ghost one_word: { (arc_value counter).shared.table_id.words ≡ 1 },
+    ghost seated: { seat.table_id ≡ (arc_value counter).shared.table_id },
+    ghost empty: { seat.me.1 ≡ [] },
+}
+
+/// A region's licence: the pass that takes it makes the entries that look at the region.
+#[derive(Drop)]
+pub struct Licence {
+    seat: TokenSeat,
+    ghost empty: { seat.me.1 ≡ [] },
+}
+
+/// What a pass had seen, for another.
+#[derive(Drop)]
+pub struct Note {
+    seat: TokenSeat,
+    ghost empty: { seat.me.1 ≡ [] },
+}
+
+impl Steps {
+    ghost use Rattle.step_count.specs.Tokens.{counter_of_steps, counter_of_pass, counter_of_licence, name_of_steps, view_of_pass, view_of_licence};
+
+    /// A counter over the store that `B` names, and the licences of its regions, in order. It fails only for want of memory.
+    pub fn make<B: Base>(alloc: Global, regions: u32) -> Result<(Steps, Vec<Licence>), AllocError>
+        requires base { IsBase B.store }
+        requires least { NAME_REGIONS < regions }
+        requires most { regions ≤ NAME_REGIONS + MOST_DATA_REGIONS }
+        ensures name { IfOk result (λ made. name_of_steps made.0 ≡ named B.store (regions - NAME_REGIONS)) }
+        ensures counter { IfOk result (λ made. All (λ licence. counter_of_licence licence ≡ counter_of_steps made.0) made.1.items) }
+        ensures views { IfOk result (λ made. map view_of_licence made.1.items ≡ unused_licences (Some (named B.store (regions - NAME_REGIONS))) 0 regions) }
+    {
+        let (steps, mut first) = Steps::begin::<B>(alloc, regions)?;
+        let licences = first.give_all(alloc, regions)?;
+        Ok((steps, licences))
+    }
+
+    // The counter, and the first seat, which has every licence.
+    fn begin<B: Base>(alloc: Global, regions: u32) -> Result<(Steps, Pass), AllocError>
+        requires base { IsBase B.store }
+        requires least { NAME_REGIONS < regions }
+        ensures name { IfOk result (λ made. name_of_steps made.0 ≡ named B.store (regions - NAME_REGIONS)) }
+        ensures counter { IfOk result (λ made. counter_of_pass made.1 ≡ counter_of_steps made.0) }
+        ensures view { IfOk result (λ made. view_of_pass made.1 ≡ holding (Some (named B.store (regions - NAME_REGIONS))) 0 regions) }
+    {
+        let (naming, mut origin) = Table::<(), Option<Named>, (), NoRule, Global>::of_words(
+            alloc,
+            &[0],
+            &(),
+        )?;
+        naming
+            .shared
+            .store::<Names<B>>(&mut origin, 0, u64::from(regions));
+        let (counter, seat) = Counter::of_words(alloc, &[0], &origin)?;
+        let counter = Arc::new(alloc, counter)?;
+        let steps = Steps {
+            counter: Arc::try_clone(&counter)?,
+        };
+        Ok((steps, Pass { counter, seat }))
+    }
+}
+
+impl Pass {
+    ghost use Rattle.step_count.specs.Tokens.{counter_of_steps, counter_of_pass, counter_of_licence, counter_of_note, name_of_steps, view_of_pass, view_of_licence, view_of_note};
+
+    /// A new caller. It makes one entry, its opening, whose place is the caller's number. It fails only for want of memory, and doesn't
+    /// return where the word stays.
+    pub fn open_on<T: Wait>(rt: &T, steps: &Steps) -> Result<Pass, AllocError>
+        ensures counter { IfOk result (λ pass. counter_of_pass pass ≡ counter_of_steps steps.now) }
+        ensures view { IfOk result (λ pass. (number : ℕ) × (view_of_pass pass ≡ opened (newcomer (Some (name_of_steps steps.now))) number)) }
+        ensures live { IfOk result (λ pass. Lives (view_of_pass pass)) }
+    {
+        let counter = Arc::try_clone(&steps.counter)?;
+        let (_found, seat) = counter.shared.load_new_seat::<Sit>(0);
+        let mut pass = Pass { counter, seat };
+        pass.open(rt);
+        Ok(pass)
+    }
+
+    // The opening entry.
+    fn open<T: Wait>(&mut self, rt: &T)
+        requires { view_of_pass self.old ≡ newcomer (view_of_pass self.old).named }
+        ensures counter { counter_of_pass self.new ≡ counter_of_pass self.old }
+        ensures view { (number : ℕ) × (view_of_pass self.new ≡ opened (newcomer (view_of_pass self.old).named) number) }
+        ensures live { Lives (view_of_pass self.new) }
+    {
+        let mut seen = self.learn();
+        for _ in rt.forever() {
+            if seen == u64::MAX {
+                seen = self.learn();
+            } else {
+                let found = self
+                    .counter
+                    .shared
+                    .compare_exchange::<Open>(&mut self.seat, 0, seen, seen + 1);
+                if found == seen {
+                    return;
+                }
+                seen = found;
+            }
+        }
+        unreachable!()
+    }
+
+    /// The history's length at this moment.
+    pub fn learn(&mut self) -> u64
+        ensures counter { counter_of_pass self.new ≡ counter_of_pass self.old }
+        ensures view { view_of_pass self.new ≡ learned (view_of_pass self.old) result }
+        ensures up { (view_of_pass self.old).length ≤ result }
+        ensures live { Lives (view_of_pass self.new) }
+    {
+        self.counter.shared.load::<Learn>(&mut self.seat, 0)
+    }
+
+    /// What this pass has seen, for another.
+    pub fn note(&mut self) -> Note
+        ensures counter { counter_of_pass self.new ≡ counter_of_pass self.old }
+        ensures view { view_of_pass self.new ≡ view_of_pass self.old }
+        ensures note_counter { counter_of_note result ≡ counter_of_pass self.old }
+        ensures note_view { view_of_note result ≡ noted (view_of_pass self.old) }
+    {
+        let seat = self.counter.shared.split_seat::<Copied>(&mut self.seat);
+        Note { seat }
+    }
+
+    /// Sees all that another had seen.
+    pub fn meet(&mut self, note: Note)
+        requires { counter_of_note note ≡ counter_of_pass self.old }
+        ensures counter { counter_of_pass self.new ≡ counter_of_pass self.old }
+        ensures view { view_of_pass self.new ≡ met (view_of_pass self.old) (view_of_note note) }
+    {
+        let Note { seat } = note;
+        self.counter.shared.join_seat::<Both>(&mut self.seat, seat);
+    }
+
+    /// Takes another's place: the pass has seen all that either had, and has the other's number too. It goes on under its own.
+    pub fn absorb(&mut self, other: Pass)
+        requires { counter_of_pass other ≡ counter_of_pass self.old }
+        ensures counter { counter_of_pass self.new ≡ counter_of_pass self.old }
+        ensures view { view_of_pass self.new ≡ met (view_of_pass self.old) (view_of_pass other) }
+    {
+        let Pass { counter: _, seat } = other;
+        self.counter.shared.join_seat::<Both>(&mut self.seat, seat);
+    }
+
+    /// Takes a region's licence, and sees all that those who had it had seen.
+    pub fn take(&mut self, licence: Licence)
+        requires { counter_of_licence licence ≡ counter_of_pass self.old }
+        ensures counter { counter_of_pass self.new ≡ counter_of_pass self.old }
+        ensures view { view_of_pass self.new ≡ met (view_of_pass self.old) (view_of_licence licence) }
+    {
+        let Licence { seat } = licence;
+        self.counter.shared.join_seat::<Both>(&mut self.seat, seat);
+    }
+
+    /// Gives a region's licence away, with what this pass has seen.
+    pub fn give(&mut self, region: u32) -> Licence
+        requires { HasLicence region (view_of_pass self.old) }
+        ensures counter { counter_of_pass self.new ≡ counter_of_pass self.old }
+        ensures view { view_of_pass self.new ≡ without_licence region (view_of_pass self.old) }
+        ensures licence_counter { counter_of_licence result ≡ counter_of_pass self.old }
+        ensures licence_view { view_of_licence result ≡ licence_alone region (view_of_pass self.old) }
+    {
+        self.give_chosen::<Brand>(region)
+    }
+
+    // Gives the licence of the region that `N` names.
+    fn give_chosen<N: Chosen>(&mut self, region: u32) -> Licence
+        requires number { N.region ≡ region }
+        requires held { HasLicence N.region (view_of_pass self.old) }
+        ensures counter { counter_of_pass self.new ≡ counter_of_pass self.old }
+        ensures view { view_of_pass self.new ≡ without_licence N.region (view_of_pass self.old) }
+        ensures licence_counter { counter_of_licence result ≡ counter_of_pass self.old }
+        ensures licence_view { view_of_licence result ≡ licence_alone N.region (view_of_pass self.old) }
+    {
+        let _region = region;
+        let seat = self.counter.shared.split_seat::<Leaves<N>>(&mut self.seat);
+        Licence { seat }
+    }
+
+    // The licences of the first seat, in order.
+    fn give_all(&mut self, alloc: Global, regions: u32) -> Result<Vec<Licence>, AllocError>
+        requires { view_of_pass self.old ≡ holding (view_of_pass self.old).named 0 regions }
+        ensures counter { IfOk result (λ licences. All (λ licence. counter_of_licence licence ≡ counter_of_pass self.old) licences.items) }
+        ensures views { IfOk result (λ licences. map view_of_licence licences.items ≡ unused_licences (view_of_pass self.old).named 0 regions) }
+    {
+        let mut licences = Vec::new(alloc);
+        for number in 0..regions {
+            licences.push(self.give(number))?;
+        }
+        Ok(licences)
+    }
+
+    /// Adds the entry that `E` names, and answers its place. The pass has the licence of the entry's region. It doesn't return where the
+    /// word stays.
+    pub fn advance<E: Entry, T: Wait>(&mut self, rt: &T) -> u64
+        requires { MayAdd (view_of_pass self.old) E.entry }
+        ensures counter { counter_of_pass self.new ≡ counter_of_pass self.old }
+        ensures view { view_of_pass self.new ≡ added (view_of_pass self.old) result E.entry }
+        ensures up { (view_of_pass self.old).length + 1 ≤ result }
+        ensures live { Lives (view_of_pass self.new) }
+    {
+        let mut seen = self.learn();
+        for _ in rt.forever() {
+            if seen == u64::MAX {
+                seen = self.learn();
+            } else {
+                let found = self
+                    .counter
+                    .shared
+                    .compare_exchange::<Add<E>>(&mut self.seat, 0, seen, seen + 1);
+                if found == seen {
+                    return seen + 1;
+                }
+                seen = found;
+            }
+        }
+        unreachable!()
+    }
+}
