@@ -8,7 +8,7 @@ set -euo pipefail
 . "$(dirname "$0")/driver.sh"
 
 prepare drain 'row_key tsd_base tsd_hooks tsd_io cell_model map_body cell_solo uid_table point_put compactor' \
-    list_lemmas short_bytes row_key qual_codec packed_cells tsd_base tsd_hooks tsd_io cell_model cell_laws map_body cell_solo uid_table point_put compactor
+    list_lemmas short_bytes guess_table row_key qual_codec packed_cells row_pages tsd_base tsd_hooks tsd_io cell_model cell_laws map_body cell_solo uid_table point_put compactor
 
 echo 'drain:'
 run drain 3

@@ -107,4 +107,5 @@ def main():
             print(f"| `{query}` | {len(body)} | {taken * 1e3:.1f} | {own * 1e3:.1f} | {taken / own:.2f} |", flush=True)
 
 
-main()
+if __name__ == "__main__":
+    main()

@@ -2,7 +2,6 @@
 use Rattle.std.proofs.Common.{◌≡◌, ℕ, Bool, true, false, cond, List, [], ◌∷◌, ◌++◌, Option, Some, None, map, refl, sym, ap, subst, ◌∙◌}
 use Rattle.std.specs.Prelude.{ℤ, Ok, Err, filter, is_some}
 use Rattle.std.specs.List.{AllByRecursion, flat_map}
-use Rattle.std.specs.HashMap.{get}
 use Rattle.std.proofs.lemmas.Bool.{and_parts, true≢false}
 use Rattle.tsd_base.specs.Points.{DataPoint}
 use Rattle.tsd_base.specs.TagOrder.{tags_same}
@@ -12,7 +11,7 @@ use Rattle.cell_model.specs.Seen.{Seen}
 use Rattle.batch_job.specs.Storing.{IsNaming, Notes}
 use Rattle.batch_job.specs.PendingIds.{Names}
 use Rattle.batch_job.specs.NotedIds.{no_names, noted_all, names_in, and_then_noted}
-use Rattle.batch_job.specs.SeriesValues.{Series, is_same_series, series_of_point}
+use Rattle.batch_job.specs.SeriesValues.{Series, is_same_series, series_of_point, values_in}
 use Rattle.batch_job.specs.Pending.{SoFar, values_of, unless_empty, Gathers}
 use Rattle.batch_job.proofs.LastPoints.{beq_same, same_bytes}
 use Rattle.batch_job.proofs.Known.{IsKnown, AreKnown}
@@ -105,16 +104,16 @@ one_more points p s false e = refl
 
 -- one more point of a series: what is gathered but for the store
 record OneMore (points : List DataPoint) (p : DataPoint) (new : SoFar) : Type 0 where
-  pub series : (s : Series) → get is_same_series new.gathered.series s ≡ unless_empty (values_of (points ++ p ∷ []) s)
+  pub series : (s : Series) → values_in new.gathered s ≡ unless_empty (values_of (points ++ p ∷ []) s)
   pub are_points : AllByRecursion IsPoint (points ++ p ∷ [])
 
 more_of : (points : List DataPoint) (old new : SoFar) (p : DataPoint) → Gathers points old → IsPoint p
-    → ((s : Series) → get is_same_series new.gathered.series s ≡ cond (is_same_series (series_of_point p) s) (Some (or_nil (get is_same_series old.gathered.series (series_of_point p)) ++ dot p ∷ [])) (get is_same_series old.gathered.series s))
+    → ((s : Series) → values_in new.gathered s ≡ cond (is_same_series (series_of_point p) s) (Some (or_nil (values_in old.gathered (series_of_point p)) ++ dot p ∷ [])) (values_in old.gathered s))
     → OneMore points p new
 more_of points old new p h is_point step = record {
   series = λ s.
-      step s ∙ ap (λ o. cond (is_same_series (series_of_point p) s) (Some (or_nil o ++ dot p ∷ [])) (get is_same_series old.gathered.series s)) (h.series (series_of_point p))
-      ∙ ap (λ xs. cond (is_same_series (series_of_point p) s) (Some (xs ++ dot p ∷ [])) (get is_same_series old.gathered.series s)) (or_nil-unless (values_of points (series_of_point p)))
+      step s ∙ ap (λ o. cond (is_same_series (series_of_point p) s) (Some (or_nil o ++ dot p ∷ [])) (values_in old.gathered s)) (h.series (series_of_point p))
+      ∙ ap (λ xs. cond (is_same_series (series_of_point p) s) (Some (xs ++ dot p ∷ [])) (values_in old.gathered s)) (or_nil-unless (values_of points (series_of_point p)))
       ∙ ap (λ o. cond (is_same_series (series_of_point p) s) (Some (values_of points (series_of_point p) ++ dot p ∷ [])) o) (h.series s)
       ∙ one_more points p s (is_same_series (series_of_point p) s) refl ∙ sym (ap unless_empty (values_last points p s));
   are_points = all_last IsPoint points p h.are_points is_point;
@@ -127,7 +126,7 @@ noted_more points p names more before one =
 
 -- a point was read behind those of its series
 pub reads_point : (points : List DataPoint) (old new : SoFar) (p : DataPoint) (h : Gathers points old) → IsPoint p → Notes old.seen (names_of p) None new.seen
-    → ((s : Series) → get is_same_series new.gathered.series s ≡ cond (is_same_series (series_of_point p) s) (Some (or_nil (get is_same_series old.gathered.series (series_of_point p)) ++ dot p ∷ [])) (get is_same_series old.gathered.series s))
+    → ((s : Series) → values_in new.gathered s ≡ cond (is_same_series (series_of_point p) s) (Some (or_nil (values_in old.gathered (series_of_point p)) ++ dot p ∷ [])) (values_in old.gathered s))
     → (more : Gathers (points ++ p ∷ []) new) × (noted_all h.names (names_of p) ≡ Ok more.names)
 reads_point points old new p h is_point notes step =
     let noted = notes h.names h.naming in
@@ -135,13 +134,13 @@ reads_point points old new p h is_point notes step =
     (record { names = noted.0; noted = noted_more points p h.names noted.0 h.noted noted.1; naming = noted.2; series = m.series; are_points = m.are_points }, noted.1)
 
 -- a point of a series that was read
-pub reads_known : (points : List DataPoint) (old new : SoFar) (p : DataPoint) (list : List (ℕ × ℤ)) (h : Gathers points old) → IsPoint p → get is_same_series old.gathered.series (series_of_point p) ≡ Some list → new.seen ≡ old.seen
-    → ((s : Series) → get is_same_series new.gathered.series s ≡ cond (is_same_series (series_of_point p) s) (Some (list ++ dot p ∷ [])) (get is_same_series old.gathered.series s))
+pub reads_known : (points : List DataPoint) (old new : SoFar) (p : DataPoint) (list : List (ℕ × ℤ)) (h : Gathers points old) → IsPoint p → values_in old.gathered (series_of_point p) ≡ Some list → new.seen ≡ old.seen
+    → ((s : Series) → values_in new.gathered s ≡ cond (is_same_series (series_of_point p) s) (Some (list ++ dot p ∷ [])) (values_in old.gathered s))
     → (more : Gathers (points ++ p ∷ []) new) × (noted_all h.names (names_of p) ≡ Ok more.names)
 reads_known points old new p list h is_point found same step =
     let known = known_series h.names points (series_of_point p) list (notes_all no_names (flat_map names_of points) h.names h.noted).known (sym (h.series (series_of_point p)) ∙ found) in
     let noted = noted_all-known h.names (names_of p) known in
-    let m = more_of points old new p h is_point (λ s. step s ∙ ap (λ o. cond (is_same_series (series_of_point p) s) (Some (or_nil o ++ dot p ∷ [])) (get is_same_series old.gathered.series s)) (sym found)) in
+    let m = more_of points old new p h is_point (λ s. step s ∙ ap (λ o. cond (is_same_series (series_of_point p) s) (Some (or_nil o ++ dot p ∷ [])) (values_in old.gathered s)) (sym found)) in
     (record { names = h.names; noted = noted_more points p h.names h.names h.noted noted; naming = subst (λ (x : Seen). IsNaming h.names x) (sym same) h.naming; series = m.series; are_points = m.are_points }, noted)
 
 -- for one of the names of a point there is no id

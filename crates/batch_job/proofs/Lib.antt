@@ -1,3 +1,4 @@
+mod AddedPoints
 mod AnswerLemmas
 mod Asking
 mod Beginning
@@ -7,6 +8,7 @@ mod FirstConflicts
 mod FoundCells
 mod Follows
 mod GatherLemmas
+mod HeldSeries
 mod Known
 mod KnownLemmas
 mod LastPoints
@@ -25,5 +27,6 @@ mod RowCells
 mod SeriesLemmas
 mod SettleLemmas
 mod StoredPoints
+mod TextReads
 mod ValueLemmas
 pub mod CallerLemmas

@@ -1,5 +1,5 @@
 -- Putting points whose names have ids.
-use Rattle.std.proofs.Common.{◌≡◌, ◌⊎◌, inl, inr, ⊎_elim, ℕ, ℤ, Bool, List, [], ◌∷◌, ◌++◌, refl, sym, ap, subst, ◌∙◌}
+use Rattle.std.proofs.Common.{◌≡◌, ◌⊎◌, inl, inr, ⊎_elim, ℕ, ℤ, Bool, true, List, [], ◌∷◌, ◌++◌, refl, sym, ap, subst, ◌∙◌}
 use Rattle.std.specs.Prelude.{◌↔◌, None, Some, Ok, Err, Contains, option_and_then}
 use Rattle.std.proofs.lemmas.Bool.{true≢false}
 use Rattle.std.proofs.lemmas.List.Elements.{Contains-append_cases, Contains-append_left, Contains-append_right}
@@ -22,7 +22,10 @@ use Rattle.cell_model.specs.Seen.{Seen, Fits}
 use Rattle.cell_model.specs.Store.{Store, value_at}
 use Rattle.point_put.specs.Admissions.{Admission}
 use Rattle.point_put.specs.declared.fault.PutFault.{PutFault}
-use Rattle.point_put.specs.declared.fault.PutFault.TheVariants.{Exhausted, Filtered}
+use Rattle.point_put.specs.declared.fault.PutFault.TheVariants.{Exhausted, Filtered, Unknown}
+use Rattle.point_put.specs.Configs.{makes}
+use Rattle.tsd_hooks.specs.AllowedNames.{allowed}
+use Rattle.tsd_base.specs.declared.kinds.Kind.TheVariants.{Metric, TagKey, TagValue}
 use Rattle.point_put.specs.Entries.{ForName, ForNames}
 use Rattle.point_put.specs.Entries.ForName.{none, look, full, bump, reverse, forward}
 use Rattle.point_put.specs.Entries.ForNames.{nil, more}
@@ -177,6 +180,38 @@ module _ (old new : Seen) (c : Admission) (point : DataPoint) (resolved : AreRes
   pub never_exhausted : (fault : PutFault) (kind : Kind) → fault ≡ Exhausted kind → PutSays c point old (Err fault) new → ⊥
   never_exhausted fault kind is says = not_exhausted kind (subst (λ (f : PutFault). PutSays c point old (Err f) new) is says)
 
+  -- where names of each kind are given ids none is unknown
+  not_unknown : ((kind : Kind) → makes c.config kind ≡ true) → (kind : Kind) (name : List ℕ) → PutSays c point old (Err (Unknown kind name)) new → ⊥
+  not_unknown all kind name (list, made, asked) =
+      let p = made.since.lives resolved.by.possible in
+      let x = asked p.history p.lawful p.fits in
+      true≢false (sym (all kind) ∙ x.1.0)
+
+  pub never_unknown : ((kind : Kind) → makes c.config kind ≡ true) → (fault : PutFault) (kind : Kind) (name : List ℕ) → fault ≡ Unknown kind name → PutSays c point old (Err fault) new → ⊥
+  never_unknown all fault kind name is says = not_unknown all kind name (subst (λ (f : PutFault). PutSays c point old (Err f) new) is says)
+
+-- where each new name of each kind is given an id
+pub open_admission : Admission
+open_admission = record {
+  config = record { auto_metric = true; auto_tag_key = true; auto_tag_value = true };
+  patterns = record { metric = None; tag_key = None; tag_value = None };
+}
+
+pub open_makes : (kind : Kind) → makes open_admission.config kind ≡ true
+unfolding open_admission
+open_makes Metric = refl
+open_makes TagKey = refl
+open_makes TagValue = refl
+
+pub open_allows : AllowsAll open_admission.patterns
+unfolding open_admission
+open_allows = record { allows = allows }
+  where
+    allows : (kind : Kind) (name : List ℕ) → allowed (record { metric = None; tag_key = None; tag_value = None }) kind name ≡ true
+    allows Metric name = refl
+    allows TagKey name = refl
+    allows TagValue name = refl
+
 -- ---- point after point
 pub adds_none : (s : Seen) → IsAlone s → AddsSome s (Contains []) s
 adds_none s by = record {
@@ -216,6 +251,15 @@ adds_alike P Q a b x same = record {
     λ either. (x.puts h lawful fits r).1 (⊎_elim (λ (put : WasPut (first a.length h) r). inl put) (λ (q : Q r). inr ((same r).1 q)) either),
   );
 }
+
+-- one point, and then others
+pub adds_joined : (a b c : Seen) (p : DataPoint) (points : List DataPoint) → Adds a (p ∷ []) b → Adds b points c → Adds a (p ∷ points) c
+adds_joined a b c p points x y =
+    adds_then (Contains (p ∷ [])) (Contains points) (Contains (p ∷ points)) a b c x y
+    (λ r. (
+      λ has. Contains-append_cases (p ∷ []) points r has,
+      λ either. ⊎_elim (λ (e : Contains (p ∷ []) r). Contains-append_left (p ∷ []) points r e) (λ (e : Contains points r). Contains-append_right (p ∷ []) points r e) either,
+    ))
 
 -- what has ids keeps them
 pub still_resolved : (P : DataPoint → Type 0) (a b : Seen) (names : List (Kind × List ℕ)) → AddsSome a P b → AreResolved a names → AreResolved b names

@@ -1,8 +1,7 @@
 -- The points of all series in the store.
 use Rattle.std.proofs.Common.{◌≡◌, ◌⊎◌, inl, inr, ⊎_elim, ℕ, ℤ, Bool, true, List, [], ◌∷◌, ◌++◌, ◌+◌, ◌<◌, ◌≤◌, length, take, zero, suc, get_or, refl, sym, ap, subst, ◌∙◌, arith, append_assoc, append-nil}
-use Rattle.std.specs.Prelude.{◌↔◌, Option, None, Some, All, Contains, is_some, pos}
+use Rattle.std.specs.Prelude.{◌↔◌, Option, None, Some, All, Contains, OnOk, Result, Ok, Err, is_some, pos}
 use Rattle.std.specs.List.{flat_map}
-use Rattle.std.specs.HashMap.{get}
 use Rattle.std.proofs.lemmas.Bool.{true≢false}
 use Rattle.std.proofs.lemmas.List.Elements.{All-contains, All-weaker, All-from_recursion, Contains-append_cases, Contains-append_left, Contains-append_right}
 use Rattle.lerp_aggregate.specs.Aggregation.{value_at}
@@ -20,7 +19,7 @@ use Rattle.batch_job.specs.PendingIds.{id_in}
 use Rattle.batch_job.proofs.Known.{AreKnown, IsKnown}
 use Rattle.batch_job.specs.NotedIds.{list_of, names_in}
 use Rattle.batch_job.specs.PendingPuts.{Adds, AddsSome, AreResolved, AreTimes, IsLast, MayPut, PutsAll, points_in}
-use Rattle.batch_job.specs.SeriesValues.{Series, is_same_series, series_of_point}
+use Rattle.batch_job.specs.SeriesValues.{Series, is_same_series, series_of_point, values_in}
 use Rattle.batch_job.specs.LastValues.{last_at}
 use Rattle.batch_job.specs.Storing.{IsAlone, IsStored, WasPut}
 use Rattle.batch_job.proofs.SettleLemmas.{take_next}
@@ -28,7 +27,7 @@ use Rattle.batch_job.proofs.GatherLemmas.{known_series, none_not_some, same_seri
 use Rattle.batch_job.proofs.KnownLemmas.{notes_all}
 use Rattle.batch_job.proofs.LastPoints.{last_points_are}
 use Rattle.batch_job.proofs.Lower.{here, map_in, in_map, not_in, split}
-use Rattle.batch_job.proofs.Puts.{adds_alike, adds_none, adds_then, one_more, still_resolved}
+use Rattle.batch_job.proofs.Puts.{adds_alike, adds_joined, adds_none, adds_then, one_more, still_resolved}
 use Rattle.batch_job.proofs.SeriesLemmas.{lookup_contains, named_series, times_of_values, values_are}
 use Rattle.batch_job.proofs.ValueLemmas.{contains_value, value_contains}
 
@@ -85,6 +84,28 @@ take_all (x ∷ xs) (suc n) le = ap (λ ys. x ∷ ys) (take_all xs n (omega (ari
 pub all_dots : (metric : List ℕ) (tags : List Pair) (fine : Bool) (items dots : List (ℕ × ℤ)) (i : ℕ) (a b : Seen) → length items ≤ i → items ≡ dots → Adds a (points_in metric tags fine (take i items)) b → Adds a (points_in metric tags fine dots) b
 all_dots metric tags fine items dots i a b le same adds = subst (λ (ds : List (ℕ × ℤ)). Adds a (points_in metric tags fine ds) b) (take_all items i le ∙ same) adds
 
+-- the first point of a series, and then the others
+pub first_and_others : (metric : List ℕ) (tags : List Pair) (fine : Bool) (first : ℕ × ℤ) (others dots : List (ℕ × ℤ)) (p : DataPoint) (a b c : Seen) → dots ≡ first ∷ others → p ≡ record { metric = metric; tags = tags; time = first.0; fine = fine; value = first.1 }
+    → Adds a (p ∷ []) b → Adds b (points_in metric tags fine others) c → Adds a (points_in metric tags fine dots) c
+first_and_others metric tags fine first others dots p a b c cut is one rest =
+    subst (λ (ds : List (ℕ × ℤ)). Adds a (points_in metric tags fine ds) c) (sym cut) (subst (λ (q : DataPoint). Adds a (q ∷ points_in metric tags fine others) c) is (adds_joined a b c p (points_in metric tags fine others) one rest))
+
+-- what follows where a call went well
+pub where_ok : {E P Q : Type 0} (r : Result (Unit {0}) E) → (P → Q) → OnOk r P → OnOk r Q
+where_ok (Ok done) f p = f p
+where_ok (Err e) f p = tt
+
+-- no points of a series
+pub no_dots : (metric : List ℕ) (tags : List Pair) (fine : Bool) (dots : List (ℕ × ℤ)) (s : Seen) → length dots ≡ 0 → IsAlone s → Adds s (points_in metric tags fine dots) s
+no_dots metric tags fine [] s none by = adds_none s by
+no_dots metric tags fine (d ∷ dots) s none by = absurd (omega (arith, none))
+
+-- points of one series have the same names
+pub names_alike : (p q : DataPoint) (P : DataPoint → Type 0) (a b : Seen) → q.metric ≡ p.metric → q.tags ≡ p.tags → AreResolved a (names_of p) → AddsSome a P b → AreResolved b (names_of q)
+names_alike p q P a b metric tags resolved adds =
+    still_resolved P a b (names_of q) adds
+    (subst (λ (x : List Pair). AreResolved a ((Metric, q.metric) ∷ tag_names x)) (sym tags) (subst (λ (x : List ℕ). AreResolved a ((Metric, x) ∷ tag_names p.tags)) (sym metric) resolved))
+
 -- the names of the point are those of the series
 pub point_resolved : (metric : List ℕ) (tags : List Pair) (fine : Bool) (p : DataPoint) (values : List (ℕ × ℤ)) (P : DataPoint → Type 0) (a b : Seen) → p.metric ≡ metric → p.tags ≡ tags → MayPut a (((metric, tags), fine), values) → AddsSome a P b → AreResolved b (names_of p)
 point_resolved metric tags fine p values P a b named tagged may adds =
@@ -138,7 +159,7 @@ module _ (a b : Seen) (entries rest more : List Entry) (e : Entry) (are : rest �
   }
 
 -- ---- the series that were gathered
-module _ (points : List DataPoint) (g : SoFar) (h : Gathers points g) (found : All (λ e. get is_same_series g.gathered.series e.0 ≡ Some e.1) g.gathered.series.entries) where
+module _ (points : List DataPoint) (g : SoFar) (h : Gathers points g) (found : All (λ e. values_in g.gathered e.0 ≡ Some e.1) g.gathered) where
   known_all : AreKnown h.names (flat_map names_of points)
   known_all = (notes_all _ (flat_map names_of points) h.names h.noted).known
 
@@ -157,36 +178,36 @@ module _ (points : List DataPoint) (g : SoFar) (h : Gathers points g) (found : A
   }
 
   -- they may be put
-  pub may_put : All (MayPut g.seen) g.gathered.series.entries
+  pub may_put : All (MayPut g.seen) g.gathered
   may_put =
-      All-weaker (λ e. get is_same_series g.gathered.series e.0 ≡ Some e.1) (MayPut g.seen)
+      All-weaker (λ e. values_in g.gathered e.0 ≡ Some e.1) (MayPut g.seen)
       (λ e is.
       let there : unless_empty (values_of points e.0) ≡ Some e.1 = sym (h.series e.0) ∙ is in
       record {
         resolved = have_ids (names_in e.0.0.0 e.0.0.1) (known_series h.names points e.0 e.1 known_all there) (named_series points e.0 e.1 h.are_points there);
         times = subst (AreTimes e.0.1) (sym (values_are points e.0 e.1 there)) (times_of_values points e.0 h.are_points);
       })
-      g.gathered.series.entries found
+      g.gathered found
 
   -- the last values of the series are the last points
-  last_is : (r : DataPoint) → IsLast g.gathered.series.entries r ↔ (last_at (values_of points (series_of_point r)) r.time ≡ Some r.value)
+  last_is : (r : DataPoint) → IsLast g.gathered r ↔ (last_at (values_of points (series_of_point r)) r.time ≡ Some r.value)
   last_is r = (to, λ is. from (values_of points (series_of_point r)) refl is)
     where
-      to : IsLast g.gathered.series.entries r → last_at (values_of points (series_of_point r)) r.time ≡ Some r.value
+      to : IsLast g.gathered r → last_at (values_of points (series_of_point r)) r.time ≡ Some r.value
       to l =
-          let is = All-contains (λ e. get is_same_series g.gathered.series e.0 ≡ Some e.1) g.gathered.series.entries l.entry found l.among in
+          let is = All-contains (λ e. values_in g.gathered e.0 ≡ Some e.1) g.gathered l.entry found l.among in
           let values = values_are points l.entry.0 l.entry.1 (sym (h.series l.entry.0) ∙ is) in
           ap (λ (s : Series). last_at (values_of points s) r.time) (sym l.series_is) ∙ ap (λ xs. last_at xs r.time) (sym values) ∙ l.last
 
-      from : (values : List (ℕ × ℤ)) → values_of points (series_of_point r) ≡ values → last_at (values_of points (series_of_point r)) r.time ≡ Some r.value → IsLast g.gathered.series.entries r
+      from : (values : List (ℕ × ℤ)) → values_of points (series_of_point r) ≡ values → last_at (values_of points (series_of_point r)) r.time ≡ Some r.value → IsLast g.gathered r
       from [] told is = absurd (none_not_some (sym (ap (λ xs. last_at xs r.time) told) ∙ is))
       from (x ∷ xs) told is =
           let s : Series = series_of_point r in
-          let at = lookup_contains (is_same_series s) g.gathered.series.entries (x ∷ xs) (h.series s ∙ ap unless_empty told) in
+          let at = lookup_contains (is_same_series s) g.gathered (x ∷ xs) (h.series s ∙ ap unless_empty told) in
           record { entry = (at.key, x ∷ xs); among = at.among; series_is = sym (same_series s at.key at.passes); last = sym (ap (λ ys. last_at ys r.time) told) ∙ is }
 
   -- all points are stored
-  pub stored : (s : Seen) → PutsAll g.seen g.gathered.series.entries s → IsStored points s
+  pub stored : (s : Seen) → PutsAll g.seen g.gathered s → IsStored points s
   stored s puts = record {
     are_points = h.are_points;
     names = h.names;
@@ -197,7 +218,7 @@ module _ (points : List DataPoint) (g : SoFar) (h : Gathers points g) (found : A
     puts = λ x lawful fits r. (
       λ put. (last_points_are points r).1 ((last_is r).0 (⊎_elim
           (λ (before : WasPut (first g.seen.length x) r). absurd (h.naming.unput x lawful (puts.fits x fits) r before))
-          (λ (l : IsLast g.gathered.series.entries r). l)
+          (λ (l : IsLast g.gathered r). l)
           ((puts.puts x lawful fits r).0 put))),
       λ has. (puts.puts x lawful fits r).1 (inr ((last_is r).1 ((last_points_are points r).0 has))),
     );

@@ -5,7 +5,7 @@ use Rattle.std.specs.Cmp.{nat_eq_equiv}
 use Rattle.std.specs.Option.{option_or}
 use Rattle.std.proofs.lemmas.Bool.{cases_Bool, eqb-true}
 use Rattle.std.proofs.lemmas.Bool.Decides.{nat_tests}
-use Rattle.std.proofs.lemmas.List.Elements.{All-contains, All-from_recursion, Contains-append_cases, Contains-append_right}
+use Rattle.std.proofs.lemmas.List.Elements.{All-contains, All-from_recursion, Contains-append_cases, Contains-append_left, Contains-append_right}
 use Rattle.lerp_aggregate.specs.Aggregation.{value_at}
 use Rattle.tsd_base.specs.Dots.{IsRising}
 use Rattle.tsd_base.specs.Moments.{IsTime}
@@ -61,3 +61,11 @@ pub settled_times : (fine : Bool) (dots values : List (ℕ × ℤ)) → IsRising
 settled_times fine dots values rising settled times d has =
     let last : last_at values d.0 ≡ Some d.1 = sym (settled d.0) ∙ contains_value dots d.0 d.1 rising has in
     All-contains (λ (e : ℕ × ℤ). IsTime e.0 fine) values (d.0, d.1) (All-from_recursion (λ (e : ℕ × ℤ). IsTime e.0 fine) values times) (last_contains values d.0 d.1 last)
+
+-- so all of them are times
+pub settled_all : (fine : Bool) (dots values : List (ℕ × ℤ)) → IsRising dots → ((time : ℕ) → value_at dots time ≡ last_at values time) → AreTimes fine values → AreTimes fine dots
+settled_all fine dots values rising settled times = each dots (settled_times fine dots values rising settled times)
+  where
+    each : (ds : List (ℕ × ℤ)) → ((d : ℕ × ℤ) → Contains ds d → IsTime d.0 fine) → AreTimes fine ds
+    each [] all = tt
+    each (d ∷ ds) all = (all d (Contains-append_left (d ∷ []) ds d (0, omega arith, refl)), each ds (λ e has. all e (Contains-append_right (d ∷ []) ds e has)))

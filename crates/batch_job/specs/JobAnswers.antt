@@ -1,6 +1,7 @@
 -- What a query over points is answered.
 use Rattle.std.specs.Prelude.{◌≡◌, ℕ, ◌≤◌, Bool, not, List, [], ◌∷◌, filter, find, map, Option, None, Some, option_map, Result, Ok, Err}
 use Rattle.std.specs.List.{flat_map, list_any}
+use Rattle.tsd_base.specs.declared.times.TheConstants.{LAST_TIME}
 use Rattle.tsd_base.specs.Tags.{is_same}
 use Rattle.tsd_base.specs.Points.{DataPoint}
 use Rattle.tsd_base.specs.LastPoints.{last_points}
@@ -8,13 +9,14 @@ use Rattle.tsd_base.specs.declared.kinds.Kind.TheVariants.{Metric, TagKey, TagVa
 use Rattle.tsd_base.specs.declared.kinds.Kind.{Kind}
 use Rattle.cell_model.specs.Layout.{names_of}
 use Rattle.cell_model.specs.Readings.{reading_of}
+use Rattle.query_text.specs.QueryReadings.{CanDown}
 use Rattle.query_text.specs.declared.queries.Query.{Query}
 use Rattle.query_text.specs.declared.queries.Sub.{Sub}
 use Rattle.json_reply.specs.Replies.{Group, plain}
 use Rattle.json_reply.specs.declared.reply.Reply.{Reply}
 use Rattle.query_run.specs.QueryAnswers.{answer}
 use Rattle.query_run.specs.Parts.{NameOf}
-use Rattle.query_run.specs.AskedQueries.{CanDown, barred, names_in, wanted}
+use Rattle.query_run.specs.AskedQueries.{barred, names_in, wanted}
 use Rattle.query_run.specs.declared.fault.AskFault.{AskFault}
 use Rattle.query_run.specs.declared.fault.AskFault.TheVariants.{Unknown, Duplicate, Overflow, OutOfMemory, Stopped}
 use Rattle.batch_job.specs.Conflicts.{first_conflict}
@@ -25,7 +27,7 @@ pub record CanAsk (query : Query) : Type 0 where
   pub sub : Sub
   pub subs_are : query.subs ≡ sub ∷ []
   pub order : query.start ≤ query.end
-  pub most : query.end ≤ 4294967295999
+  pub most : query.end ≤ LAST_TIME
   pub down : CanDown query.ms sub
 
 -- the names of points, each of which has its id

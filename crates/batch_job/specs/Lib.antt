@@ -2,10 +2,13 @@ pub mod OpenRules
 pub mod PendingIds
 pub mod NotedIds
 pub mod SeriesValues
+pub mod TextParts
+pub mod PendingSeries
 pub mod Pending
 pub mod LastValues
 pub mod Judgements
 pub mod PointLines
+pub mod AddedTexts
 pub mod Conflicts
 pub mod JobAnswers
 pub mod Storing

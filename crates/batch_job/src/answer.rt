@@ -39,10 +39,7 @@ pub fn answer<R: Rows + Drop>(
     ensures ready { IfOk result (λ reply. All IsReady reply.groups.items) }
     ensures stops { CountsStops is_stop result (R.stops store.old) (R.stops store.new) }
 {
-    let Gathered { series } = gathered;
-    // For the proof: no two series are the same.
-    let _ = series.iter();
-    put_all(alloc, store, rule, series)?;
+    put_all(alloc, store, rule, gathered.into_series())?;
     answer_from(alloc, query, store)
 }
 

@@ -6,5 +6,8 @@ mod last_values;
 pub mod pending;
 mod pending_ids;
 mod pending_puts;
+mod pending_series;
 pub mod point_line;
+mod series_text;
 mod series_values;
+mod text_parts;

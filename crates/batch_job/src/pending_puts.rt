@@ -1,25 +1,29 @@
 //! The points of all series, put into the store.
-ghost use Rattle.std.specs.Prelude.{◌≡◌, ◌∷◌, [], All, OnOk};
+ghost use Rattle.std.specs.Prelude.{◌≡◌, ◌∷◌, [], All, IfOk, OnOk};
 ghost use Rattle.cell_model.specs.Layout.{names_of};
 ghost use Rattle.cell_model.specs.Stops.{CountsStops, is_stop};
 ghost use Rattle.tsd_base.specs.Moments.{IsTime};
 ghost use Rattle.tsd_base.specs.Points.{data_point};
+ghost use Rattle.uid_table.specs.PlacedPoints.{IsPlaced};
+ghost use Rattle.point_put.specs.TextPuts.{point_at};
 ghost use Rattle.batch_job.specs.OpenRules.{AllowsAll};
-ghost use Rattle.batch_job.specs.PendingPuts.{Adds, AreResolved, MayPut, PutsAll, points_in};
+ghost use Rattle.batch_job.specs.PendingPuts.{Adds, AreResolved, AreTimes, MayPut, PutsAll, points_in};
+ghost use Rattle.batch_job.specs.PendingSeries.{all_values};
 ghost use Rattle.batch_job.specs.Storing.{IsAlone};
 
 use crate::last_values::settled;
+use crate::pending_series::PendingSeries;
 use crate::series_values::Values;
 use cell_model::Rows;
 use cell_model::answers::RowsFault;
-use point_put::{Config, PutFault, put};
+use indexmap::IndexMap;
+use point_put::{Config, PutFault, put_first, put_next};
 use std::alloc::Global;
-use std::collections::HashMap;
 use tsd_base::names::Name;
 use tsd_base::points::Point;
 use tsd_base::tags::Tags;
 use tsd_hooks::UidRule;
-use uid_table::Uids;
+use uid_table::{PlacedPoint, Uids};
 
 /// Names of each kind are given ids, which all of them have already.
 const ALL_KINDS: Config = Config {
@@ -33,22 +37,23 @@ pub fn put_all<R: Rows + Drop>(
     alloc: Global,
     store: &mut Uids<R>,
     rule: &UidRule,
-    series: HashMap<((Name, Tags), bool), Values>,
+    series: IndexMap<((Name, Tags), bool), PendingSeries>,
 ) -> Result<(), RowsFault>
     requires allows { AllowsAll rule.now.patterns }
     requires by { IsAlone (R.seen store.old) }
-    requires may { All (MayPut (R.seen store.old)) series.entries }
-    ensures puts { OnOk result (PutsAll (R.seen store.old) series.entries (R.seen store.new)) }
+    requires may { All (MayPut (R.seen store.old)) (all_values series.entries) }
+    ensures puts { OnOk result (PutsAll (R.seen store.old) (all_values series.entries) (R.seen store.new)) }
     ensures stops { CountsStops is_stop result (R.stops store.old) (R.stops store.new) }
 {
-    for (name, values) in series {
+    for (name, pending) in series {
         let ((metric, tags), fine) = name;
+        let values = pending.into_values();
         put_series(alloc, store, rule, metric, tags, fine, &values)?;
     }
     Ok(())
 }
 
-/// Puts the points of one series in one form.
+/// Puts the points of one series in one form: the first one by the ids of its names, and the others in its rows.
 fn put_series<R: Rows + Drop>(
     alloc: Global,
     store: &mut Uids<R>,
@@ -66,48 +71,85 @@ fn put_series<R: Rows + Drop>(
     let Ok(dots) = settled(alloc, values) else {
         return Err(RowsFault::OutOfMemory);
     };
-    let mut point = Point {
+    let Some((first, others)) = dots.list().split_first() else {
+        return Ok(());
+    };
+    let point = Point {
         metric,
         tags,
-        time: 0,
+        time: first.0,
         fine,
-        value: 0,
+        value: first.1,
     };
-    for &(time, value) in dots.list() {
-        set(&mut point, time, value);
-        put_point(alloc, store, rule, &point)?;
+    let mut placed = put_one(alloc, store, rule, point)?;
+    put_others(alloc, store, &mut placed, fine, others)
+}
+
+/// Puts other points of the series of one that was put.
+fn put_others<R: Rows + Drop>(
+    alloc: Global,
+    store: &mut Uids<R>,
+    placed: &mut PlacedPoint,
+    fine: bool,
+    values: &[(u64, i64)],
+) -> Result<(), RowsFault>
+    requires times { AreTimes fine values.now }
+    requires placed { IsPlaced (R.seen store.old) placed.old }
+    requires resolved { AreResolved (R.seen store.old) (names_of (data_point placed.old.point)) }
+    ensures adds { OnOk result (Adds (R.seen store.old) (points_in placed.old.point.metric placed.old.point.tags fine values.now) (R.seen store.new)) }
+    ensures stops { CountsStops is_stop result (R.stops store.old) (R.stops store.new) }
+{
+    for &(time, value) in values {
+        put_other(alloc, store, placed, time, fine, value)?;
     }
     Ok(())
 }
 
-/// Makes a point another one of its series.
-#[inline]
-fn set(point: &mut Point, time: u64, value: i64)
-    requires { IsTime time point.old.fine }
-    ensures metric { point.new.metric ≡ point.old.metric }
-    ensures tags { point.new.tags ≡ point.old.tags }
-    ensures fine { point.new.fine ≡ point.old.fine }
-    ensures time { point.new.time ≡ time }
-    ensures value { point.new.value ≡ value }
-{
-    point.time = time;
-    point.value = value;
-}
-
-/// Puts a point whose names have ids.
-fn put_point<R: Rows + Drop>(
+/// Puts a point whose names have ids, and answers it with its row.
+fn put_one<R: Rows + Drop>(
     alloc: Global,
     store: &mut Uids<R>,
     rule: &UidRule,
-    point: &Point,
-) -> Result<(), RowsFault>
+    point: Point,
+) -> Result<PlacedPoint, RowsFault>
     requires allows { AllowsAll rule.now.patterns }
-    requires resolved { AreResolved (R.seen store.old) (names_of (data_point point.now)) }
-    ensures adds { OnOk result (Adds (R.seen store.old) (data_point point.now ∷ []) (R.seen store.new)) }
+    requires resolved { AreResolved (R.seen store.old) (names_of (data_point point)) }
+    ensures adds { OnOk result (Adds (R.seen store.old) (data_point point ∷ []) (R.seen store.new)) }
+    ensures placed { IfOk result (λ placed. IsPlaced (R.seen store.new) placed) }
+    ensures point { IfOk result (λ placed. placed.point ≡ point) }
     ensures stops { CountsStops is_stop result (R.stops store.old) (R.stops store.new) }
 {
-    match put(alloc, store, rule, &ALL_KINDS, point) {
-        Ok(_) => Ok(()),
+    match put_first(alloc, store, rule, &ALL_KINDS, point) {
+        Ok(placed) => Ok(placed),
+        Err(PutFault::Unknown { .. }) => unreachable!(),
+        Err(PutFault::Filtered { .. }) => unreachable!(),
+        Err(PutFault::Exhausted { .. }) => unreachable!(),
+        Err(PutFault::OutOfMemory) => Err(RowsFault::OutOfMemory),
+        Err(PutFault::Stopped) => Err(RowsFault::Stopped),
+    }
+}
+
+/// Puts another point of the series of one that was put.
+#[inline]
+fn put_other<R: Rows + Drop>(
+    alloc: Global,
+    store: &mut Uids<R>,
+    placed: &mut PlacedPoint,
+    time: u64,
+    fine: bool,
+    value: i64,
+) -> Result<(), RowsFault>
+    requires timed { IsTime time fine }
+    requires placed { IsPlaced (R.seen store.old) placed.old }
+    requires resolved { AreResolved (R.seen store.old) (names_of (data_point placed.old.point)) }
+    ensures adds { OnOk result (Adds (R.seen store.old) (point_at (data_point placed.old.point) time fine value ∷ []) (R.seen store.new)) }
+    ensures placed { IsPlaced (R.seen store.new) placed.new }
+    ensures metric { placed.new.point.metric ≡ placed.old.point.metric }
+    ensures tags { placed.new.point.tags ≡ placed.old.point.tags }
+    ensures stops { CountsStops is_stop result (R.stops store.old) (R.stops store.new) }
+{
+    match put_next(alloc, store, placed, time, fine, value) {
+        Ok(()) => Ok(()),
         Err(PutFault::Unknown { .. }) => unreachable!(),
         Err(PutFault::Filtered { .. }) => unreachable!(),
         Err(PutFault::Exhausted { .. }) => unreachable!(),

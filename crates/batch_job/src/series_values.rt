@@ -1,5 +1,5 @@
 //! The values of one series.
-ghost use Rattle.std.specs.Prelude.{◌≡◌, [], ◌∷◌, ◌++◌, OnOk};
+ghost use Rattle.std.specs.Prelude.{◌≡◌, [], ◌∷◌, ◌++◌, OnErr, OnOk};
 
 use std::alloc::{AllocError, Global};
 use std::marker::Model;
@@ -30,10 +30,11 @@ impl Values {
         }
     }
 
-    /// Adds a value behind the others. It fails only for want of memory.
+    /// Adds a value behind the others. It fails only for want of memory, and then nothing is changed.
     #[inline]
     pub fn push(&mut self, time: u64, value: i64) -> Result<(), AllocError>
-        ensures { OnOk result (self.new ≡ self.old ++ (time, value) ∷ []) }
+        ensures ok { OnOk result (self.new ≡ self.old ++ (time, value) ∷ []) }
+        ensures err { OnErr result (self.new ≡ self.old) }
     {
         self.list.push((time, value))?;
         Ok(())

@@ -42,6 +42,8 @@ pub use Rattle.cell_laws.proofs.Ids.{same_kind, not_zero}
 pub use Rattle.cell_laws.proofs.Ids.{Names_Ids, claim_wrote, claimed_name}
 -- what a bump that gave an id counted, and what the counter's cell has then
 pub use Rattle.cell_laws.proofs.Counters.{Counted, counter_written, given_counts, held_there}
+-- no point row is the counters', and no claim is of it
+pub use Rattle.cell_laws.proofs.Counters.{point_differs, claim_differs}
 -- the bytes of an id are read back as that id
 pub use Rattle.cell_laws.proofs.LawsHold.{number-bytes}
 -- ---- steps that put nothing and assign no id

@@ -11,3 +11,10 @@ pub use Rattle.cell_model.proofs.Stores.{content-written, content-written_other}
 pub use Rattle.cell_model.proofs.Stores.{get-removed_other, get-dropped_other, get-dropped}
 -- the cells of a row have what the store has
 pub use Rattle.cell_model.proofs.Shown.{value_among-cells_of}
+-- ---- a step on an owned body, and then its stamp
+-- they are the step at its place
+pub use Rattle.cell_model.proofs.Stamps.{bump_stamped, claim_stamped, put_stamped}
+-- a step that changed nothing is so at each place
+pub use Rattle.cell_model.proofs.Stamps.{bump_full, claim_held}
+-- the cell that a step wrote is there
+pub use Rattle.cell_model.proofs.Stamps.{bump_there, claim_there, put_there}

@@ -6,6 +6,8 @@ use Rattle.cell_parts.proofs.Whole as whole
 -- ---- one part
 -- what a part has at a place, in a row and in a range, and its counters
 pub use Rattle.cell_parts.proofs.Parts.{part-empty, entries-part, get-part, get-mine, cells-part, next-part, content-part, value-part, counter-part, drop_count-part}
+-- a replay of one more entry
+pub use Rattle.cell_parts.proofs.Parts.{replayed-snoc}
 -- a step, its reply and a stamp
 pub use Rattle.cell_parts.proofs.Parts.{after-mine, after-other, reply-part, stamped-part, stamped-other}
 -- ---- parts beside one another

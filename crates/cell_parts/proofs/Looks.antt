@@ -11,6 +11,7 @@ use Rattle.list_lemmas.specs.BytesOrder.{bytes_cmp}
 use Rattle.cell_model.specs.Store.{is_between}
 use Rattle.cell_model.specs.Ranges.{IsWithin, InOneRange}
 use Rattle.list_lemmas.proofs.BoolTests.{nat_eq-refl}
+use Rattle.list_lemmas.proofs.OrderedBytes.{prefix_between}
 use Rattle.row_key.specs.Regions.{name_region, ids_region, third_byte, region_number}
 use Rattle.cell_parts.specs.Laws.{LooksInOne}
 
@@ -25,17 +26,6 @@ and_second false b e = absurd cc
 not_true : (b : Bool) → not b ≡ true → b ≡ false
 not_true true e = cc
 not_true false e = refl
-
-prefix_between : (m xs ys r : List ℕ) → is_lt (bytes_cmp r (m ++ xs)) ≡ false → is_lt (bytes_cmp r (m ++ ys)) ≡ true → (rest : List ℕ) × (r ≡ m ++ rest)
-prefix_between [] xs ys r a b = (r, refl)
-prefix_between (x ∷ m) xs ys [] a b = absurd cc
-prefix_between (x ∷ m) xs ys (y ∷ r) a b = at (nat_cmp y x) refl a b (prefix_between m xs ys r)
-  where
-    at : (o : Ordering) → o ≡ nat_cmp y x → is_lt (ordering_then o (bytes_cmp r (m ++ xs))) ≡ false → is_lt (ordering_then o (bytes_cmp r (m ++ ys))) ≡ true
-        → (is_lt (bytes_cmp r (m ++ xs)) ≡ false → is_lt (bytes_cmp r (m ++ ys)) ≡ true → (rest : List ℕ) × (r ≡ m ++ rest)) → (rest : List ℕ) × (y ∷ r ≡ (x ∷ m) ++ rest)
-    at Less e a b go = absurd cc
-    at Equal e a b go = let w = go a b in let same : y ≡ x = ranked y x Equal e in (w.0, λ i. same i ∷ w.1 i)
-    at Greater e a b go = absurd cc
 
 third_of : (m xs ys : List ℕ) → length m ≡ 3 → third_byte (m ++ xs) ≡ third_byte (m ++ ys)
 third_of [] xs ys e = absurd (omega (arith, e))

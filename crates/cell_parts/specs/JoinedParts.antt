@@ -8,7 +8,6 @@ use Rattle.cell_model.specs.Store.{Store}
 use Rattle.cell_model.specs.Machine.{after, reply_of}
 use Rattle.cell_parts.specs.StoreParts.{part, of_region, is_mine, StaysWithin}
 
--- the rows of a region
 -- the parts have the rows of the regions from n on, in order
 abbrev pub AreParts : (Row → ℕ) → ℕ → List Store → Type 0
 AreParts region n [] = Unit {0}

@@ -154,7 +154,8 @@ pub behind_first : (bytes name rest part : List ℕ) (len : ℕ) (r : Option (Bo
 behind_first bytes name rest part len None b l p m = tt
 behind_first bytes name rest part len (Some x) b l p m = b ∙ (λ i. l i ∷ m i) ∙ (λ i. told (p i) ++ x.now)
 
--- names, and then the row
-pub told_apart : (metric : List ℕ) (tags : List Pair) (row bytes one two : List ℕ) → bytes ≡ told metric ++ one → one ≡ told_tags tags ++ two → two ≡ row → bytes ≡ told_names metric tags ++ row
-told_apart metric tags row bytes one two b o t =
-    b ∙ ap (λ (xs : List ℕ). told metric ++ xs) (o ∙ ap (λ (xs : List ℕ). told_tags tags ++ xs) t) ∙ sym (append_assoc (told metric) (told_tags tags) row)
+-- before the row stand the names
+pub told_apart : (metric : List ℕ) (tags : List Pair) (row bytes names one two : List ℕ) → bytes ≡ names ++ row → names ≡ told metric ++ one → one ≡ told_tags tags ++ two → two ≡ [] → bytes ≡ told_names metric tags ++ row
+told_apart metric tags row bytes names one two b n o t =
+    let all : names ≡ told_names metric tags = n ∙ ap (λ (xs : List ℕ). told metric ++ xs) (o ∙ ap (λ (xs : List ℕ). told_tags tags ++ xs) t ∙ append-nil (told_tags tags)) in
+    b ∙ ap (λ (xs : List ℕ). xs ++ row) all

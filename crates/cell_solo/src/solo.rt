@@ -1,5 +1,5 @@
 //! Several callers of one body, in turns.
-ghost use Rattle.std.specs.Prelude.{◌≡◌, ◌≢◌, ℕ, ◌≤◌, ◌<◌, ◌^◌, ◌+◌, length, min, IfOk, IfErr, IsOk, OnOk, OnErr, nat_eq, IsTrue};
+ghost use Rattle.std.specs.Prelude.{◌≡◌, ◌≢◌, ◌≤◌, ◌<◌, ◌^◌, ◌+◌, length, min, IfOk, IfErr, IsOk, OnOk, OnErr, nat_eq, IsTrue};
 ghost use Rattle.cell_model.specs.declared.row.Row.{Row as AnyRow};
 ghost use Rattle.cell_model.specs.Sound.{IsBase};
 ghost use Rattle.cell_model.specs.Machine.{after, counter_row};

@@ -1,4 +1,4 @@
-//! Places: the names of points with their hours and rows. Points that follow one another at one place share it.
+//! Places: the names of points with their hours and rows. Points at one place share it.
 ghost use Rattle.std.specs.Prelude.{◌≡◌, ◌≤◌, ◌<◌, ◌+◌, ◌-◌, ◌^◌, [], ◌++◌, length, IsTrue, IfSome, OnOk, slice_get};
 ghost use Rattle.tsd_base.specs.Points.{data_point};
 ghost use Rattle.cell_solo.specs.TurnNames.{told, told_tags, told_names};
@@ -6,6 +6,7 @@ ghost use Rattle.cell_solo.specs.TurnPlaces.{GoesOn, IsWithin, AreWithin, named_
 
 use crate::turn_bytes::{write, write_names};
 use cell_model::row::Row;
+use guess_table::{Guesses, hash_bytes};
 use row_key::{HOUR_MILLIS, Table};
 use std::alloc::{AllocError, Global};
 use std::marker::Model;
@@ -27,12 +28,15 @@ struct Place {
 
 /// Places, numbered from 0.
 ///
-/// The bytes of all are one block; beside them a place takes 24 bytes, and one for each of its names. Contracts see the list
-/// of places, and for how much more there is room.
+/// The bytes of all are one block; beside them a place takes 24 bytes, and one for each of its names. A table of guesses from rows
+/// to places finds the place of a point that comes by turns with others. Contracts see the list of places, and for how much more
+/// there is room.
 #[derive(Drop)]
 pub struct Places {
     list: Vec<Place>,
     bytes: Vec<u8>,
+    // The number of the place that a row had last, by the hash of the row's bytes.
+    guesses: Guesses<u32>,
 }
 
 impl Model for Places {
@@ -54,6 +58,7 @@ impl Places {
         Places {
             list: Vec::new(alloc),
             bytes: Vec::new(alloc),
+            guesses: Guesses::make(alloc),
         }
     }
 
@@ -71,8 +76,8 @@ impl Places {
         self.bytes.reserve(bytes)
     }
 
-    /// The number of the place of this point and row: the last one where names, hour and row are the same, else a new one. The
-    /// room is that of the row, and [`crate::turn_bytes::MOST_NAMES`] for the names.
+    /// The number of the place of this point and row: the last one or the one that is guessed, where names, hour and row are the
+    /// same, else a new one. The room is that of the row, and [`crate::turn_bytes::MOST_NAMES`] for the names.
     pub fn find_or_add(&mut self, point: &Point, row: &Row) -> u32
         requires spare { 1 ≤ self.old.spare }
         requires room { 4352 + length row.now.bytes ≤ self.old.room }
@@ -82,10 +87,17 @@ impl Places {
         ensures spare { self.old.spare ≤ self.new.spare + 1 }
     {
         if is_last(&self.list, &self.bytes, point, row) {
-            (self.list.len() - 1) as u32
-        } else {
-            self.add(point, row)
+            return (self.list.len() - 1) as u32;
         }
+        let hash = hash_bytes(row.bytes.list());
+        let guess = self.guesses.guess(hash);
+        if let Some(number) = confirm(&self.list, &self.bytes, guess, point, row) {
+            return number;
+        }
+        let number = self.add(point, row);
+        self.guesses.grow(self.list.len(), number);
+        self.guesses.keep(hash, number);
+        number
     }
 
     /// Adds a place, and answers its number.
@@ -126,6 +138,27 @@ fn is_last(places: &[Place], block: &[u8], point: &Point, row: &Row) -> bool
     }
 }
 
+/// The number that is guessed, where its place is that of this point and row.
+#[inline]
+fn confirm(
+    places: &[Place],
+    block: &[u8],
+    guess: Option<u32>,
+    point: &Point,
+    row: &Row,
+) -> Option<u32>
+    requires { AreWithin places.now block.now }
+    ensures { IfSome result (λ number. slice_get (places_in places.now block.now) number ≡ Some (named_row_of (data_point point.now) row.now)) }
+{
+    let number = guess?;
+    let place = places.get(number as usize)?;
+    if is_at(place, block, point, row) {
+        Some(number)
+    } else {
+        None
+    }
+}
+
 /// Whether a place is that of this point and row.
 #[inline]
 fn is_at(place: &Place, block: &[u8], point: &Point, row: &Row) -> bool
@@ -142,17 +175,21 @@ fn is_at(place: &Place, block: &[u8], point: &Point, row: &Row) -> bool
     is_told(part, point, row)
 }
 
-/// Whether these bytes are the names of the point with the row behind them.
+/// Whether these bytes are the names of the point with the row behind them. The row is compared first, since rows mostly differ
+/// where names do.
 fn is_told(bytes: &[u8], point: &Point, row: &Row) -> bool
     ensures { IsTrue result → bytes.now ≡ told_names point.now.metric point.now.tags ++ row.now.bytes }
 {
-    let Some(behind_metric) = after_name(bytes, &point.metric) else {
+    let Some(names) = bytes.strip_suffix(row.bytes.list()) else {
+        return false;
+    };
+    let Some(behind_metric) = after_name(names, &point.metric) else {
         return false;
     };
     let Some(behind_tags) = after_tags(behind_metric, point.tags.pairs()) else {
         return false;
     };
-    behind_tags == row.bytes.list()
+    behind_tags.is_empty()
 }
 
 /// What stands behind these tags, where the bytes begin with their names.

@@ -98,8 +98,8 @@ struct Dropped {
 ///
 /// A step takes a head of 16 bytes, and the bytes of its parts, which are one block. A put of a point has only its value in
 /// that block: its qualifier follows from what the head tells, and its names, its hour and its row stand at its place, which
-/// it shares with the put of a point before it where these are the same. A drop is kept as it was given. Contracts see the
-/// list of turns, and for how much more there is room.
+/// it shares with earlier puts where these are the same and the place is found. A drop is kept as it was given. Contracts see
+/// the list of turns, and for how much more there is room.
 #[derive(Drop)]
 pub struct Turns {
     heads: Vec<Head>,

@@ -1,6 +1,7 @@
 -- What is asked, as plain data.
 use Rattle.std.specs.Prelude.{◌≤◌, ℕ, List, Option, option_map}
 use Rattle.std.specs.Borrow.{Bor}
+use Rattle.tsd_base.specs.declared.times.TheConstants.{LAST_TIME}
 use Rattle.command_words.specs.declared.asked.Batch as batch
 use Rattle.command_words.specs.declared.asked.PatternTexts as texts
 use Rattle.command_words.specs.declared.asked.Stdio as stdio
@@ -37,5 +38,5 @@ what_asked a = option_map plain_asked a
 
 -- a range ends at its start or behind it, and at the last time or before
 abbrev pub InRange : code.Asked → Type 0
-InRange (asked.Batch b) = (b.start ≤ b.end) × (b.end ≤ 4294967295999)
+InRange (asked.Batch b) = (b.start ≤ b.end) × (b.end ≤ LAST_TIME)
 InRange (asked.Stdio s) = Unit {0}

@@ -1,5 +1,6 @@
 //! Reading words.
 ghost use Rattle.std.specs.Prelude.{◌≡◌, ◌≤◌, map, option_map, string_bytes, IfOk, IfSome};
+ghost use Rattle.tsd_base.specs.declared.times.TheConstants.{LAST_TIME};
 ghost use Rattle.clap.specs.Matches.{found_of};
 ghost use Rattle.clap.specs.Walk.{first_of, rows_of};
 ghost use Rattle.clap.specs.Simple.{subcommand_rows_of};
@@ -65,7 +66,7 @@ fn asked_by<'a>(alloc: Global, name: &[u8], words: &ArgMatches<'a>) -> Option<As
 /// What `batch` is asked.
 fn batch_in<'a>(words: &ArgMatches<'a>) -> Option<Batch<'a>>
     ensures asked { batch_of result ≡ batch_in (rows_of (found_of words.now)) }
-    ensures range { IfSome result (λ batch. (batch.start ≤ batch.end) × (batch.end ≤ 4294967295999)) }
+    ensures range { IfSome result (λ batch. (batch.start ≤ batch.end) × (batch.end ≤ LAST_TIME)) }
 {
     let start = text(words, "start")?;
     let end = text(words, "end")?;
@@ -166,7 +167,7 @@ fn is_given(words: &ArgMatches<'_>, id: &str) -> bool
 /// Reads the words of `batch`.
 fn read_batch<'a>(start: &[u8], end: &[u8], query: &'a [u8], ms: bool) -> Option<Batch<'a>>
     ensures asked { batch_of result ≡ batch_from start.now end.now query.entry.now ms }
-    ensures range { IfSome result (λ batch. (batch.start ≤ batch.end) × (batch.end ≤ 4294967295999)) }
+    ensures range { IfSome result (λ batch. (batch.start ≤ batch.end) × (batch.end ≤ LAST_TIME)) }
 {
     let start = read_fixed_time(start)?;
     let end = read_fixed_time(end)?;

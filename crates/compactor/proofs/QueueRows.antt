@@ -1,32 +1,23 @@
 -- The rows of a queue, and the keys of its set.
-use Rattle.std.proofs.Common.{◌≡◌, ◌⊎◌, inl, inr, ℕ, ◌<◌, ◌≤◌, Bool, true, false, List, [], ◌∷◌, length, refl, sym, ap, subst, ◌∙◌, nat_eq, arith}
-use Rattle.std.specs.Prelude.{◌↔◌, ◌&&◌, All, Contains, IsTrue, Some, Result, Ok, Err, IfOk, OnErr, map, not, slice_get}
+use Rattle.std.proofs.Common.{◌≡◌, ◌⊎◌, inl, inr, ℕ, ◌<◌, ◌≤◌, Bool, true, false, List, [], ◌∷◌, ◌++◌, length, refl, sym, ap, subst, ◌∙◌, arith}
+use Rattle.std.specs.Prelude.{◌↔◌, Contains, IsTrue, Some, Result, Ok, Err, OnErr, map, not, slice_get, slice_index_or}
 use Rattle.std.specs.declared.alloc.AllocError.{AllocError}
 use Rattle.std.specs.Bool.{OnFalse}
 use Rattle.std.specs.declared.cmp.Ordering.{Ordering}
 use Rattle.std.specs.declared.cmp.Ordering.TheVariants.{Less, Equal, Greater}
 use Rattle.std.specs.Ordering.{nat_cmp, ordering_then, match_ordering}
-use Rattle.std.specs.Cmp.{IsTotalOrder, IsEquivalence, ranked, then_total, on_total, nat_cmp_total, and_equiv, on_equiv, nat_eq_equiv}
-use Rattle.std.specs.Cmp.Lexicographic.{slice_cmp, pointwise, nat_list_cmp_total, nat_list_eq_equiv}
+use Rattle.std.specs.Cmp.{IsTotalOrder, ranked, then_total, on_total, nat_cmp_total}
+use Rattle.std.specs.Cmp.Lexicographic.{slice_cmp, nat_list_cmp_total}
 use Rattle.std.specs.BTreeSet.{BTreeSet, IsOrdered, IsUnchanged, contains, insert_key}
-use Rattle.std.specs.HashSet.{HashSet}
-use Rattle.std.specs.HashSet as hashed
-use Rattle.std.specs.Set.{remove_key}
-use Rattle.std.specs.List.{list_any}
-use Rattle.std.specs.List.Sorted.{IsPermutation}
-use Rattle.std.proofs.lemmas.Bool.Decides.{nat_tests}
 use Rattle.std.proofs.lemmas.List.{get_or-map, length-map}
-use Rattle.std.proofs.lemmas.List.Elements.{All-cons}
-use Rattle.std.proofs.lemmas.List.Sorted.{All-permutation}
 use Rattle.std.proofs.lemmas.Map.Keys.{Less-from_sorted}
 use Rattle.std.proofs.lemmas.Map.Lookups.{CmpEqualImpliesEq, exact_pairs, exact_unsigned, exact_bytes}
-use Rattle.std.proofs.lemmas.Map.Views.{btree_set_contains_iff, All-remove_key, Contains-from_any, list_any-from_Contains}
-use Rattle.list_lemmas.proofs.BoolTests.{both_true}
-use Rattle.short_bytes.specs.Alike.{same_list}
+use Rattle.std.proofs.lemmas.List.Elements.{Contains-append_cases}
+use Rattle.std.proofs.lemmas.Map.Views.{btree_set_contains_iff}
 use Rattle.row_key.specs.declared.tables.Table.TheVariants.{Points}
 use Rattle.cell_model.specs.declared.row.Row.{Row}
 use Rattle.cell_model.specs.declared.answers.Stored.{Stored}
-use Rattle.compactor.specs.Queues.{stored_of, stored_cmp, AreQueued, AddMade}
+use Rattle.compactor.specs.Queues.{stored_of, stored_cmp, AreQueued, AddMade, AreAmong, AreAmongOr}
 use Rattle.compactor.specs.Drains.{IsNextBelow, NoneBelow}
 use Rattle.compactor.proofs.Lower as lower
 
@@ -119,56 +110,42 @@ was_added old new s added points is keys unchanged = at added (contains key_cmp 
     at false true h e u = (stored_in old.keys s points (there.0 h), ap (map stored_of) u)
     at false false h e u = cc
 
--- ---- rows that are found by their hash
+-- ---- keys that are known to be there
 
-abbrev key_eq : Key → Key → Bool
-key_eq a b = nat_eq a.0 b.0 && pointwise nat_eq a.1 b.1
+-- a row whose key is known is queued
+pub found_there : (ks known : List Key) (s : Stored) → s.row.table ≡ Points → AreAmong ks known → Contains known (s.base, s.row.bytes) → Contains (map stored_of ks) s
+found_there ks known s points among found = stored_in ks s points (among (s.base, s.row.bytes) found)
 
-same_number : (a b : ℕ) → nat_eq a b ≡ true → a ≡ b
-same_number a b e = grind (arith, nat_tests)
+pub still_known : (old new : BTreeSet Key) (known : List Key) → IsUnchanged old new → AreAmong old.keys known → AreAmong new.keys known
+still_known old new known same among k c = subst (λ (l : List Key). Contains l k) (sym same) (among k c)
 
-same_key : (k j : Key) → key_eq k j ≡ true → k ≡ j
-same_key k j e =
-    let p = both_true _ _ e in
-    let base = same_number k.0 j.0 p.0 in
-    let bytes = same_list k.1 j.1 p.1 in
-    λ i. (base i, bytes i)
-
-keys_equiv : IsEquivalence key_eq
-keys_equiv = and_equiv (on_equiv (λ (k : Key). k.0) nat_eq_equiv) (on_equiv (λ (k : Key). k.1) nat_list_eq_equiv)
-
--- a row that is found is queued
-pub found_there : (ks known : List Key) (s : Stored) → s.row.table ≡ Points → All (Contains ks) known → list_any (key_eq (s.base, s.row.bytes)) known ≡ true → Contains (map stored_of ks) s
-found_there ks known s points all found = stored_in ks s points (lower.all_in (Contains ks) (s.base, s.row.bytes) known all (Contains-from_any same_key (s.base, s.row.bytes) known found))
-
-pub still_known : (old new : BTreeSet Key) (known : List Key) → IsUnchanged old new → All (Contains old.keys) known → All (Contains new.keys) known
-still_known old new known same all = subst (λ (l : List Key). All (Contains l) known) (sym same) all
-
--- after an insert into both sets, whether or not there was memory for the second
-pub more_known : {S E : Type 0} (old new : BTreeSet Key) (known after : HashSet Key S) (k copy : Key) (r : Result Bool E) → copy ≡ k → new.keys ≡ insert_key key_cmp old.keys k → IfOk r (hashed.PutsKey known after copy) → OnErr r (hashed.IsUnchanged known after)
-    → All (Contains old.keys) known.keys → All (Contains new.keys) after.keys
-more_known {E = E} old new known after k copy r is keys put same all = at r put same
+-- after an insert, whether or not its key is known now
+pub more_known : (old new : BTreeSet Key) (known after : List Key) (k copy : Key) → copy ≡ k → new.keys ≡ insert_key key_cmp old.keys k → AreAmongOr known copy after → AreAmong old.keys known → AreAmong new.keys after
+more_known old new known after k copy is keys kept among x c = subst (λ (l : List Key). Contains l x) (sym keys) (to_inserted old.keys k x (at (kept x c)))
   where
-    stay : All (Contains new.keys) known.keys
-    stay = lower.all_of (Contains new.keys) known.keys (λ x c. subst (λ (l : List Key). Contains l x) (sym keys) (to_inserted old.keys k x (inl (lower.all_in (Contains old.keys) x known.keys all c))))
+    at : Contains known x ⊎ (x ≡ copy) → Contains old.keys x ⊎ (x ≡ k)
+    at (inl had) = inl (among x had)
+    at (inr same) = inr (same ∙ is)
 
-    one : Contains new.keys copy
-    one = subst (λ (l : List Key). Contains l copy) (sym keys) (to_inserted old.keys k copy (inr is))
+-- where no key is known
+pub none_known : (ks known : List Key) → known ≡ [] → AreAmong ks known
+none_known ks known none k c = absurd (lower.not_in k (subst (λ (l : List Key). Contains l k) none c))
 
-    at : (r : Result Bool E) → IfOk r (hashed.PutsKey known after copy) → OnErr r (hashed.IsUnchanged known after) → All (Contains new.keys) after.keys
-    at (Ok true) p e = All-permutation (Contains new.keys) (copy ∷ known.keys) after.keys p (All-cons (Contains new.keys) copy known.keys one stay)
-    at (Ok false) p e = subst (All (Contains new.keys)) (sym p) stay
-    at (Err f) p e = subst (All (Contains new.keys)) (sym e) stay
+-- one key more at the end of a list that had at most the old ones
+pub one_more : (old seen mid new : List Key) (key : Key) → AreAmong old seen → mid ≡ seen → new ≡ mid ++ key ∷ [] → AreAmongOr old key new
+one_more old seen mid new key among view is k c = at (Contains-append_cases mid (key ∷ []) k (subst (λ (l : List Key). Contains l k) is c))
+  where
+    one : (key ≡ k) ⊎ Contains [] k → k ≡ key
+    one (inl same) = sym same
+    one (inr none) = absurd (lower.not_in k none)
 
--- after the first is taken out of both
-pub rest_known : {S : Type 0} (ks rest : List Key) (k : Key) (known after : HashSet Key S) → ks ≡ k ∷ rest → All (Contains ks) known.keys → IsPermutation (remove_key (key_eq k) known.keys) after.keys → hashed.contains_by (key_eq k) after ≡ false → All (Contains rest) after.keys
-rest_known ks rest k known after parts all less gone =
-    let were : All (Contains (k ∷ rest)) known.keys = subst (λ (l : List Key). All (Contains l) known.keys) parts all in
-    let kept : All (Contains (k ∷ rest)) after.keys = All-permutation (Contains (k ∷ rest)) (remove_key (key_eq k) known.keys) after.keys less (All-remove_key (key_eq k) (Contains (k ∷ rest)) known.keys were) in
-    lower.all_of (Contains rest) after.keys (λ x c. elim (lower.split k x rest (lower.all_in (Contains (k ∷ rest)) x after.keys kept c)) [
-      | inl same ↦ (let found : list_any (key_eq k) after.keys ≡ true = list_any-from_Contains keys_equiv k after.keys (subst (Contains after.keys) (sym same) c) in cc)
-      | inr later ↦ later
-    ])
+    at : Contains mid k ⊎ Contains (key ∷ []) k → Contains old k ⊎ (k ≡ key)
+    at (inl had) = inl (among k (subst (λ (l : List Key). Contains l k) view had))
+    at (inr here) = inr (one (lower.split key k [] here))
+
+-- the key that stands at a place
+pub key_at : (list : List Key) (at : ℕ) (key : Key) (base : ℕ) (bytes : List ℕ) → at < length list → key ≡ slice_index_or list at key → key.0 ≡ base → key.1 ≡ bytes → Contains list (base, bytes)
+key_at list at key base bytes lt is b e = subst (Contains list) (λ i. (b i, e i)) (at, lt, sym is)
 
 -- ---- the first of the queue
 

@@ -3,6 +3,7 @@
 
 pub mod compact;
 pub mod compaction;
+mod known_keys;
 mod plan;
 pub mod queue;
 pub mod queue_drain;

@@ -3,15 +3,17 @@ ghost use Rattle.std.specs.Prelude.{◌≡◌, ◌∷◌, [], length, IfOk, OnEr
 ghost use Rattle.row_key.specs.declared.tables.Table.TheVariants.{Points};
 ghost use Rattle.cell_model.specs.declared.answers.Stored.{Stored};
 ghost use Rattle.cell_model.specs.declared.row.Row.{Row};
-ghost use Rattle.compactor.specs.Queues.{AddMade, AreQueued, stored_of};
+ghost use Rattle.compactor.specs.Queues.{AddMade, AreQueued, stored_of, stored_as};
 ghost use Rattle.compactor.specs.Drains.{IsNextBelow, NoneBelow};
 
+use crate::known_keys::KnownKeys;
 use cell_model::answers::Stored;
 use cell_model::row::Row;
+use guess_table::hash_bytes;
 use qual_codec::Bytes;
 use row_key::Table;
 use std::alloc::{AllocError, Global};
-use std::collections::{BTreeSet, HashSet};
+use std::collections::BTreeSet;
 use std::marker::Model;
 
 /// Point rows that are to be compacted, each once, in order of the second at which their hour begins, and then of their bytes.
@@ -20,22 +22,22 @@ use std::marker::Model;
 #[derive(Drop)]
 pub struct Queue {
     rows: BTreeSet<(u32, Bytes), Global>,
-    // Rows of `rows`, found by their hash: most that are added are there already.
-    known: HashSet<(u32, Bytes)>,
+    // Some of `rows`, found by a hash: most that are added are there already.
+    known: KnownKeys,
     alloc: Global,
 }
 
 impl Model for Queue {
-    ghost use Rattle.std.specs.Prelude.{List, map, All, Contains};
+    ghost use Rattle.std.specs.Prelude.{List, map};
     ghost use Rattle.cell_model.specs.declared.answers.Stored.{Stored};
 
     ghost Value = { List Stored };
 
-    ghost use Rattle.compactor.specs.Queues.{AreQueued, stored_of};
+    ghost use Rattle.compactor.specs.Queues.{AreQueued, AreAmong, stored_of};
 
     ghost view = { λ q. map stored_of q.rows.keys };
 
-    ghost invariant = { λ q. AreQueued (map stored_of q.rows.keys) × All (Contains q.rows.keys) q.known.keys };
+    ghost invariant = { λ q. AreQueued (map stored_of q.rows.keys) × AreAmong q.rows.keys q.known };
 }
 
 impl Queue {
@@ -45,37 +47,38 @@ impl Queue {
     {
         Queue {
             rows: BTreeSet::new(alloc),
-            known: HashSet::new(alloc),
+            known: KnownKeys::make(alloc),
             alloc,
         }
     }
 
-    /// Adds a row, and answers true; where the same was there it answers false. It fails only for want of memory, and then nothing
-    /// changes.
-    pub fn add(&mut self, stored: Stored) -> Result<bool, AllocError>
-        requires { stored.row.table ≡ Points }
-        ensures ok { IfOk result (λ added. AddMade self.old stored added self.new) }
+    /// Adds the row of a base, and answers true; where the same was there it answers false. It fails only for want of memory, and
+    /// then nothing changes. The row is copied only where it isn't known to be there.
+    pub fn add(&mut self, row: &Row, base: u32) -> Result<bool, AllocError>
+        requires { row.now.table ≡ Points }
+        ensures ok { IfOk result (λ added. AddMade self.old (stored_as row.now base) added self.new) }
         ensures rising { AreQueued self.new }
         ensures err { OnErr result (self.new ≡ self.old) }
     {
-        let Stored { row, base } = stored;
-        let key = (base, row.bytes);
-        if self.known.contains(&key) {
+        let bytes = row.bytes.list();
+        let hash = hash_bytes(bytes);
+        if self.known.finds(hash, base, bytes) {
             return Ok(false);
         }
-        self.insert(key)
+        let key = (base, row.bytes.again(self.alloc)?);
+        self.insert(hash, key)
     }
 
-    /// Adds the row of a base and bytes.
-    fn insert(&mut self, key: (u32, Bytes)) -> Result<bool, AllocError>
+    /// Adds the row of a base and bytes, which have this hash.
+    fn insert(&mut self, hash: u64, key: (u32, Bytes)) -> Result<bool, AllocError>
         ensures ok { IfOk result (λ added. AddMade self.old (stored_of key) added self.new) }
         ensures rising { AreQueued self.new }
         ensures err { OnErr result (self.new ≡ self.old) }
     {
         let copy = (key.0, key.1.again(self.alloc)?);
         let added = self.rows.insert(key)?;
-        // Where there is no memory for it, it is searched for in `rows` the next time.
-        let _ = self.known.insert(copy);
+        let most = self.rows.len().saturating_mul(2).saturating_add(64);
+        self.known.keep(hash, copy, most);
         Ok(added)
     }
 
@@ -87,13 +90,14 @@ impl Queue {
         self.rows.len() as u64
     }
 
-    /// Takes the first row out, or answers None where there is none. It takes no memory.
+    /// Takes the first row out, or answers None where there is none. It takes no memory. Each row that stays is searched for once
+    /// when it's added again.
     pub fn pop(&mut self) -> Option<Stored>
         ensures first { MatchOption result ((self.old ≡ []) × (self.new ≡ [])) (λ first. self.old ≡ first ∷ self.new) }
         ensures rising { AreQueued self.old }
     {
         let key = self.rows.pop_first()?;
-        let _ = self.known.remove(&key);
+        self.known.clear();
         let (base, bytes) = key;
         Some(Stored {
             row: Row {

@@ -1,5 +1,6 @@
 //! The downsampled series.
 ghost use Rattle.std.specs.Prelude.{◌≡◌, ◌≤◌, length};
+ghost use Rattle.tsd_base.specs.declared.times.TheConstants.{LAST_TIME};
 ghost use Rattle.tsd_base.specs.Dots.{IsRising};
 ghost use Rattle.downsample.specs.Buckets.{all_buckets, buckets_of};
 ghost use Rattle.downsample.specs.Downsampling.{downsampled, valued, GivesDown};
@@ -43,7 +44,7 @@ impl From<AllocError> for DownFault {
 pub fn down(alloc: Global, dots: &Dots, how: Down, start: u64, end: u64) -> Result<Dots, DownFault>
     requires interval { 1 ≤ how.interval }
     requires order { start ≤ end }
-    requires end { end ≤ 4294967295999 }
+    requires end { end ≤ LAST_TIME }
     requires few { how.fill ≡ Fill.Zero → length (all_buckets how.interval start end) ≤ 1000000 }
     ensures { GivesDown result (downsampled how start end dots.now) }
 {
@@ -90,7 +91,7 @@ fn of_all(
     requires rising { IsRising list.now }
     requires interval { 1 ≤ interval }
     requires order { start ≤ end }
-    requires end { end ≤ 4294967295999 }
+    requires end { end ≤ LAST_TIME }
     ensures { GivesDown result (valued function interval list.now (all_buckets interval start end)) }
 {
     let first = bucket_of(interval, start);

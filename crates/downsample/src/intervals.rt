@@ -1,6 +1,7 @@
 //! Buckets: the times from one multiple of an interval to the next.
 ghost use Rattle.std.specs.Prelude.{◌≡◌, ◌≤◌, ◌<◌, ◌+◌, ◌-◌, length};
 ghost use Rattle.std.specs.List.{AllWithin};
+ghost use Rattle.tsd_base.specs.declared.times.TheConstants.{LAST_TIME};
 ghost use Rattle.tsd_base.specs.Dots.{IsRising};
 ghost use Rattle.downsample.specs.Buckets.{bucket_of, all_buckets};
 
@@ -9,7 +10,7 @@ ghost use Rattle.downsample.specs.Buckets.{bucket_of, all_buckets};
 pub fn buckets(start: u64, end: u64, interval: u64) -> u64
     requires interval { 1 ≤ interval }
     requires order { start ≤ end }
-    requires end { end ≤ 4294967295999 }
+    requires end { end ≤ LAST_TIME }
     ensures { result ≡ length (all_buckets interval start end) }
 {
     end / interval - start / interval + 1

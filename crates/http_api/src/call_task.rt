@@ -8,7 +8,7 @@ ghost use Rattle.query_text.specs.QueryReadings.{CanWork, GivesQuery};
 ghost use Rattle.query_text.specs.declared.queries.Query.{Query};
 ghost use Rattle.query_text.specs.declared.queries.QueryFault.{QueryFault};
 ghost use Rattle.http_reply.specs.declared.reply_status.Status.{Status};
-ghost use Rattle.http_api.specs.CallWork.{Work, work_of, by_route, refusal_status, refusal_message, refuses, put_flags, puts_body, assigns, suggests, asks, asks_body, asks_clock, got_by, posted_by};
+ghost use Rattle.http_api.specs.CallWork.{work_of, by_route, refusal_status, refusal_message, refuses, put_flags, puts_body, assigns, suggests, asks, asks_body, asks_clock, got_by, posted_by};
 ghost use Rattle.http_api.specs.CallWork.Work.{Says};
 ghost use Rattle.http_api.specs.CallTasks.{IsTask};
 

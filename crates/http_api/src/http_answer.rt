@@ -7,12 +7,11 @@ ghost use Rattle.serde_json.specs.View.{view};
 ghost use Rattle.cell_model.specs.Seen.{Seen};
 ghost use Rattle.cell_model.specs.Stops.{CountsStops, is_stop};
 ghost use Rattle.cell_model.specs.declared.answers.RowsFault.TheVariants as rows_fault;
-ghost use Rattle.http_reply.specs.ReplyBytes.{reply_bytes};
 ghost use Rattle.http_routes.specs.Routes.{route_table, valued};
 ghost use Rattle.name_requests.specs.AssignRequests.{assign_lists};
 ghost use Rattle.name_requests.specs.SuggestRequests.{IsMax, suggestion};
 ghost use Rattle.http_api.specs.CallTasks.{IsTask};
-ghost use Rattle.http_api.specs.CallWork.{PutFlags, Work};
+ghost use Rattle.http_api.specs.CallWork.{Work};
 ghost use Rattle.http_api.specs.CallWork.Work.{Assigns, Puts, Says, Suggests};
 ghost use Rattle.http_api.specs.HttpAnswers.{CallBroken, CallReplied, WorkBroken, WorkReplied};
 

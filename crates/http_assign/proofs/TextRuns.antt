@@ -1,6 +1,5 @@
 -- One text after the other.
-use Rattle.std.proofs.Common.{◌≡◌, ℕ, ◌≤◌, List, [], ◌∷◌, ◌++◌, map, take, drop, length, get_or, ◌+◌, ◌<◌, refl, sym, ap, subst, ◌∙◌, append-nil, append_assoc, arith, Some, Result, Ok, Err, IfOk, IfErr, OnErr, inl}
-use Rattle.std.proofs.lemmas.List.{take-append-drop, map-append, map_more, drop_more}
+use Rattle.std.proofs.Common.{◌≡◌, ℕ, ◌≤◌, List, [], ◌∷◌, ◌++◌, length, ◌+◌, refl, sym, ap, subst, ◌∙◌, append-nil, append_assoc, arith, Some, Result, Ok, Err, IfOk, IfErr, OnErr, inl}
 use Rattle.tsd_base.specs.declared.kinds.Kind.{Kind}
 use Rattle.tsd_base.specs.declared.names.NameFault.{NameFault}
 use Rattle.tsd_base.specs.declared.names.NameFault.TheVariants as names
@@ -212,16 +211,3 @@ at_err (Err e) p = p
 pub err_as : {T E : Type 0} {P Q : Type 0} (r : Result T E) → (P → Q) → OnErr r P → OnErr r Q
 err_as (Ok x) f p = tt
 err_as (Err e) f p = f p
-
--- ---- places in lists
-
-pub split_map : {X Y : Type 0} (f : X → Y) (xs : List X) (i : ℕ) (x : X) → i < length xs → x ≡ get_or xs i x → map f xs ≡ map f (take i xs) ++ f x ∷ map f (drop (i + 1) xs)
-split_map f xs i x lt is =
-    ap (map f) (sym (take-append-drop i xs)) ∙ map-append f (take i xs) (drop i xs)
-    ∙ ap (λ ys. map f (take i xs) ++ map f ys) (drop_more xs i x lt) ∙ ap (λ y. map f (take i xs) ++ f y ∷ map f (drop (i + 1) xs)) (sym is)
-
-pub more_map : {X Y : Type 0} (f : X → Y) (xs : List X) (i : ℕ) (x : X) → i < length xs → x ≡ get_or xs i x → map f (take (i + 1) xs) ≡ map f (take i xs) ++ f x ∷ []
-more_map f xs i x lt is = map_more f xs i x lt ∙ ap (λ y. map f (take i xs) ++ f y ∷ []) (sym is)
-
-pub behind_map : {X Y : Type 0} (f : X → Y) (xs : List X) (i : ℕ) (x : X) → i < length xs → x ≡ get_or xs i x → map f xs ≡ (map f (take i xs) ++ f x ∷ []) ++ map f (drop (i + 1) xs)
-behind_map f xs i x lt is = split_map f xs i x lt is ∙ sym (append_assoc (map f (take i xs)) (f x ∷ []) (map f (drop (i + 1) xs)))

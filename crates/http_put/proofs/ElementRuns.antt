@@ -1,7 +1,6 @@
 -- One element after the other.
-use Rattle.std.proofs.Common.{◌≡◌, ◌⊎◌, inl, inr, ℕ, ◌≤◌, List, [], ◌∷◌, ◌++◌, map, take, drop, length, get_or, ◌+◌, ◌<◌, refl, sym, ap, subst, ◌∙◌, append_assoc, arith, Result, Ok, Err}
+use Rattle.std.proofs.Common.{◌≡◌, ◌⊎◌, inl, inr, ℕ, ◌≤◌, List, [], ◌∷◌, ◌++◌, ◌+◌, refl, sym, ap, subst, ◌∙◌, arith, Result, Ok, Err}
 use Rattle.std.specs.Prelude.{Contains}
-use Rattle.std.proofs.lemmas.List.{take-append-drop, map-append, map_more, drop_more}
 use Rattle.std.proofs.lemmas.List.Elements.{Contains-append_left, Contains-append_right, Contains-append_cases}
 use Rattle.list_lemmas.proofs.ListMembers.{split, not_in}
 use Rattle.serde_json.specs.Data.{Data}
@@ -179,16 +178,3 @@ pub ended_more : (c : Admission) (ds rest : List Data) (d : Data) (all : List Da
     → all ≡ (ds ++ d ∷ []) ++ rest → SoFar c ds old before outs now mid → ElementPut c d now mid outcome new after → ElementsBegun c all old before new after
 ended_more c ds rest d all old now new before mid after outs outcome is so x =
     ended_there c (ds ++ d ∷ []) rest all old new before after (outs ++ outcome ∷ []) is (one_more c ds d old now new before mid after outs outcome so x)
-
--- ---- places in lists
-
-pub split_map : {X Y : Type 0} (f : X → Y) (xs : List X) (i : ℕ) (x : X) → i < length xs → x ≡ get_or xs i x → map f xs ≡ map f (take i xs) ++ f x ∷ map f (drop (i + 1) xs)
-split_map f xs i x lt is =
-    ap (map f) (sym (take-append-drop i xs)) ∙ map-append f (take i xs) (drop i xs)
-    ∙ ap (λ ys. map f (take i xs) ++ map f ys) (drop_more xs i x lt) ∙ ap (λ y. map f (take i xs) ++ f y ∷ map f (drop (i + 1) xs)) (sym is)
-
-pub more_map : {X Y : Type 0} (f : X → Y) (xs : List X) (i : ℕ) (x : X) → i < length xs → x ≡ get_or xs i x → map f (take (i + 1) xs) ≡ map f (take i xs) ++ f x ∷ []
-more_map f xs i x lt is = map_more f xs i x lt ∙ ap (λ y. map f (take i xs) ++ f y ∷ []) (sym is)
-
-pub behind_map : {X Y : Type 0} (f : X → Y) (xs : List X) (i : ℕ) (x : X) → i < length xs → x ≡ get_or xs i x → map f xs ≡ (map f (take i xs) ++ f x ∷ []) ++ map f (drop (i + 1) xs)
-behind_map f xs i x lt is = split_map f xs i x lt is ∙ sym (append_assoc (map f (take i xs)) (f x ∷ []) (map f (drop (i + 1) xs)))

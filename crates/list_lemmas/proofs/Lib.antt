@@ -6,3 +6,4 @@ pub mod BoolTests
 pub mod OrderedBytes
 pub mod EntryLemmas
 pub mod FirstPlaces
+pub mod MapPlaces

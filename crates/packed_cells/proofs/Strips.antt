@@ -1,5 +1,5 @@
 -- What a strip's cells are after an edit.
-use Rattle.std.proofs.Common.{◌≡◌, ℕ, ◌+◌, ◌<◌, ◌^◌, List, length, map, refl, sym, ap, subst, ◌∙◌, arith}
+use Rattle.std.proofs.Common.{◌≡◌, ℕ, ◌<◌, ◌^◌, List, length, sym, ap, ◌∙◌, arith}
 use Rattle.std.specs.Prelude.{insert, slice_set, slice_index_or}
 use Rattle.std.specs.List.{remove}
 use Rattle.std.specs.Int.{w64, to_le_bytes, from_le_bytes}

@@ -32,7 +32,7 @@ pub struct Block {
 impl Model for Block {
     ghost use Rattle.std.specs.Prelude.{List};
     ghost use Rattle.qual_codec.specs.declared.cells.Cell.{Cell};
-    ghost use Rattle.packed_cells.specs.Forms.{form_cells};
+    ghost use Rattle.packed_cells.specs.BlockForms.{form_cells};
 
     ghost Value = { List Cell };
 

@@ -1,4 +1,5 @@
-//! Cells in one block of bytes, which contracts see as a list.
+//! Cells of any lengths in one block of bytes, which contracts see as a list. They stand apart from strips, since the two forms of a
+//! block have nothing in common but what they are seen as.
 ghost use Rattle.std.specs.Prelude.{◌≡◌, ◌≤◌, ◌<◌, ◌+◌, ℕ, [], ◌∷◌, ◌++◌, take, length, IfOk, IsOk, OnOk, OnErr, slice_index_or, slice_set, insert};
 ghost use Rattle.std.specs.List.{remove as without};
 ghost use Rattle.packed_cells.specs.Packed.{stamped_at, overwritten, span_at, Extends, Tells};

@@ -1,5 +1,5 @@
 //! Values of a few bytes, which take no memory of their own.
-ghost use Rattle.std.specs.Prelude.{◌≡◌, ◌↔◌, ℕ, Bool, true, List, length, IfSome, IsSome, MatchOption};
+ghost use Rattle.std.specs.Prelude.{◌≡◌, ◌↔◌, ℕ, Bool, true, List, length, IfSome, IsSome};
 ghost use Rattle.packed_cells.specs.SmallValues.{narrow_bytes, is_narrow, wide_bytes, is_wide};
 
 /// A value whose length is one of a few.

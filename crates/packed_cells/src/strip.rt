@@ -1,5 +1,5 @@
 //! Cells of one size, one behind the other.
-ghost use Rattle.std.specs.Prelude.{◌≡◌, ◌≤◌, ◌<◌, ◌↔◌, ℕ, true, [], ◌∷◌, length, map, IfOk, IfSome, IsSome, IsTrue, IsFalse, OnErr, slice_index_or, slice_set, insert, if◌then◌else◌};
+ghost use Rattle.std.specs.Prelude.{◌≡◌, ◌≤◌, ◌<◌, ◌↔◌, ℕ, true, [], ◌∷◌, length, IfOk, IfSome, IsSome, OnErr, slice_index_or, slice_set, insert, if◌then◌else◌};
 ghost use Rattle.std.specs.List.{remove as without};
 ghost use Rattle.packed_cells.specs.Packed.{stamped_at};
 ghost use Rattle.packed_cells.specs.Strips.{slot_cell};

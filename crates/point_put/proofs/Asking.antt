@@ -161,7 +161,7 @@ names_joined c _ ys _ m nil b = b
 names_joined c _ ys _ m (more {kind} {name} {names} {part} {list} f a) b =
     subst (ForNames c ((kind, name) ∷ (names ++ ys))) (sym (append_assoc part list m)) (more f (names_joined c names ys list m a b))
 
-none_for : (c : Admission) (ys : Names) → ForNames c ys []
+pub none_for : (c : Admission) (ys : Names) → ForNames c ys []
 none_for c [] = nil
 none_for c (n ∷ ys) = more ForName.none (none_for c ys)
 

@@ -29,6 +29,7 @@ use Rattle.point_put.specs.declared.fault.PutFault.TheVariants.{OutOfMemory}
 use Rattle.point_put.specs.PutFaults.{put_fault}
 use Rattle.point_put.specs.ShownIds.{AllShown, KeyShown}
 use Rattle.point_put.specs.PutPoint.{StoreMade}
+use Rattle.point_put.specs.StoredTexts.{answer_at}
 use Rattle.cell_laws.proofs.CallerLemmas.{first_lawful, first_fits, wait_made, step_made, itself}
 use Rattle.point_put.proofs.Asking.{passed_on}
 
@@ -90,12 +91,15 @@ stored old new point key row qual value l step p =
       l.key_is.base,
     )
 
+pub waited_made : (old new : Seen) (point : DataPoint) (e : RowsFault) → Waited old new → (IsPossible old → IsPossible new) → StoreMade point old (Err (put_fault e)) new
+waited_made old new point rows.OutOfMemory w lives = wait_made old new w lives
+waited_made old new point rows.Stopped w lives = wait_made old new w lives
+
 pub not_stored : (old new : Seen) (point : DataPoint) (e : RowsFault) (r : Result Stored PutFault) → IsErrAnd r (λ y. y ≡ put_fault e) → Waited old new → (IsPossible old → IsPossible new) → StoreMade point old r new
-not_stored old new point e r is w lives = passed_on (λ x. StoreMade point old x new) (put_fault e) r is (at e)
-  where
-    at : (e : RowsFault) → StoreMade point old (Err (put_fault e)) new
-    at rows.OutOfMemory = wait_made old new w lives
-    at rows.Stopped = wait_made old new w lives
+not_stored old new point e r is w lives = passed_on (λ x. StoreMade point old x new) (put_fault e) r is (waited_made old new point e w lives)
+
+pub not_stored_at : (old new : Seen) (point : DataPoint) (e : RowsFault) (r : Result (Unit {0}) PutFault) (stored : Stored) → IsErrAnd r (λ y. y ≡ put_fault e) → Waited old new → (IsPossible old → IsPossible new) → StoreMade point old (answer_at r stored) new
+not_stored_at old new point e r stored is w lives = passed_on (λ x. StoreMade point old (answer_at x stored) new) (put_fault e) r is (waited_made old new point e w lives)
 
 pub no_memory : (s : Seen) (point : DataPoint) (r : Result Stored PutFault) → IsErrAnd r (λ y. y ≡ OutOfMemory) → Made s [] s → StoreMade point s r s
 no_memory s point r is m = passed_on (λ x. StoreMade point s x s) OutOfMemory r is m

@@ -4,3 +4,5 @@ pub mod PutFaults
 pub mod Entries
 pub mod ShownIds
 pub mod PutPoint
+pub mod StoredTexts
+pub mod TextPuts

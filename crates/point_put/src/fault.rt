@@ -7,6 +7,7 @@ use cell_model::answers::RowsFault;
 use std::alloc::AllocError;
 use tsd_base::kinds::Kind;
 use tsd_base::names::Name;
+use tsd_base::points::PointFault;
 
 /// Why a point wasn't put. Names that were given ids before it keep them.
 #[derive(Debug, PartialEq, Eq, Drop)]
@@ -22,6 +23,15 @@ pub enum PutFault {
     OutOfMemory,
     /// The caller was stopped before one of the steps.
     Stopped,
+}
+
+/// Why no point of a text was put.
+#[derive(Debug, Drop)]
+pub enum TextFault {
+    /// The text has no point.
+    Unread { fault: PointFault },
+    /// The point of the text was refused.
+    Unput { fault: PutFault },
 }
 
 impl PutFault {

@@ -1,7 +1,6 @@
 //! The cell of a point: the row of its key, its qualifier and its value.
 ghost use Rattle.std.specs.Prelude.{◌≡◌, ◌%◌, [], ◌∷◌, length, IfOk};
 ghost use Rattle.row_key.specs.Key.{IsKey, key_bytes};
-ghost use Rattle.qual_codec.specs.Items.{IsLength};
 ghost use Rattle.qual_codec.specs.CellDots.{IsDots};
 ghost use Rattle.qual_codec.specs.Spelling.{IsShortest, dot_of};
 ghost use Rattle.cell_model.specs.Readings.{point_row};

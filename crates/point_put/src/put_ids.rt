@@ -1,6 +1,5 @@
 //! The ids of a point's names.
-ghost use Rattle.std.specs.Prelude.{◌≡◌, ◌≤◌, true, false, [], ◌∷◌, IfOk, IfErr, OnOk};
-ghost use Rattle.cell_model.specs.Seen.{IsPossible};
+ghost use Rattle.std.specs.Prelude.{◌≡◌, true, false, [], ◌∷◌, IfOk};
 ghost use Rattle.uid_table.specs.Shown.{HasShown};
 ghost use Rattle.point_put.specs.Configs.{makes};
 ghost use Rattle.cell_model.specs.Calls.{Leaves};

@@ -1,7 +1,6 @@
 //! Putting a point.
-ghost use Rattle.std.specs.Prelude.{◌≡◌, ◌≤◌, ◌+◌, ◌*◌, length, IfErr, OnOk};
+ghost use Rattle.std.specs.Prelude.{◌≤◌, ◌+◌, ◌*◌, length};
 ghost use Rattle.tsd_base.specs.Points.{data_point};
-ghost use Rattle.cell_model.specs.Seen.{IsPossible};
 ghost use Rattle.uid_table.specs.IdSteps.{MadeSo};
 ghost use Rattle.cell_model.specs.Calls.{Leaves};
 ghost use Rattle.point_put.specs.Admissions.{admission};

@@ -18,7 +18,8 @@ use Rattle.qual_codec.proofs.Values.{no_conflict, one_conflict, value_dot, dot_v
 use Rattle.list_lemmas.proofs.ListMembers.{here, there, not_in, split}
 use Rattle.qual_codec.proofs.Ordering.{good_refl, good_trans}
 
-abbrev Rise : Dot → Dot → Type 0
+-- one dot is at a lower offset than another
+abbrev pub Rise : Dot → Dot → Type 0
 Rise d e = d.item.offset < e.item.offset
 
 -- ---- better items

@@ -29,6 +29,14 @@ pub use Rattle.qual_codec.proofs.Values.{no_conflict}
 pub use Rattle.qual_codec.proofs.Gathered.{are_next, reads_at}
 -- a dot of the cells is one of a cell
 pub use Rattle.qual_codec.proofs.Merges.{DotIn, dot_in}
+-- ---- dots whose offsets rise
+-- each dot stands at a lower offset than those behind it
+pub use Rattle.qual_codec.proofs.Best.{Rise}
+pub use Rattle.qual_codec.proofs.RisingDots.{AreRising}
+-- dots that rise below an offset: none, and one more that is from this offset on
+pub use Rattle.qual_codec.proofs.RisingDots.{RiseBelow, none_below, rise_push}
+-- of dots that rise merging keeps those in the range
+pub use Rattle.qual_codec.proofs.RisingDots.{keeps_rising}
 
 -- ---- what a cell reads as
 

@@ -1,5 +1,5 @@
 //! Reading a cell.
-ghost use Rattle.std.specs.Prelude.{◌≡◌, ◌⊎◌, ◌+◌, ◌%◌, ◌<◌, ◌≤◌, ◌++◌, List, length, IfOk, IfErr, OnOk, Result, Ok, Err, MatchResult, FitsSigned, nat_lt};
+ghost use Rattle.std.specs.Prelude.{◌≡◌, ◌⊎◌, ◌+◌, ◌%◌, ◌<◌, ◌≤◌, ◌++◌, ◌∷◌, [], List, length, IfOk, IfErr, IfSome, OnOk, Result, Ok, Err, MatchResult, FitsSigned, nat_lt};
 ghost use Rattle.qual_codec.specs.declared.cells.CellFault.TheVariants.{OutOfMemory};
 ghost use Rattle.qual_codec.specs.Items.{IsLength, Fields};
 ghost use Rattle.qual_codec.specs.CellDots.{IsDots, number_bytes, tail_for, width_of};
@@ -92,6 +92,25 @@ fn next_value(bytes: &[u8], len: u8) -> (i64, &[u8])
         }
         _ => (0, bytes),
     }
+}
+
+/// The one data point of a cell whose qualifier is an item of two bytes, as most cells are. None says nothing of the cell.
+#[inline]
+pub fn short_dot(qual: &[u8], value: &[u8]) -> Option<Dot>
+    ensures reads { IfSome result (λ d. IsDots qual.now value.now (d ∷ [])) }
+    ensures offset { IfSome result (λ d. d.item.offset ≤ LAST_OFFSET) }
+{
+    if qual.len() != 2 {
+        return None;
+    }
+    let Ok((item, _)) = next_item(qual, 0, 0) else {
+        return None;
+    };
+    if value.len() != usize::from(item.len) {
+        return None;
+    }
+    let (value, _) = next_value(value, item.len);
+    Some(Dot { item, value })
 }
 
 /// What is left to know of a cell whose items were read, before the value's length is known to be right.

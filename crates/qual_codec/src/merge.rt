@@ -1,5 +1,5 @@
 //! Merging the cells of a row.
-ghost use Rattle.std.specs.Prelude.{◌≡◌, ◌++◌, ◌<◌, ◌≤◌, List, length, take, IfOk, OnOk, IfErr, All, MatchOption, FitsSigned, filter};
+ghost use Rattle.std.specs.Prelude.{◌≡◌, ◌++◌, ◌<◌, ◌≤◌, true, List, length, take, IfOk, OnOk, IfErr, All, AllPairs, MatchOption, FitsSigned, filter};
 ghost use Rattle.std.specs.List.Sorted.{IsNonDecreasingBy};
 ghost use Rattle.qual_codec.specs.declared.cells.Dot.{Dot};
 ghost use Rattle.qual_codec.specs.Items.{IsItem, IsLength, item_bytes};
@@ -9,7 +9,7 @@ ghost use Rattle.qual_codec.specs.CellSteps.{bytes_in};
 ghost use Rattle.qual_codec.specs.Merge.{AreDots, ConflictsAt, IsMerged, TellsConflict, Keeps, is_within as tests_within, offset_of};
 ghost use Rattle.qual_codec.specs.MergeSteps.{AddsDots, AddsWithin, AreOfCell, AreSorted, CannotAdd, ConflictsIn, EndsAt, EndsElsewhere, KeepsAll, is_as_good as tests_good};
 
-use crate::cell_reader::{read_onto, tail_byte};
+use crate::cell_reader::{read_onto, short_dot, tail_byte};
 use crate::cells::{CellFault, CellRef, Dot, Item, MergeFault, Merged};
 use crate::pack::pack_item;
 use row_key::LAST_OFFSET;
@@ -22,6 +22,10 @@ pub fn add_dots(qual: &[u8], value: &[u8], dots: &mut Vec<Dot>) -> Result<(), Al
     requires { Reads qual.now value.now }
     ensures { OnOk result (AddsDots qual.now value.now dots.old.items dots.new.items) }
 {
+    if let Some(dot) = short_dot(qual, value) {
+        dots.push(dot)?;
+        return Ok(());
+    }
     match read_onto(qual, value, dots) {
         Ok(()) => Ok(()),
         Err(fault) => match fault {
@@ -31,9 +35,9 @@ pub fn add_dots(qual: &[u8], value: &[u8], dots: &mut Vec<Dot>) -> Result<(), Al
     }
 }
 
-/// Whether the offset is in the range, both ends included.
+/// Whether the data point's offset is from `first` to `last`, both included.
 #[inline]
-fn is_within(dot: &Dot, first: u32, last: u32) -> bool
+pub fn is_within(dot: &Dot, first: u32, last: u32) -> bool
     ensures { result ≡ tests_within first last dot.now }
 {
     first <= dot.item.offset && dot.item.offset <= last
@@ -44,6 +48,21 @@ fn cut(dots: &mut Vec<Dot>, first: u32, last: u32)
     ensures { dots.new.items ≡ filter (tests_within first last) dots.old.items }
 {
     dots.retain(|dot| is_within(dot, first, last));
+}
+
+/// Whether the offsets rise.
+fn are_rising(dots: &[Dot]) -> bool
+    ensures { result ≡ true → AllPairs (λ d e. d.item.offset < e.item.offset) dots.now }
+{
+    let mut least = 0;
+    for dot in dots {
+        let offset = dot.item.offset as u64;
+        if offset < least {
+            return false;
+        }
+        least = offset + 1;
+    }
+    true
 }
 
 /// Puts data points in order of offset; those of one offset stay in the order that they have.
@@ -123,6 +142,8 @@ fn keep_best(dots: &mut Vec<Dot>) -> Result<(), MergeFault>
 /// Of data points whose offset is from `first` to `last`, both included, the best of each offset, rising by offset. One of two bytes
 /// is better than one of four, and of one form one with a longer value.
 ///
+/// Where the offsets rise nothing is sorted.
+///
 /// `Conflict` comes exactly where two have different values at an offset of the range. It names the least such offset, the first
 /// value there, and the first that differs.
 pub fn merge_dots(mut dots: Vec<Dot>, first: u32, last: u32) -> Result<Vec<Dot>, MergeFault>
@@ -130,6 +151,9 @@ pub fn merge_dots(mut dots: Vec<Dot>, first: u32, last: u32) -> Result<Vec<Dot>,
     ensures conflict { IfErr result (ConflictsAt dots.items first last) }
 {
     cut(&mut dots, first, last);
+    if are_rising(dots.as_slice()) {
+        return Ok(dots);
+    }
     sort(&mut dots)?;
     keep_best(&mut dots)?;
     Ok(dots)

@@ -8,6 +8,7 @@ use Rattle.std.specs.Ordering.{nat_cmp, is_eq, eq_by_cmp}
 use Rattle.std.specs.declared.cmp.Ordering.{Ordering}
 use Rattle.std.specs.declared.cmp.Ordering.TheVariants.{Less, Equal, Greater}
 use Rattle.std.proofs.lemmas.List.Elements.{All-append, All-head, All-tail, All-cons, All-nil, All-contains, All-filter, All-map}
+use Rattle.tsd_base.specs.declared.times.TheConstants.{LAST_TIME}
 use Rattle.tsd_base.specs.declared.kinds.Aggregator.{Aggregator}
 use Rattle.tsd_base.specs.declared.kinds.Fill.{Fill}
 use Rattle.tsd_base.specs.declared.kinds.Fill.TheVariants.{NoFill, Zero}
@@ -22,7 +23,7 @@ use Rattle.downsample.specs.Downsampling.{GivesDown, buckets_for, downsampled, i
 use Rattle.lerp_aggregate.specs.Aggregation.{aggregated, combined, overflows, points_of, points_unless, times_of, values_at}
 use Rattle.query_text.specs.Downs.{IsInterval}
 use Rattle.query_run.specs.QueryAnswers.{all_or_least, down_by, down_to, first_and, function_of}
-use Rattle.query_run.specs.AskedQueries.{CanDown}
+use Rattle.query_text.specs.QueryReadings.{CanDown}
 use Rattle.query_run.specs.SeriesGroups.{IsDown, Keeps, earliest}
 use Rattle.query_run.specs.NamedSeries.{AreEarly}
 use Rattle.query_run.proofs.AnyOf.{in_any, any_in}
@@ -204,7 +205,7 @@ down_buckets how start end dots out some order low early e =
     at NoFill = buckets_are how.interval some (in_order dots) (ordered_are (λ t. t < 2 ^ 43) dots early)
     at Zero = all_buckets_are how.interval start end some order low
 
-pub down_early : (how : Option Down) (start end : ℕ) (dots out : Dots) → IfSome how (IsDown start end) → start ≤ end → end ≤ 4294967295999 → AreEarly dots → down_to how start end dots ≡ Ok out → AreEarly out
+pub down_early : (how : Option Down) (start end : ℕ) (dots out : Dots) → IfSome how (IsDown start end) → start ≤ end → end ≤ LAST_TIME → AreEarly dots → down_to how start end dots ≡ Ok out → AreEarly out
 down_early None start end dots out can order most early e = subst AreEarly (same_Ok dots out e) early
 down_early (Some how) start end dots out can order most early e =
     lower.all_of (λ (d : ℕ × ℤ). d.0 < 2 ^ 43) out (λ d c. (All-contains (λ (x : ℕ × ℤ). IsBucket how.interval x.0) out d (down_buckets how start end dots out can.some order (omega (arith, most)) early e) c).early)
@@ -219,7 +220,7 @@ whole_multiple interval m time whole is =
     let product = ap (λ x. x * m) seconds in
     omega (arith, is, product)
 
-pub down_whole : (how : Option Down) (start end : ℕ) (dots out : Dots) → HasWhole how → start ≤ end → end ≤ 4294967295999 → AreEarly dots → down_to how start end dots ≡ Ok out → All (λ (d : ℕ × ℤ). d.0 % 1000 ≡ 0) out
+pub down_whole : (how : Option Down) (start end : ℕ) (dots out : Dots) → HasWhole how → start ≤ end → end ≤ LAST_TIME → AreEarly dots → down_to how start end dots ≡ Ok out → All (λ (d : ℕ × ℤ). d.0 % 1000 ≡ 0) out
 down_whole how start end dots out (down, is, some, whole) order most early e =
     lower.all_of (λ (d : ℕ × ℤ). d.0 % 1000 ≡ 0) out (λ d c.
     let b = All-contains (λ (x : ℕ × ℤ). IsBucket down.interval x.0) out d (down_buckets down start end dots out some order (omega (arith, most)) early (sym (ap (λ o. down_to o start end dots) is) ∙ e)) c in
@@ -253,7 +254,7 @@ has_whole q s seconds can = subst (λ (ms : Bool). HasWhole (down_by ms s.how s.
     at None can = (record { interval = 1000; function = function_of s.how; fill = NoFill }, refl, omega arith, refl)
     at (Some down) can = (down, refl, can.some, can.whole refl)
 
-module _ (how : Option Down) (start end : ℕ) (can : IfSome how (IsDown start end)) (order : start ≤ end) (most : end ≤ 4294967295999) (from : List Dots) (early : All AreEarly from) (lists : List Dots) (are : all_or_least (map (down_to how start end) from) ≡ Ok lists) where
+module _ (how : Option Down) (start end : ℕ) (can : IfSome how (IsDown start end)) (order : start ≤ end) (most : end ≤ LAST_TIME) (from : List Dots) (early : All AreEarly from) (lists : List Dots) (are : all_or_least (map (down_to how start end) from) ≡ Ok lists) where
   pub lists_early : All AreEarly lists
   lists_early = all_are AreEarly (down_to how start end) AreEarly (λ d e first is. down_early how start end d e can order most first is) from lists early are
 

@@ -4,6 +4,7 @@ use Rattle.std.specs.Prelude.{ℤ, Contains, Option, None, Some, Result, Ok, Err
 use Rattle.std.specs.Global.{Vec}
 use Rattle.std.specs.List.{flat_map}
 use Rattle.std.proofs.lemmas.List.Elements.{Contains-append_right}
+use Rattle.tsd_base.specs.declared.times.TheConstants.{LAST_TIME}
 use Rattle.tsd_base.specs.declared.kinds.Kind.{Kind}
 use Rattle.tsd_base.specs.declared.kinds.Kind.TheVariants.{Metric}
 use Rattle.tsd_base.specs.declared.kinds.Fill.{Fill}
@@ -271,7 +272,7 @@ can_title picks id start end old new spans names c p = record {
   each = pairs_titled picks id start end c.founds spans names c.content;
 }
 
-pub times_small : (picks : Picks) (id start end : ℕ) (old new : Seen) (spans : List Span) (names : Names) → end ≤ 4294967295999 → HasCollected picks id start end old spans names new → (s : Span) (d : ℕ × ℤ) → Contains spans s → Contains s.1 d → d.0 < 2 ^ 43
+pub times_small : (picks : Picks) (id start end : ℕ) (old new : Seen) (spans : List Span) (names : Names) → end ≤ LAST_TIME → HasCollected picks id start end old spans names new → (s : Span) (d : ℕ × ℤ) → Contains spans s → Contains s.1 d → d.0 < 2 ^ 43
 times_small picks id start end old new spans names most c s d i j = let w = (c.content.from s d i j).within in let high = w.1 in omega (arith, high, most)
 
 -- the part of a sub query that was read to its end

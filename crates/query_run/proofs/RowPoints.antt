@@ -1,18 +1,16 @@
 -- The points that merging keeps of a row, as points of a range of times.
-use Rattle.std.proofs.Common.{◌≡◌, ◌⊎◌, inl, inr, ℕ, suc, ◌+◌, ◌-◌, ◌*◌, ◌<◌, ◌≤◌, Bool, true, false, cond, List, [], ◌∷◌, ◌++◌, length, take, drop, get_or, refl, sym, ap, subst, ◌∙◌, arith}
-use Rattle.std.specs.Prelude.{ℤ, AllPairs, Contains, Option, None, Some, option_map, map, min, not, find}
+use Rattle.std.proofs.Common.{◌≡◌, ◌⊎◌, inl, inr, ℕ, ◌+◌, ◌-◌, ◌*◌, ◌<◌, ◌≤◌, Bool, true, false, cond, List, [], ◌∷◌, refl, sym, subst, ◌∙◌, arith}
+use Rattle.std.specs.Prelude.{ℤ, Contains, Option, None, Some, option_map, map, min, not, find}
 use Rattle.std.specs.Ordering.{int_eq}
 use Rattle.std.proofs.lemmas.Bool.Decides.{Decides-int_eq}
-use Rattle.std.proofs.lemmas.List.{take_more, get_or_default, map-append}
 use Rattle.std.proofs.lemmas.List.Elements.{Contains-append_cases}
 use Rattle.qual_codec.specs.declared.cells.Cell.{Cell}
 use Rattle.qual_codec.specs.declared.cells.Dot.{Dot}
 use Rattle.qual_codec.specs.declared.cells.MergeFault.TheVariants as merge
-use Rattle.tsd_base.specs.Dots.{IsAboveAll}
 use Rattle.qual_codec.specs.Merge.{AreDots, values_at, first_conflict, MergesTo, TellsConflict}
+use Rattle.row_scan.specs.RowTimes.{KeepsPoints}
 use Rattle.query_run.specs.RowDots.{dot_at, IsIn, HasDots, Conflicts}
 use Rattle.query_run.proofs.Lower as lower
-use Rattle.query_run.proofs.NameReads.{about}
 
 -- ---- values that don't conflict are one
 
@@ -109,31 +107,6 @@ conflicts cells base start end first last offset a b le f l (all, are, cl) = rec
   least = λ lower low lt. cl.least lower (omega (arith, low, f)) lt;
 }
 
--- ---- points at rising times
-
-dots_above : (base time : ℕ) (dots : List Dot) → ((x : Dot) → Contains dots x → base * 1000 + x.item.offset < time) → IsAboveAll time (map (dot_at base) dots)
-dots_above base time [] h = tt
-dots_above base time (x ∷ dots) h = (h x (lower.here x dots), dots_above base time dots (λ y c. h y (lower.there x y dots c)))
-
-pub next_above : (base : ℕ) (dots : List Dot) (i : ℕ) (x : Dot) (points : List (ℕ × ℤ)) → i < length dots → x ≡ get_or dots i x → AllPairs (λ (d e : Dot). d.item.offset < e.item.offset) dots → points ≡ map (dot_at base) (take i dots)
-    → IsAboveAll (base * 1000 + x.item.offset) points
-next_above base dots i x points lt is rising points_are =
-    subst (IsAboveAll (base * 1000 + x.item.offset)) (sym points_are)
-    (dots_above base (base * 1000 + x.item.offset) (take i dots) (λ y c. let below = rises y c in omega (arith, below)))
-  where
-    rises : (y : Dot) → Contains (take i dots) y → y.item.offset < x.item.offset
-    rises y c = lower.pairs_before (λ (d e : Dot). d.item.offset < e.item.offset) (take i dots) x (drop (suc i) dots) (subst (AllPairs (λ (d e : Dot). d.item.offset < e.item.offset)) (about dots i x lt is) rising) y c
-
-pub more_points : (base : ℕ) (dots : List Dot) (i : ℕ) (x : Dot) (points more : List (ℕ × ℤ)) → i < length dots → x ≡ get_or dots i x → points ≡ map (dot_at base) (take i dots) → more ≡ points ++ dot_at base x ∷ []
-    → more ≡ map (dot_at base) (take (i + 1) dots)
-more_points base dots i x points more lt is points_are more_is =
-    more_is ∙ ap (λ (l : List (ℕ × ℤ)). l ++ dot_at base x ∷ []) points_are
-    ∙ sym (ap (map (dot_at base)) (take_more dots i x lt ∙ ap (λ (y : Dot). take i dots ++ y ∷ []) (sym is)) ∙ map-append (dot_at base) (take i dots) (x ∷ []))
-
-pub next_above_at : (base : ℕ) (dots : List Dot) (i : ℕ) (d : Dot) (points : List (ℕ × ℤ)) → i < length dots → AllPairs (λ (d e : Dot). d.item.offset < e.item.offset) dots → points ≡ map (dot_at base) (take i dots)
-    → IsAboveAll (base * 1000 + (get_or dots i d).item.offset) points
-next_above_at base dots i d points lt rising is = next_above base dots i (get_or dots i d) points lt (get_or_default dots i d (get_or dots i d) lt) rising is
-
-pub has_these : (cells : List Cell) (base start end first last : ℕ) (kept slice : List Dot) (dots : List (ℕ × ℤ)) → base * 1000 ≤ end → first ≡ start - base * 1000 → last ≡ min (end - base * 1000) 3599999 → MergesTo cells first last kept
-    → slice ≡ kept → dots ≡ map (dot_at base) slice → HasDots cells base start end dots
-has_these cells base start end first last kept slice dots le f l m same is = subst (HasDots cells base start end) (sym (is ∙ ap (map (dot_at base)) same)) (has_dots cells base start end first last kept le f l m)
+-- the points that were kept, at their times
+pub has_kept : (cells : List Cell) (base start end first last : ℕ) (dots : List (ℕ × ℤ)) → base * 1000 ≤ end → first ≡ start - base * 1000 → last ≡ min (end - base * 1000) 3599999 → KeepsPoints cells base first last dots → HasDots cells base start end dots
+has_kept cells base start end first last dots le f l (kept, m, is) = subst (HasDots cells base start end) (sym is) (has_dots cells base start end first last kept le f l m)

@@ -1,12 +1,11 @@
--- What a query wants of the readings, and which sub queries can be worked.
-use Rattle.std.specs.Prelude.{ℕ, Bool, ◌&&◌, nat_le, nat_lt, List, [], ◌∷◌, length, map, Option, None, Some, IfSome, Result, Ok, Err, if◌then◌else◌}
+-- What a query wants of the readings, and which sub queries are barred.
+use Rattle.std.specs.Prelude.{ℕ, Bool, ◌&&◌, nat_le, nat_lt, List, [], ◌∷◌, length, map, Option, None, Some, Result, Ok, Err, if◌then◌else◌}
 use Rattle.std.specs.List.{flat_map}
 use Rattle.tsd_base.specs.declared.kinds.Kind.TheVariants.{Metric, TagKey, TagValue}
 use Rattle.tsd_base.specs.declared.kinds.Fill.{Fill}
 use Rattle.tsd_base.specs.declared.kinds.Fill.TheVariants.{NoFill, Zero}
 use Rattle.tsd_base.specs.declared.kinds.Down.{Down}
 use Rattle.tsd_base.specs.Tags.{is_same}
-use Rattle.query_text.specs.Downs.{IsInterval}
 use Rattle.query_text.specs.declared.queries.Query.{Query}
 use Rattle.query_text.specs.declared.queries.Sub.{Sub}
 use Rattle.query_text.specs.declared.queries.Filter.{Filter}
@@ -26,10 +25,6 @@ use Rattle.query_run.specs.declared.fault.AskFault.TheVariants.{TooManyBuckets}
 use Rattle.query_run.specs.QueryAnswers.{answer, as_point}
 use Rattle.query_run.specs.Parts.{NameOf, IsShort}
 use Rattle.query_run.specs.Asked.{AskSays, SubsAsked}
-
--- its downsample can be made
-abbrev pub CanDown : Bool → Sub → Type 0
-CanDown ms s = IfSome s.down (λ down. IsInterval ms down.interval)
 
 -- of the metric, in the range of times, both ends included, and of tags that pass each filter
 abbrev pub is_wanted : ℕ → ℕ → List ℕ → List Filter → Reading → Bool

@@ -3,12 +3,9 @@ use Rattle.std.specs.Prelude.{◌≡◌, ℕ, ℤ, ◌+◌, ◌*◌, ◌<◌, �
 use Rattle.qual_codec.specs.declared.cells.Cell.{Cell}
 use Rattle.qual_codec.specs.declared.cells.Dot.{Dot}
 use Rattle.qual_codec.specs.Merge.{AreDots, values_at, first_conflict}
+pub use Rattle.row_scan.specs.RowTimes.{dot_at}
 use Rattle.query_run.specs.declared.fault.AskFault.{AskFault}
 use Rattle.query_run.specs.declared.fault.AskFault.TheVariants.{Duplicate, OutOfMemory}
-
--- the point of a dot, whose hour begins at this second
-abbrev pub dot_at : ℕ → Dot → ℕ × ℤ
-dot_at base x = (base * 1000 + x.item.offset, x.value)
 
 abbrev pub IsIn : ℕ → ℕ → ℕ → Type 0
 IsIn start end time = (start ≤ time) × (time ≤ end)

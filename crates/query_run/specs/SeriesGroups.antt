@@ -2,9 +2,11 @@
 use Rattle.std.specs.Prelude.{◌≡◌, ℕ, ℤ, ◌≤◌, ◌%◌, Bool, false, List, [], ◌∷◌, ◌++◌, map, filter, length, min, All, Option, None, Some, option_map, unwrap_or, Vec, Result, Ok, Err, if◌then◌else◌}
 use Rattle.std.specs.declared.alloc.Global.{Global}
 use Rattle.std.specs.BTreeMap.{BTreeMap, get}
+use Rattle.tsd_base.specs.declared.times.TheConstants.{LAST_TIME}
 use Rattle.tsd_base.specs.declared.kinds.Fill.TheVariants.{Zero}
 use Rattle.tsd_base.specs.declared.kinds.Down.{Down}
 use Rattle.tsd_base.specs.TagList.{Pair, tags_cmp, is_same_tags}
+use Rattle.query_text.specs.QueryReadings.{CanDown}
 use Rattle.query_text.specs.declared.queries.Query.{Query}
 use Rattle.query_text.specs.declared.queries.Sub.{Sub}
 use Rattle.downsample.specs.Buckets.{all_buckets}
@@ -16,14 +18,14 @@ use Rattle.lerp_aggregate.specs.declared.aggregation.AggFault.TheVariants.{Overf
 use Rattle.json_reply.specs.Replies.{Group, plain}
 use Rattle.json_reply.specs.declared.reply.Group as code
 use Rattle.query_run.specs.QueryAnswers.{group_keys, group_from}
-use Rattle.query_run.specs.AskedQueries.{CanDown, barred}
+use Rattle.query_run.specs.AskedQueries.{barred}
 use Rattle.query_run.specs.NamedSeries.{tags_in, dots_in}
 use Rattle.query_run.specs.declared.named_series.Series.{Series}
 
 -- the sub query can be worked
 pub record IsWorkable (q : Query) (s : Sub) : Type 0 where
   pub order : q.start ≤ q.end
-  pub most : q.end ≤ 4294967295999
+  pub most : q.end ≤ LAST_TIME
   pub down : CanDown q.ms s
   pub free : barred q s ≡ None
 

@@ -4,6 +4,7 @@ ghost use Rattle.row_key.specs.declared.keys.RowKey.{RowKey};
 ghost use Rattle.row_key.specs.Key.{IsKey, key_bytes};
 ghost use Rattle.cell_model.specs.Seen.{IsPossible};
 ghost use Rattle.cell_model.specs.Calls.{Leaves};
+ghost use Rattle.tsd_base.specs.declared.times.TheConstants.{LAST_TIME};
 ghost use Rattle.tsd_base.specs.Dots.{IsAboveAll};
 ghost use Rattle.span_merge.specs.Spans.{dots_of};
 ghost use Rattle.query_run.specs.AskFaults.{is_stop};
@@ -82,7 +83,7 @@ fn take_row<R: Rows + Drop>(
     scan: &mut Scan,
     collected: &mut Collected,
 ) -> Result<(), AskFault>
-    requires most { end ≤ 4294967295999 }
+    requires most { end ≤ LAST_TIME }
     requires row { (metric : ℕ) × FoundRow (R.seen names.old) metric start end found.now }
     requires behind { StandsBehind collected.old.spans found.now }
     requires scan { scan.old.from ≡ found.now.row.bytes ++ 0 ∷ [] }
@@ -113,7 +114,7 @@ pub(crate) fn collect<R: Rows + Drop>(
 ) -> Result<Collected, AskFault>
     requires metric { metric ≤ MOST_IDS }
     requires order { start ≤ end }
-    requires most { end ≤ 4294967295999 }
+    requires most { end ≤ LAST_TIME }
     requires possible { IsPossible (R.seen names.old) }
     ensures says { CollectSays (passes filters.now) metric start end (R.seen names.old) result (R.seen names.new) }
     ensures leaves { Leaves is_stop result (R.seen names.new) (R.stops names.old) (R.stops names.new) }

@@ -1,9 +1,11 @@
 //! Asking a query.
 ghost use Rattle.std.specs.Prelude.{◌≡◌, ◌++◌, ◌≤◌, All, IfOk, OnOk};
+ghost use Rattle.tsd_base.specs.declared.times.TheConstants.{LAST_TIME};
+ghost use Rattle.query_text.specs.QueryReadings.{CanDown};
 ghost use Rattle.json_reply.specs.Replies.{IsReady};
 ghost use Rattle.cell_model.specs.Stops.{CountsStops};
 ghost use Rattle.query_run.specs.AskFaults.{is_stop};
-ghost use Rattle.query_run.specs.AskedQueries.{CanDown, QuerySays};
+ghost use Rattle.query_run.specs.AskedQueries.{QuerySays};
 
 use crate::fault::AskFault;
 use crate::sub_query::work;
@@ -37,7 +39,7 @@ pub fn ask<R: Rows + Drop>(
     query: &Query,
 ) -> Result<Reply, AskFault>
     requires order { query.now.start ≤ query.now.end }
-    requires most { query.now.end ≤ 4294967295999 }
+    requires most { query.now.end ≤ LAST_TIME }
     requires downs { All (CanDown query.now.ms) query.now.subs }
     ensures says { QuerySays query.now (R.seen names.old) result (R.seen names.new) }
     ensures ready { IfOk result (λ reply. All IsReady reply.groups.items) }

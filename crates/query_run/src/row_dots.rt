@@ -1,27 +1,15 @@
 //! The points of one row in a range of times.
-ghost use Rattle.std.specs.Prelude.{◌≡◌, ◌+◌, ◌*◌, ◌<◌, ◌≤◌, map, All, AllPairs, IfOk};
+ghost use Rattle.std.specs.Prelude.{◌+◌, ◌*◌, ◌<◌, ◌≤◌, All};
 ghost use Rattle.qual_codec.specs.CellDots.{Reads};
-ghost use Rattle.query_run.specs.RowDots.{DotsAsked, dot_at};
+ghost use Rattle.query_run.specs.RowDots.{DotsAsked};
 
 use crate::fault::AskFault;
 use cell_model::row::Cells;
-use qual_codec::{Dot, MergeFault};
+use qual_codec::MergeFault;
 use row_key::HOUR_MILLIS;
-use row_scan::row_points;
-use std::alloc::{AllocError, Global};
+use row_scan::timed_points;
+use std::alloc::Global;
 use tsd_base::dots::Dots;
-
-/// The points of a row's data points, whose hour begins at this second.
-fn points_of(alloc: Global, base: u32, dots: &[Dot]) -> Result<Dots, AllocError>
-    requires { AllPairs (λ d e. d.item.offset < e.item.offset) dots.now }
-    ensures { IfOk result (λ points. points ≡ map (dot_at base) dots.now) }
-{
-    let mut points = Dots::make(alloc);
-    for dot in dots {
-        points.push(base as u64 * 1000 + dot.item.offset as u64, dot.value)?;
-    }
-    Ok(points)
-}
 
 /// The points of a row's cells with times from `start` to `end`, both included. The row's hour begins at the second `base`.
 pub(crate) fn row_dots(
@@ -39,8 +27,8 @@ pub(crate) fn row_dots(
     let begin = base as u64 * 1000;
     let first = start.saturating_sub(begin) as u32;
     let last = (end - begin).min(3_599_999) as u32;
-    match row_points(alloc, cells, first, last) {
-        Ok(dots) => Ok(points_of(alloc, base, dots.as_slice())?),
+    match timed_points(alloc, cells, base, first, last) {
+        Ok(points) => Ok(points),
         Err(MergeFault::Conflict { offset, a, b }) => Err(AskFault::Duplicate {
             time: begin + offset as u64,
             a,

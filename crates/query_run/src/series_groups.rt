@@ -1,5 +1,6 @@
 //! The groups of a sub query's series.
 ghost use Rattle.std.specs.Prelude.{◌≡◌, ◌≤◌, ◌++◌, ◌∷◌, [], Some, length, map, All, IfOk, IfSome, OnOk};
+ghost use Rattle.tsd_base.specs.declared.times.TheConstants.{LAST_TIME};
 ghost use Rattle.tsd_base.specs.declared.kinds.Aggregator.TheVariants.{NoneOf};
 ghost use Rattle.json_reply.specs.Replies.{IsReady, plain};
 ghost use Rattle.downsample.specs.Downsampling.{GivesDown};
@@ -151,7 +152,7 @@ fn apart(
     series: Vec<Series>,
 ) -> Result<(Vec<Tags>, Vec<Dots>), AggFault>
     requires order { query.now.start ≤ query.now.end }
-    requires most { query.now.end ≤ 4294967295999 }
+    requires most { query.now.end ≤ LAST_TIME }
     requires down { IfSome how (IsDown query.now.start query.now.end) }
     ensures { GivesLists result series.items (all_or_least (map (down_to how query.now.start query.now.end) (dots_in series.items))) }
 {
@@ -206,7 +207,7 @@ fn down_to(
     end: u64,
 ) -> Result<Dots, DownFault>
     requires order { start ≤ end }
-    requires most { end ≤ 4294967295999 }
+    requires most { end ≤ LAST_TIME }
     requires down { IfSome how (IsDown start end) }
     ensures { GivesDown result (down_to how start end dots) }
 {

@@ -1,12 +1,14 @@
 //! Working one sub query.
 ghost use Rattle.std.specs.Prelude.{◌≡◌, ◌≤◌, ◌<◌, ◌^◌, All, Contains, ℕ, ℤ, length, IfOk};
+ghost use Rattle.tsd_base.specs.declared.times.TheConstants.{LAST_TIME};
+ghost use Rattle.query_text.specs.QueryReadings.{CanDown};
 ghost use Rattle.json_reply.specs.Replies.{IsReady};
 ghost use Rattle.span_merge.specs.Spans.{Span};
 ghost use Rattle.cell_model.specs.Stops.{CountsStops};
 ghost use Rattle.query_run.specs.AskFaults.{is_stop};
 ghost use Rattle.query_run.specs.SeriesGroups.{IsWorkable};
 ghost use Rattle.query_run.specs.RowNames.{known};
-ghost use Rattle.query_run.specs.AskedQueries.{CanDown, barred};
+ghost use Rattle.query_run.specs.AskedQueries.{barred};
 ghost use Rattle.query_run.specs.SeriesTags.{CanTitle};
 ghost use Rattle.query_run.specs.SubQuery.{GroupsSay, SubSays};
 
@@ -31,7 +33,7 @@ const MOST_BUCKETS: u64 = 1_000_000;
 /// What keeps a sub query from being worked at all: a fill of zeros with too many buckets.
 fn barred(query: &Query, sub: &Sub) -> Option<AskFault>
     requires order { query.now.start ≤ query.now.end }
-    requires most { query.now.end ≤ 4294967295999 }
+    requires most { query.now.end ≤ LAST_TIME }
     requires down { CanDown query.now.ms sub.now }
     ensures { result ≡ barred query.now sub.now }
 {
@@ -75,7 +77,7 @@ pub(crate) fn work<R: Rows + Drop>(
     sub: &Sub,
 ) -> Result<Vec<Group>, AskFault>
     requires order { query.now.start ≤ query.now.end }
-    requires most { query.now.end ≤ 4294967295999 }
+    requires most { query.now.end ≤ LAST_TIME }
     requires down { CanDown query.now.ms sub.now }
     ensures says { SubSays query.now sub.now (R.seen names.old) result (R.seen names.new) }
     ensures ready { IfOk result (λ groups. All IsReady groups.items) }

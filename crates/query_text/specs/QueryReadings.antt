@@ -66,5 +66,5 @@ CanDown ms sub = IfSome sub.down (λ down. IsInterval ms down.interval)
 -- its times are in order and none is behind the last time, and its downsamples have intervals
 pub record CanWork (q : Query) : Type 0 where
   pub order : q.start ≤ q.end
-  pub most : q.end ≤ 4294967295999
-  pub downs : All (λ (s : Sub). IfSome s.down (λ down. IsInterval q.ms down.interval)) q.subs
+  pub most : q.end ≤ LAST_TIME
+  pub downs : All (CanDown q.ms) q.subs

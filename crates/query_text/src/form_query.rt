@@ -1,5 +1,6 @@
 //! Queries in forms.
 ghost use Rattle.std.specs.Prelude.{◌≡◌, ◌≤◌, All, codes, length, map, option_map, IfOk};
+ghost use Rattle.tsd_base.specs.declared.times.TheConstants.{LAST_TIME};
 ghost use Rattle.http_forms.specs.Forms.{all_values, first_value};
 ghost use Rattle.query_text.specs.FormQueries.{end_in, is_set, query_by_form, query_of_form, start_in, subs_of};
 ghost use Rattle.query_text.specs.QueryReadings.{CanDown, CanWork, Gives, GivesQuery};
@@ -52,7 +53,7 @@ fn query_of_form(alloc: Global, form: &Form, now: u64) -> Result<Query, QueryFau
 /// The time of a start.
 fn start_in(text: Option<&str>, now: u64) -> Result<u64, QueryFault>
     ensures time { Gives (λ time. time) result (start_in now (option_map (λ text. text.now) text.entry)) }
-    ensures most { IfOk result (λ time. time ≤ 4294967295999) }
+    ensures most { IfOk result (λ time. time ≤ LAST_TIME) }
 {
     match text {
         Some(text) => time_in(text.as_bytes(), now),
@@ -63,7 +64,7 @@ fn start_in(text: Option<&str>, now: u64) -> Result<u64, QueryFault>
 /// The time of an end.
 fn end_in(text: Option<&str>, now: u64) -> Result<u64, QueryFault>
     ensures time { Gives (λ time. time) result (end_in now (option_map (λ text. text.now) text.entry)) }
-    ensures most { IfOk result (λ time. time ≤ 4294967295999) }
+    ensures most { IfOk result (λ time. time ≤ LAST_TIME) }
 {
     match text {
         Some(text) => time_in(text.as_bytes(), now),

@@ -1,5 +1,6 @@
 //! Queries in JSON.
 ghost use Rattle.std.specs.Prelude.{◌≡◌, ◌≤◌, All, codes, IfOk};
+ghost use Rattle.tsd_base.specs.declared.times.TheConstants.{LAST_TIME};
 ghost use Rattle.serde_json.specs.Find.{get};
 ghost use Rattle.serde_json.specs.View.{items_view, view};
 ghost use Rattle.query_text.specs.JsonQueries.{end_by, query_by_json, start_by, subs_in, time_of};
@@ -54,7 +55,7 @@ pub fn read_query_json(alloc: Global, value: &Value, now: u64) -> Result<Query, 
 /// The time of the start, which has to be there.
 fn start_by(value: &Value, now: u64) -> Result<u64, QueryFault>
     ensures time { Gives (λ time. time) result (start_by now (get (codes "start") (view value.now))) }
-    ensures most { IfOk result (λ time. time ≤ 4294967295999) }
+    ensures most { IfOk result (λ time. time ≤ LAST_TIME) }
 {
     match value.get("start") {
         Some(found) => time_of(found, now),
@@ -65,7 +66,7 @@ fn start_by(value: &Value, now: u64) -> Result<u64, QueryFault>
 /// The time of the end.
 fn end_by(value: &Value, now: u64) -> Result<u64, QueryFault>
     ensures time { Gives (λ time. time) result (end_by now (get (codes "end") (view value.now))) }
-    ensures most { IfOk result (λ time. time ≤ 4294967295999) }
+    ensures most { IfOk result (λ time. time ≤ LAST_TIME) }
 {
     match value.get("end") {
         Some(found) => time_of(found, now),
@@ -76,7 +77,7 @@ fn end_by(value: &Value, now: u64) -> Result<u64, QueryFault>
 /// The time of a string, or of a number's digits.
 fn time_of(value: &Value, now: u64) -> Result<u64, QueryFault>
     ensures time { Gives (λ time. time) result (time_of now (view value.now)) }
-    ensures most { IfOk result (λ time. time ≤ 4294967295999) }
+    ensures most { IfOk result (λ time. time ≤ LAST_TIME) }
 {
     if let Some(text) = value.as_str() {
         return time_in(text.as_bytes(), now);

@@ -30,6 +30,6 @@ pub fn put_queued<R: Rows + Drop>(
     ensures leaves { Leaves is_stop result (R.seen names.new) (R.stops names.old) (R.stops names.new) }
 {
     let stored = put(alloc, names, rule, config, point)?;
-    queue.add(stored)?;
+    queue.add(&stored.row, stored.base)?;
     Ok(())
 }

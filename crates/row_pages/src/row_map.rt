@@ -1,17 +1,17 @@
 //! A map from rows to their cells.
-ghost use Rattle.std.specs.Prelude.{◌≡◌, None, IfSome, IfNone, OnOk, OnErr, length};
+ghost use Rattle.std.specs.Prelude.{◌≡◌, None, OnOk, OnErr, length};
 ghost use Rattle.std.specs.Option.{option_copied, option_copied_mut};
 ghost use Rattle.std.specs.Borrow.{sem};
-ghost use Rattle.std.specs.FinMap.{empty, get, insert, remove, entries, find};
-ghost use Rattle.list_lemmas.specs.BytesOrder.{bytes_cmp};
+ghost use Rattle.std.specs.FinMap.{empty, get, insert, remove, entries};
 ghost use Rattle.row_pages.specs.RowMaps.{rows_below, rows_from};
 ghost use Rattle.row_pages.specs.LentRows.{LendsCells};
 
-use crate::hints::{Hints, hash};
+use crate::hints::Hints;
 use crate::page::Page;
 use crate::page_edits::{put_row, take_out};
 use crate::page_places::place_by;
 use crate::row_walk::{RowWalk, walk_below, walk_from};
+use guess_table::hash_bytes;
 use packed_cells::row_cells::RowCells;
 use qual_codec::Bytes;
 use std::alloc::{AllocError, Global};
@@ -68,7 +68,7 @@ impl RowPages {
     pub fn get(&self, row: &Bytes) -> Option<&RowCells>
         ensures { option_copied result ≡ get self.now row.now }
     {
-        match place_by(&self.pages, self.hints.guess(hash(row.list())), row) {
+        match place_by(&self.pages, self.hints.guess(hash_bytes(row.list())), row) {
             Some(place) => Some(&self.pages[place.page].rows[place.row].1),
             None => None,
         }
@@ -79,7 +79,7 @@ impl RowPages {
         ensures* writes_back { sem 𝓛 (LendsCells self.entry row.now result) }
         ensures value { option_copied_mut result ≡ get self.old row.now }
     {
-        let hash = hash(row.list());
+        let hash = hash_bytes(row.list());
         match place_by(&self.pages, self.hints.guess(hash), row) {
             Some(place) => {
                 self.hints.keep(hash, place);
@@ -100,7 +100,7 @@ impl RowPages {
         if self.count == usize::MAX {
             return Err(AllocError);
         }
-        let hash = hash(row.list());
+        let hash = hash_bytes(row.list());
         let place = put_row(&mut self.pages, self.alloc, row, cells)?;
         self.count += 1;
         self.hints.grow(self.count);
@@ -112,7 +112,7 @@ impl RowPages {
     pub fn remove(&mut self, row: &Bytes)
         ensures { self.new ≡ remove self.old row.now }
     {
-        if let Some(place) = place_by(&self.pages, self.hints.guess(hash(row.list())), row) {
+        if let Some(place) = place_by(&self.pages, self.hints.guess(hash_bytes(row.list())), row) {
             take_out(&mut self.pages, place);
             self.count -= 1;
         }

@@ -12,4 +12,5 @@ mod Offsets
 mod Covering
 mod Accepted
 mod Covers
+mod PointsAtTimes
 pub mod CallerLemmas

@@ -1,3 +1,4 @@
 pub mod Scans
 pub mod RowReadings
+pub mod RowTimes
 pub mod Laws

@@ -33,6 +33,8 @@ fn gather(alloc: Global, cells: &Cells) -> Result<Vec<Dot>, AllocError>
 /// The data points of a row's cells whose offset is from `first` to `last`, both included, rising by offset: at each offset the one
 /// that merging keeps. There one of two bytes is better than one of four, and of one form one with a longer value.
 ///
+/// Where the offsets rise from cell to cell nothing is sorted.
+///
 /// `Conflict` comes exactly where two cells have different values at an offset of the range. It names the least such offset, the
 /// value of the first cell that has it, and that of the first later cell that differs.
 pub fn row_points(

@@ -1,5 +1,5 @@
 //! Scans over the rows of one metric.
-ghost use Rattle.std.specs.Prelude.{◌≡◌, ◌++◌, ◌∷◌, [], ◌≤◌, false, length, OnOk, OnErr, IfErr};
+ghost use Rattle.std.specs.Prelude.{◌≡◌, ◌++◌, ◌∷◌, [], ◌≤◌, false, length, OnOk, OnErr};
 ghost use Rattle.std.specs.Ordering.{is_lt};
 ghost use Rattle.row_key.specs.Key.{IsKey, hour_bytes, key_bytes};
 ghost use Rattle.cell_model.specs.Ranges.{SameMetric};

@@ -1,5 +1,4 @@
 //! Calls over a store: ids, puts, scans, queries and compactions, made by caller 1.
-ghost use Rattle.std.specs.Prelude.{◌≤◌};
 
 use crate::acts::{tell_assigned, tell_found};
 use crate::asks::asked;
@@ -8,8 +7,9 @@ use case_readers::cell_cases::tell_hex;
 use case_readers::point_cases::tell_bytes;
 use case_readers::text::{Bad, bytes, first_word, kind, name, small};
 use cell_model::answers::RowsFault;
+use cell_model::row::Row;
 use compactor::Queue;
-use point_put::{Config, PutFault, put};
+use point_put::{Config, PutFault, TextFault, put, put_text};
 use row_scan::Scan;
 use scripted_rows::scripted::Scripted;
 use std::alloc::Global;
@@ -110,6 +110,23 @@ fn suggest(alloc: Global, names: &mut Names, text: &str, out: &mut String) -> Re
     Ok(())
 }
 
+/// Which names are given ids, and the line, of `[--auto-metric] LINE`.
+fn config_and_line(text: &str) -> (Config, &str) {
+    let mut config = Config::usual();
+    match text.strip_prefix("--auto-metric ") {
+        Some(line) => {
+            config.auto_metric = true;
+            (config, line)
+        }
+        None => (config, text),
+    }
+}
+
+fn tell_stored(out: &mut String, base: u32, row: &Row) -> Result<(), Bad> {
+    write!(out, "{base} ")?;
+    tell_hex(out, row.bytes.list())
+}
+
 /// `put [--auto-metric] LINE`: the row of the point.
 fn put_line(
     alloc: Global,
@@ -118,23 +135,33 @@ fn put_line(
     text: &str,
     out: &mut String,
 ) -> Result<(), Bad> {
-    let mut config = Config::usual();
-    let line = match text.strip_prefix("--auto-metric ") {
-        Some(line) => {
-            config.auto_metric = true;
-            line
-        }
-        None => text,
-    };
+    let (config, line) = config_and_line(text);
     let line = bytes(alloc, line)?;
     let point = read_point(alloc, line.as_slice()).map_err(|_| Bad::Line("no point"))?;
     match put(alloc, names, rule, &config, &point) {
-        Ok(stored) => {
-            let base = stored.base;
-            write!(out, "{base} ")?;
-            tell_hex(out, stored.row.bytes.list())
-        }
+        Ok(stored) => tell_stored(out, stored.base, &stored.row),
         Err(fault) => tell_put_fault(out, fault),
+    }
+}
+
+/// `put_text [--auto-metric] LINE`: the row of the point, which is put by its text.
+fn put_line_text(
+    alloc: Global,
+    names: &mut Names,
+    rule: &UidRule,
+    text: &str,
+    out: &mut String,
+) -> Result<(), Bad> {
+    let (config, line) = config_and_line(text);
+    let line = bytes(alloc, line)?;
+    match put_text(alloc, names, rule, &config, line.as_slice()) {
+        Ok(stored) => {
+            let told = tell_stored(out, stored.base(), stored.row());
+            stored.keep(names);
+            told
+        }
+        Err(TextFault::Unread { fault: _ }) => Ok(out.push_str("no point")?),
+        Err(TextFault::Unput { fault }) => tell_put_fault(out, fault),
     }
 }
 
@@ -192,6 +219,7 @@ pub fn call(
         "resolve" => resolve(alloc, names, rest, out),
         "suggest" => suggest(alloc, names, rest, out),
         "put" => put_line(alloc, names, rule, rest, out),
+        "put_text" => put_line_text(alloc, names, rule, rest, out),
         "scan" => scan(alloc, names, rest, out),
         "ask" => asked(alloc, names, rest, out),
         "drop_cache" => {

@@ -4,7 +4,7 @@ ghost use Rattle.row_key.specs.declared.tables.Table.TheVariants.{Points};
 
 use case_readers::cell_cases::tell_hex;
 use case_readers::text::{Bad, first_word, hex, small};
-use cell_model::answers::{RowsFault, Stored};
+use cell_model::answers::RowsFault;
 use cell_model::row::Row;
 use compactor::{CompactFault, Compacted, Queue, compact_row, drain};
 use qual_codec::Bytes;
@@ -57,7 +57,7 @@ fn add(alloc: Global, queue: &mut Queue, text: &str, out: &mut String) -> Result
     let (digits, base) = first_word(text);
     let base = small(base)?;
     let row = point_row(alloc, digits)?;
-    let told = if queue.add(Stored { row, base })? {
+    let told = if queue.add(&row, base)? {
         "added"
     } else {
         "was there"

@@ -1,5 +1,5 @@
 //! Cases over a store with several callers.
-ghost use Rattle.std.specs.Prelude.{◌≡◌, ◌≤◌};
+ghost use Rattle.std.specs.Prelude.{◌≡◌};
 ghost use Rattle.tsd_hooks.specs.AllowedNames.{allowed};
 
 use crate::acts::{act, tell_acted};

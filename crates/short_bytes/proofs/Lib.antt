@@ -1,2 +1,3 @@
 pub mod Words
 pub mod Filled
+pub mod Ends

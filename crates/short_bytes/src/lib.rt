@@ -3,6 +3,7 @@
 
 mod blocks;
 pub mod comparison;
+mod fills;
 pub mod short;
 #[cfg(test)]
 mod tests;

@@ -4,6 +4,7 @@ ghost use Rattle.std.specs.Ordering.{nat_cmp};
 ghost use Rattle.std.specs.Cmp.Lexicographic.{slice_cmp, pointwise};
 
 use crate::blocks::{order_filled, order_lists, same_filled};
+use crate::fills::fill;
 use std::alloc::{AllocError, Global};
 use std::cmp::Ordering;
 use std::fmt;
@@ -72,12 +73,11 @@ impl Bytes {
         requires { length bytes.now ≤ 30 }
         ensures { result ≡ bytes.now }
     {
-        let n = bytes.len();
         let mut block = [0u8; 30];
-        block[..n].copy_from_slice(bytes);
+        fill(&mut block, bytes);
         Bytes {
             kept: Kept::Short {
-                len: n as u8,
+                len: bytes.len() as u8,
                 block,
             },
         }

@@ -22,8 +22,8 @@ pub struct Finished<H> {
     pub halt: H,
 }
 
-/// Serves one connection over an empty store of its own, each step of which asks the halt first. Rows that were put to are not
-/// compacted: the store goes with the connection.
+/// Serves one connection over an empty store of its own, each step of which asks the halt first. A new name is given an id only where
+/// the rule allows it. Rows that were put to are not compacted: the store goes with the connection.
 pub fn serve_alone<S: Source, K: Sink, C: Clock, H: Halt + Drop>(
     alloc: Global,
     rule: &UidRule,

@@ -1,6 +1,6 @@
 -- The requests of bytes whose first line is known, and what is then to come.
-use Rattle.std.proofs.Common.{◌≡◌, ℕ, ◌+◌, ◌-◌, ◌<◌, ◌≤◌, Bool, true, false, cond, List, [], ◌∷◌, ◌++◌, length, take, drop, length-append, refl, sym, ap, ◌∙◌, append_assoc, append-nil, arith}
-use Rattle.std.specs.Prelude.{nat_eq, ◌||◌, Option, None, Some, slice_index}
+use Rattle.std.proofs.Common.{◌≡◌, ℕ, ◌+◌, ◌-◌, ◌<◌, ◌≤◌, Bool, true, false, cond, List, [], ◌∷◌, ◌++◌, length, take, drop, length-append, refl, sym, ap, subst, ◌∙◌, append_assoc, append-nil, arith}
+use Rattle.std.specs.Prelude.{nat_eq, ◌||◌, Option, None, Some, is_some, slice_index}
 use Rattle.std.specs.List.{cons_option, filter_map}
 use Rattle.std.proofs.lemmas.Bool.{eqb-true}
 use Rattle.std.proofs.lemmas.Bool.Decides.{nat_tests}
@@ -12,7 +12,7 @@ use Rattle.line_stream.specs.Lines.{EndsLine, has_line_end, is_too_long, lines_o
 use Rattle.line_stream.proofs.CallerLemmas.{lines_of_front, splits_line}
 use Rattle.telnet_put.specs.Requests.{Request, closes, request_of_text, request_of_line, requests_of, through_closing}
 use Rattle.telnet_put.specs.Requests.Request.{TooLong}
-use Rattle.telnet_put.specs.Sessions.{ComesAs, Gives, Waits, to_come}
+use Rattle.telnet_put.specs.Sessions.{ComesAs, FindsNext, Gives, IsNext, Waits, to_come}
 use Rattle.telnet_put.specs.Unread.{Unread}
 
 -- the first line that an LF ends
@@ -85,6 +85,14 @@ requests_shortened bytes none long more =
     let left = length-drop count bytes in
     requests_alike more (drop count bytes) bytes (record { none = none_drop count bytes none; long = omega (arith, left, long) }) (record { none = none; long = long })
 
+some_of : (o : Option Request) → is_some o ≡ true → (r : Request) × (o ≡ Some r)
+some_of None e = absurd (grind (arith, e))
+some_of (Some r) e = (r, refl)
+
+pub none_of : (o : Option Request) → is_some o ≡ false → None ≡ o
+none_of None e = refl
+none_of (Some r) e = absurd (grind (arith, e))
+
 -- ---- turns
 module _ (start : Unread) (bytes : List ℕ) (closed : Bool) (same : ComesAs start (record { bytes = bytes; closed = closed })) (live : closed ≡ false) where
   while_live : (rest more : List ℕ) → to_come (record { bytes = rest; closed = closed }) more ≡ requests_of (rest ++ more)
@@ -100,6 +108,12 @@ module _ (start : Unread) (bytes : List ℕ) (closed : Bool) (same : ComesAs sta
     same = λ more. while_live rest more ∙ shortened more ∙ sym (started more);
     few = λ _. few;
   }
+
+  -- at a line that asks something
+  pub found_next : (found read : List ℕ) (end : ℕ) → EndsLine (Some end) bytes → found ≡ bytes → read ≡ found → is_some (request_of_line (whole_line (take end read))) ≡ true → FindsNext start (record { bytes = found; closed = closed }) end
+  found_next found read end ends is read_is asks =
+      let r = some_of (request_of_line (whole_line (take end bytes))) (ap (λ xs. is_some (request_of_line (whole_line (take end xs)))) (sym (read_is ∙ is)) ∙ asks) in
+      subst (λ (bs : List ℕ). FindsNext start (record { bytes = bs; closed = closed }) end) (sym is) (same, (r.0, record { live = live; ends = ends; asks = r.1 }))
 
   -- at a line that an LF ends
   module _ (read rest : List ℕ) (end : ℕ) (ends : EndsLine (Some end) bytes) (read_is : read ≡ bytes) (rest_is : rest ≡ drop (end + 1) bytes) where
@@ -123,3 +137,7 @@ module _ (start : Unread) (bytes : List ℕ) (closed : Bool) (same : ComesAs sta
 
     pub rest_shorter : length rest < length bytes
     rest_shorter = let size = ap length rest_is ∙ length-drop (end + 1) bytes in let within = ends.0 in omega (arith, size, within)
+
+-- the request of a line that was found is used up with it
+pub next_given : (u : Unread) (rest : List ℕ) (end : ℕ) (request : Request) (shut : Bool) → IsNext u end request → rest ≡ drop (end + 1) u.bytes → shut ≡ closes request → Gives u request (record { bytes = rest; closed = shut })
+next_given u rest end request shut n is shuts = request_turn u u.bytes u.closed (λ more. refl) n.live u.bytes rest end n.ends refl is request shut (sym n.asks) shuts

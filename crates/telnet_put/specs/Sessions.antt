@@ -1,9 +1,8 @@
 -- What is to come of a telnet session.
-use Rattle.std.specs.Prelude.{◌≡◌, ℕ, ◌+◌, ◌≤◌, true, false, List, [], ◌∷◌, ◌++◌, length, Option, None, Some, if◌then◌else◌}
+use Rattle.std.specs.Prelude.{◌≡◌, ℕ, ◌+◌, ◌≤◌, true, false, List, [], ◌∷◌, ◌++◌, length, take, Some, if◌then◌else◌}
 use Rattle.line_stream.specs.declared.line.TheConstants.{LONGEST_LINE}
-use Rattle.telnet_put.specs.declared.telnet_command.Command.{Command}
-use Rattle.telnet_put.specs.TelnetCommands.{request_of}
-use Rattle.telnet_put.specs.Requests.{Request, closes, requests_of}
+use Rattle.line_stream.specs.Lines.{EndsLine, whole_line}
+use Rattle.telnet_put.specs.Requests.{Request, closes, request_of_line, requests_of}
 use Rattle.telnet_put.specs.Unread.{Unread}
 
 -- the requests that are to come of what is kept and these more bytes: none where one closed the session
@@ -26,10 +25,18 @@ pub record Waits (old new : Unread) : Type 0 where
   pub same : ComesAs old new
   pub few : new.closed ≡ false → length new.bytes ≤ LONGEST_LINE + 1
 
--- what a turn gives: the next request, or none where none has come
-abbrev pub Turns : Unread → Option Command → Unread → Type 0
-Turns old None new = Waits old new
-Turns old (Some command) new = Gives old (request_of command) new
+-- the line that ends here, by an LF, asks this, and no request closed the session before it
+pub record IsNext (unread : Unread) (end : ℕ) (request : Request) : Type 0 where
+  pub live : unread.closed ≡ false
+  pub ends : EndsLine (Some end) unread.bytes
+  pub asks : request_of_line (whole_line (take end unread.bytes)) ≡ Some request
+
+abbrev pub HasNext : Unread → ℕ → Type 0
+HasNext unread end = (request : Request) × IsNext unread end request
+
+-- the same requests are to come, and the first of them is that of the line that ends here
+abbrev pub FindsNext : Unread → Unread → ℕ → Type 0
+FindsNext old new end = ComesAs old new × HasNext new end
 
 -- These bytes were fed and these requests given: whatever more bytes come, the requests of all are those, and then those to come.
 abbrev pub HasGiven : List ℕ → List Request → Unread → Type 0

@@ -3,13 +3,11 @@ ghost use Rattle.std.specs.Prelude.{◌≡◌};
 ghost use Rattle.telnet_put.specs.TelnetCommands.{request_of};
 ghost use Rattle.telnet_put.specs.Requests.{closes};
 
-use tsd_base::points::{Point, PointFault};
-
 /// A request of a telnet session, by its first word. Words behind one other than `put` don't count.
-#[derive(Drop)]
-pub enum Command {
-    /// `put` and the words of a point, or why they are none, which is never want of memory.
-    Put { result: Result<Point, PointFault> },
+#[derive(Clone, Copy)]
+pub enum Command<'a> {
+    /// `put`, and what stands behind it: the text of a point, or a text that is none.
+    Put { text: &'a [u8] },
     /// `version`
     Version,
     /// `help`
@@ -28,7 +26,7 @@ pub enum Command {
     Other,
 }
 
-impl Command {
+impl Command<'_> {
     /// Whether it closes the session: no request comes behind it.
     pub fn closes(&self) -> bool
         ensures { result ≡ closes (request_of self.now) }

@@ -1,12 +1,13 @@
 //! Bytes that come in pieces, and the requests of their lines.
-ghost use Rattle.std.specs.Prelude.{◌≡◌, ℕ, ◌+◌, ◌≤◌, false, List, ◌++◌, length, IfOk, OnErr, OnOk};
+ghost use Rattle.std.specs.Prelude.{◌≡◌, ℕ, ◌+◌, ◌≤◌, false, List, ◌++◌, length, MatchOption, OnErr, OnOk};
 ghost use Rattle.line_stream.specs.declared.line.TheConstants.{LONGEST_LINE};
 ghost use Rattle.line_stream.specs.Lines.{has_line_end};
-ghost use Rattle.telnet_put.specs.Requests.{requests_of};
-ghost use Rattle.telnet_put.specs.Sessions.{ComesAs, Turns, to_come};
+ghost use Rattle.telnet_put.specs.Requests.{Request, closes, requests_of};
+ghost use Rattle.telnet_put.specs.Sessions.{FindsNext, Gives, HasNext, IsNext, Waits, to_come};
+ghost use Rattle.telnet_put.specs.TelnetCommands.{request_of};
 
 use crate::telnet_command::Command;
-use crate::telnet_text::read_command;
+use crate::telnet_text::{asks, read_command};
 use line_stream::buffer::LineBuffer;
 use line_stream::line::LONGEST_LINE;
 use std::alloc::{AllocError, Global};
@@ -15,8 +16,8 @@ use std::marker::Model;
 /// Takes the bytes of a telnet session in pieces, and gives its requests one after the other. Contracts tell which
 /// requests are to come, whatever more bytes come.
 ///
-/// All work is linear in the bytes: each is searched for its LF once, and none is moved for each line. Where a turn gave
-/// None, at most 8,193 bytes are kept, but for those behind a request that closed the session.
+/// All work is linear in the bytes: each is searched for its LF once, and none is moved for each line. Where none was
+/// found, at most 8,193 bytes are kept, but for those behind a request that closed the session.
 #[derive(Drop)]
 pub struct Lines {
     buffer: LineBuffer,
@@ -50,25 +51,41 @@ impl Lines {
         self.buffer.feed(piece)
     }
 
-    /// The next request. None where no further whole line that isn't blank has come, or where an earlier request closed
-    /// the session. It fails only for want of memory, and then the request is still to come.
-    pub fn turn(&mut self, alloc: Global) -> Result<Option<Command>, AllocError>
-        ensures ok { IfOk result (λ command. Turns self.old command self.new) }
-        ensures err { OnErr result (ComesAs self.old self.new) }
+    /// Finds the next request, of which nothing is used up, and answers where its line ends. None where no further whole line that
+    /// isn't blank has come, or where an earlier request closed the session.
+    pub fn find(&mut self) -> Option<usize>
+        ensures { MatchOption result (Waits self.old self.new) (FindsNext self.old self.new) }
     {
         while !self.closed {
             let Some(end) = self.buffer.line_end() else {
                 shorten(&mut self.buffer);
-                return Ok(None);
+                return None;
             };
-            let command = read_command(alloc, &self.buffer.bytes()[..end])?;
-            self.buffer.skip(end + 1);
-            if let Some(command) = command {
-                self.closed = command.closes();
-                return Ok(Some(command));
+            if asks(&self.buffer.bytes()[..end]) {
+                return Some(end);
             }
+            self.buffer.skip(end + 1);
         }
-        Ok(None)
+        None
+    }
+
+    /// The request that was found, whose line ends here.
+    pub fn command(&self, end: usize) -> Command<'_>
+        requires { HasNext self.now end }
+        ensures { IsNext self.now end (request_of result) }
+    {
+        read_command(&self.buffer.bytes()[..end])
+    }
+
+    /// Uses up the request that was found, whose line ends here. Where it closes, no request comes behind it.
+    pub fn skip(&mut self, end: usize, closing: bool)
+        requires { HasNext self.old end }
+        ensures { (request : Request) → IsNext self.old end request → closing ≡ closes request → Gives self.old request self.new }
+    {
+        // For the proof: the bytes are so few that they have a length.
+        let _ = self.buffer.bytes().len();
+        self.buffer.skip(end + 1);
+        self.closed = closing;
     }
 }
 

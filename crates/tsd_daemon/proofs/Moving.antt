@@ -1,5 +1,5 @@
 -- How one call moves a connection.
-use Rattle.std.proofs.Common.{◌≡◌, inl, inr, ℕ, true, List, [], ◌++◌, refl, sym, subst}
+use Rattle.std.proofs.Common.{◌≡◌, inl, inr, ℕ, true, false, true≢false, List, [], ◌++◌, refl, sym, subst}
 use Rattle.std.specs.Prelude.{Option, None, Some, option_to_list}
 use Rattle.tsd_base.specs.Points.{DataPoint}
 use Rattle.cell_laws.proofs.CallerLemmas.{nothing_made}
@@ -10,6 +10,7 @@ use Rattle.cell_model.specs.Deeds.{deeds}
 use Rattle.compactor.proofs.CallerLemmas.{rows_none}
 use Rattle.point_put.specs.Admissions.{Admission}
 use Rattle.telnet_put.specs.Requests.{Request}
+use Rattle.telnet_put.specs.Requests.Request.{Put, Version, Help, Stats, DropCaches, Exit, Die, TooLong, Other}
 use Rattle.tsd_daemon.specs.declared.served.Served.{Served}
 use Rattle.tsd_daemon.specs.declared.served.Served.TheVariants as answer
 use Rattle.tsd_daemon.specs.declared.counts.Counts.{Counts}
@@ -18,10 +19,10 @@ use Rattle.tsd_daemon.specs.ConnClocks.{Gave}
 use Rattle.tsd_daemon.specs.ConnRequests.{ConnRequest, asks_clock, end_of, point_asked}
 use Rattle.tsd_daemon.specs.ConnRequests.ConnRequest.{Telnet}
 use Rattle.tsd_daemon.specs.ConnReplies.{counts_with, fixed_reply}
-use Rattle.tsd_daemon.specs.Exchanges.{AnsweredBy}
+use Rattle.tsd_daemon.specs.Exchanges.{AnsweredBy, is_put}
 use Rattle.tsd_daemon.specs.Talks.{ClockMoves, Ends, FixedMoves, Gives, GivesLast, GivesReply, GivesSome, IsNext, Moves, Replied, Stand, Talks, WasBegun, counted_as}
 use Rattle.tsd_daemon.proofs.TalkLemmas.{BreaksSo}
-use Rattle.tsd_daemon.proofs.Talking.{Requests, talk_begun, talk_broken, talk_closed, talk_failed, talk_gave, talk_momentless, talk_replied, talk_unsent}
+use Rattle.tsd_daemon.proofs.Talking.{Requests, talk_begun, talk_broken, talk_closed, talk_come, talk_failed, talk_gave, talk_momentless, talk_replied, talk_unsent}
 
 -- ---- one request
 
@@ -65,6 +66,18 @@ pub clock_failed : (c : Admission) (old : Stand) (moments moments' : Option (Lis
 clock_failed c old moments moments' request come come' none (asks, same) next from t le k =
     subst (λ (m : Option (List ℕ)). Ends c from t.taken t.left m answer.ClockFault old.seen old.held old.queue) (sym same) (talk_momentless c from (record t { moments = moments }) old come come' request le k next asks none)
 
+-- a request that is no put asks for no point
+pub unasked : (request : Request) → is_put (Telnet request) ≡ false → point_asked request ≡ None
+unasked (Put point) e = absurd (true≢false e)
+unasked Version e = refl
+unasked Help e = refl
+unasked Stats e = refl
+unasked DropCaches e = refl
+unasked Exit e = refl
+unasked Die e = refl
+unasked TooLong e = refl
+unasked Other e = refl
+
 -- ---- one request that doesn't ask the clock
 
 pub request_replied : (c : Admission) (old : Stand) (request : ConnRequest) (seen : Seen) (held : Option (List ℕ)) (queue : List Stored) (waiting : List ℕ) (counts : Counts) (reply : List ℕ) (how : Counted) (result : Option Served) (come come' : Requests)
@@ -104,6 +117,10 @@ clock_first_failed c old moments held waiting come come' g from t le k = talk_fa
 -- one after the other
 pub moves_on : (c : Admission) (old mid new : Stand) (come come' come'' : Requests) (result : Option Served) → Moves c old come mid come' None → Moves c mid come' new come'' result → Moves c old come new come'' result
 moves_on c old mid new come come' come'' result a b from t le k = b from t le (a from t le k)
+
+-- the same requests are to come, under another name
+pub moves_same : (c : Admission) (s : Stand) (come come' : Requests) → ((more : List ℕ) → come' more ≡ come more) → Moves c s come s come' None
+moves_same c s come come' same from t le k = talk_come c from t s come come' k same
 
 pub clock_moves_on : (c : Admission) (old mid new : Stand) (moments between moments' : Option (List ℕ)) (come come' come'' : Requests) (result : Option Served) → ClockMoves c moments old come between mid come' None → ClockMoves c between mid come' moments' new come'' result → ClockMoves c moments old come moments' new come'' result
 clock_moves_on c old mid new moments between moments' come come' come'' result a b from t le k = b from t le (a from t le k)

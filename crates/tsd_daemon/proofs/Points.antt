@@ -1,31 +1,49 @@
--- What the answering of a point says.
+-- What the answering of a put says.
 use Rattle.std.proofs.Common.{◌≡◌, ℕ, List, [], ◌∷◌, refl, subst, sym}
 use Rattle.std.specs.Prelude.{None, Result, Ok, Err, IfOk}
-use Rattle.tsd_base.specs.Points.{DataPoint}
+use Rattle.tsd_base.specs.Faults.{point_fault_text}
+use Rattle.tsd_base.specs.Points.{DataPoint, FailsPoint, point_of}
+use Rattle.tsd_base.specs.declared.kinds.Kind.{Kind}
+use Rattle.tsd_base.specs.declared.points.PointFault.{PointFault}
+use Rattle.tsd_base.specs.declared.points.PointFault.TheVariants as fault
 use Rattle.cell_model.specs.declared.answers.RowsFault.{RowsFault}
 use Rattle.cell_model.specs.declared.answers.Stored.{Stored}
-use Rattle.cell_model.specs.History.{first}
+use Rattle.cell_model.specs.declared.events.Placed.{Placed}
+use Rattle.cell_model.specs.History.{History, first}
+use Rattle.cell_model.specs.Layout.{names_of}
 use Rattle.cell_model.specs.Seen.{Seen}
-use Rattle.cell_model.specs.Deeds.{deeds}
+use Rattle.cell_model.specs.Deeds.{Made, deeds}
 use Rattle.compactor.specs.Queues.{HasRows}
 use Rattle.compactor.proofs.CallerLemmas.{rows_none}
 use Rattle.point_put.specs.Admissions.{Admission}
+use Rattle.point_put.specs.Entries.{ForName, ForNames}
+use Rattle.point_put.specs.Entries.ForNames.{nil, more}
+use Rattle.point_put.specs.declared.fault.TextFault.{TextFault}
+use Rattle.point_put.specs.declared.fault.TextFault.TheVariants.{Unread, Unput}
 use Rattle.point_put.specs.declared.fault.PutFault.{PutFault}
 use Rattle.point_put.specs.declared.fault.PutFault.TheVariants.{Unknown, Filtered, Exhausted, OutOfMemory, Stopped}
 use Rattle.point_put.specs.PutPoint.{PointAsked, PutSays}
-use Rattle.queued_put.specs.QueuedPuts.{FailsQueued, PutsQueued}
+use Rattle.queued_put.specs.QueuedPuts.{FailsQueued, FailsTextQueued, PutsQueued, PutsTextQueued}
+use Rattle.telnet_put.specs.Requests.Request.{Put}
 use Rattle.queued_put.proofs.CallerLemmas.{may_have}
 use Rattle.tsd_daemon.specs.declared.counts.Counts.{Counts}
 use Rattle.tsd_daemon.specs.declared.counts.Counted.{Counted}
 use Rattle.tsd_daemon.specs.declared.counts.Counted.TheVariants as counted
-use Rattle.tsd_daemon.specs.declared.point_answer.Answer.{Answer}
-use Rattle.tsd_daemon.specs.ConnReplies.{IsTold}
-use Rattle.tsd_daemon.specs.PointAnswers.{IsRefusal, put_of}
+use Rattle.tsd_daemon.specs.declared.put_answer.Answer.{Answer}
+use Rattle.tsd_daemon.specs.ConnReplies.{IsTold, fixed_reply, put_line}
+use Rattle.tsd_daemon.specs.ConnRequests.{ConnRequest, point_asked}
+use Rattle.tsd_daemon.specs.ConnRequests.ConnRequest.{Telnet}
+use Rattle.tsd_daemon.specs.Exchanges.{BegunBy}
+use Rattle.tsd_daemon.specs.PutAnswers.{IsRefusal, IsUnread, put_of}
 use Rattle.tsd_daemon.specs.Talks.{Replied, WasBegun, counted_put}
+
+-- the request that puts a point
+abbrev point_put_of : DataPoint → ConnRequest
+point_put_of point = Telnet (Put (Ok point))
 
 -- a point was asked with this outcome, which is told so
 point_replied : (c : Admission) (counts : Counts) (point : DataPoint) (old new : Seen) (before after : List Stored) (outcome : Result Stored PutFault) (reply : List ℕ) (stored : List Stored) → PutSays c point old outcome new
-    → IsTold outcome reply stored → HasRows before stored after → Replied c counts None (put_of point) old before reply (counted_put stored) new after
+    → IsTold outcome reply stored → HasRows before stored after → Replied c counts None (point_put_of point) old before reply (counted_put stored) new after
 point_replied c counts point old new before after outcome reply stored (own, made, asked) told rows = record {
   stored = stored;
   since = made.since;
@@ -34,41 +52,102 @@ point_replied c counts point old new before after outcome reply stored (own, mad
   how_is = refl;
 }
 
-pub accepted_replied : (c : Admission) (counts : Counts) (point : DataPoint) (old new : Seen) (before after : List Stored) (answer : Answer) → PutsQueued c point old before new after → answer.reply.items ≡ [] → answer.counted ≡ counted.Accepted
-    → Replied c counts None (put_of point) old before answer.reply.items answer.counted new after
+accepted_replied : (c : Admission) (counts : Counts) (point : DataPoint) (old new : Seen) (before after : List Stored) (answer : Answer) → PutsQueued c point old before new after → answer.reply.items ≡ [] → answer.counted ≡ counted.Accepted
+    → Replied c counts None (point_put_of point) old before answer.reply.items answer.counted new after
 accepted_replied c counts point old new before after answer p quiet how =
-    subst (λ (how : Counted). Replied c counts None (put_of point) old before answer.reply.items how new after) (sym how) (point_replied c counts point old new before after (Ok p.stored) answer.reply.items (p.stored ∷ []) p.says (quiet, refl) p.rows)
+    subst (λ (how : Counted). Replied c counts None (point_put_of point) old before answer.reply.items how new after) (sym how) (point_replied c counts point old new before after (Ok p.stored) answer.reply.items (p.stored ∷ []) p.says (quiet, refl) p.rows)
 
 refusal_replied : (c : Admission) (counts : Counts) (point : DataPoint) (old new : Seen) (queue : List Stored) (fault : PutFault) (reply : List ℕ) → FailsQueued c point old fault new → IsRefusal fault reply
-    → Replied c counts None (put_of point) old queue reply counted.Refused new queue
+    → Replied c counts None (point_put_of point) old queue reply counted.Refused new queue
 refusal_replied c counts point old new queue (Unknown kind name) reply says told = point_replied c counts point old new queue queue (Err (Unknown kind name)) reply [] says told (rows_none queue)
 refusal_replied c counts point old new queue (Filtered kind name) reply says told = point_replied c counts point old new queue queue (Err (Filtered kind name)) reply [] says told (rows_none queue)
 refusal_replied c counts point old new queue (Exhausted kind) reply says told = point_replied c counts point old new queue queue (Err (Exhausted kind)) reply [] says told (rows_none queue)
 refusal_replied c counts point old new queue OutOfMemory reply says told = absurd told
 refusal_replied c counts point old new queue Stopped reply says told = absurd told
 
-pub refused_replied : (c : Admission) (point : DataPoint) (old new : Seen) (before after : List Stored) (fault : PutFault) (r : Result Answer RowsFault) → FailsQueued c point old fault new → after ≡ before
+refused_replied : (c : Admission) (point : DataPoint) (old new : Seen) (before after : List Stored) (fault : PutFault) (r : Result Answer RowsFault) → FailsQueued c point old fault new → after ≡ before
     → IfOk r (λ answer. IsRefusal fault answer.reply.items) → IfOk r (λ answer. answer.counted ≡ counted.Refused)
-    → IfOk r (λ answer. (counts : Counts) → Replied c counts None (put_of point) old before answer.reply.items answer.counted new after)
+    → IfOk r (λ answer. (counts : Counts) → Replied c counts None (point_put_of point) old before answer.reply.items answer.counted new after)
 refused_replied c point old new before after fault (Err e) says same told how = tt
 refused_replied c point old new before after fault (Ok answer) says same told how = λ counts.
-    subst (λ (how : Counted). Replied c counts None (put_of point) old before answer.reply.items how new after) (sym how)
-    (subst (λ (queue : List Stored). Replied c counts None (put_of point) old before answer.reply.items counted.Refused new queue) (sym same) (refusal_replied c counts point old new before fault answer.reply.items says told))
+    subst (λ (how : Counted). Replied c counts None (point_put_of point) old before answer.reply.items how new after) (sym how)
+    (subst (λ (queue : List Stored). Replied c counts None (point_put_of point) old before answer.reply.items counted.Refused new queue) (sym same) (refusal_replied c counts point old new before fault answer.reply.items says told))
 
 -- whatever came of it, it was begun
-pub failed_begun : (c : Admission) (point : DataPoint) (old new : Seen) (before after : List Stored) (fault : PutFault) → FailsQueued c point old fault new → after ≡ before → WasBegun c None (put_of point) old before new after
+failed_begun : (c : Admission) (point : DataPoint) (old new : Seen) (before after : List Stored) (fault : PutFault) → FailsQueued c point old fault new → after ≡ before → WasBegun c None (point_put_of point) old before new after
 failed_begun c point old new before after fault says same = at fault says
   where
-    begun : (outcome : Result Stored PutFault) → PutSays c point old outcome new → WasBegun c None (put_of point) old before new after
+    begun : (outcome : Result Stored PutFault) → PutSays c point old outcome new → WasBegun c None (point_put_of point) old before new after
     begun outcome (own, made, asked) = record {
       since = made.since;
       begun = λ h l f. (refl, (outcome, subst (λ own. PointAsked c point (first new.length h) own outcome) (sym (made.made h f)) (asked h l f)));
       rows = λ h l f. may_have before [] after (deeds h old.caller old.length new.length) (subst (λ (queue : List Stored). HasRows before [] queue) (sym same) (rows_none before));
     }
 
-    at : (fault : PutFault) → FailsQueued c point old fault new → WasBegun c None (put_of point) old before new after
+    at : (fault : PutFault) → FailsQueued c point old fault new → WasBegun c None (point_put_of point) old before new after
     at (Unknown kind name) says = begun (Err (Unknown kind name)) says
     at (Filtered kind name) says = begun (Err (Filtered kind name)) says
     at (Exhausted kind) says = begun (Err (Exhausted kind)) says
     at OutOfMemory (outcome, says) = begun outcome says
     at Stopped says = begun (Err Stopped) says
+
+-- ---- the point of a text
+pub text_accepted : (c : Admission) (counts : Counts) (text : List ℕ) (old new : Seen) (before after : List Stored) (answer : Answer) → PutsTextQueued c text old before new after → answer.reply.items ≡ [] → answer.counted ≡ counted.Accepted
+    → Replied c counts None (put_of text) old before answer.reply.items answer.counted new after
+text_accepted c counts text old new before after answer (point, is, puts) quiet how =
+    subst (λ (r : Result DataPoint PointFault). Replied c counts None (Telnet (Put r)) old before answer.reply.items answer.counted new after) (sym is) (accepted_replied c counts point old new before after answer puts quiet how)
+
+pub text_refused : (c : Admission) (text : List ℕ) (old new : Seen) (before after : List Stored) (fault : PutFault) (r : Result Answer RowsFault) → FailsTextQueued c text old (Unput fault) new → after ≡ before
+    → IfOk r (λ answer. IsRefusal fault answer.reply.items) → IfOk r (λ answer. answer.counted ≡ counted.Refused)
+    → IfOk r (λ answer. (counts : Counts) → Replied c counts None (put_of text) old before answer.reply.items answer.counted new after)
+text_refused c text old new before after fault r (point, is, says) same told how =
+    subst (λ (p : Result DataPoint PointFault). IfOk r (λ answer. (counts : Counts) → Replied c counts None (Telnet (Put p)) old before answer.reply.items answer.counted new after)) (sym is) (refused_replied c point old new before after fault r says same told how)
+
+-- nothing was done for a text that has no point
+unread_replied : (c : Admission) (counts : Counts) (fault : PointFault) (old new : Seen) (before : List Stored) (reply : List ℕ) → Made old [] new → reply ≡ put_line (point_fault_text fault) → Replied c counts None (Telnet (Put (Err fault))) old before reply counted.Refused new before
+unfolding fixed_reply
+unread_replied c counts fault old new before reply made told = record {
+  stored = [];
+  since = made.since;
+  answered = λ h l f. (refl, (made.made h f, told, refl));
+  rows = rows_none before;
+  how_is = refl;
+}
+
+unread_told : (c : Admission) (counts : Counts) (fault : PointFault) (read : Result DataPoint PointFault) (old new : Seen) (before : List Stored) (reply : List ℕ) → FailsPoint fault read → Made old [] new → IsUnread fault reply
+    → Replied c counts None (Telnet (Put read)) old before reply counted.Refused new before
+unread_told c counts (fault.FewWords found) read old new before reply is made told = subst (λ (r : Result DataPoint PointFault). Replied c counts None (Telnet (Put r)) old before reply counted.Refused new before) (sym is) (unread_replied c counts _ old new before reply made told)
+unread_told c counts (fault.Metric f) read old new before reply is made told = subst (λ (r : Result DataPoint PointFault). Replied c counts None (Telnet (Put r)) old before reply counted.Refused new before) (sym is) (unread_replied c counts _ old new before reply made told)
+unread_told c counts fault.Time read old new before reply is made told = subst (λ (r : Result DataPoint PointFault). Replied c counts None (Telnet (Put r)) old before reply counted.Refused new before) (sym is) (unread_replied c counts _ old new before reply made told)
+unread_told c counts (fault.Value f) read old new before reply is made told = subst (λ (r : Result DataPoint PointFault). Replied c counts None (Telnet (Put r)) old before reply counted.Refused new before) (sym is) (unread_replied c counts _ old new before reply made told)
+unread_told c counts (fault.TagForm index) read old new before reply is made told = subst (λ (r : Result DataPoint PointFault). Replied c counts None (Telnet (Put r)) old before reply counted.Refused new before) (sym is) (unread_replied c counts _ old new before reply made told)
+unread_told c counts (fault.TagKey index f) read old new before reply is made told = subst (λ (r : Result DataPoint PointFault). Replied c counts None (Telnet (Put r)) old before reply counted.Refused new before) (sym is) (unread_replied c counts _ old new before reply made told)
+unread_told c counts (fault.TagValue index f) read old new before reply is made told = subst (λ (r : Result DataPoint PointFault). Replied c counts None (Telnet (Put r)) old before reply counted.Refused new before) (sym is) (unread_replied c counts _ old new before reply made told)
+unread_told c counts (fault.Tags f) read old new before reply is made told = subst (λ (r : Result DataPoint PointFault). Replied c counts None (Telnet (Put r)) old before reply counted.Refused new before) (sym is) (unread_replied c counts _ old new before reply made told)
+unread_told c counts fault.OutOfMemory read old new before reply is made told = absurd told
+
+pub text_unread : (c : Admission) (text : List ℕ) (old new : Seen) (before after : List Stored) (fault : PointFault) (r : Result Answer RowsFault) → FailsTextQueued c text old (Unread fault) new → after ≡ before
+    → IfOk r (λ answer. IsUnread fault answer.reply.items) → IfOk r (λ answer. answer.counted ≡ counted.Refused)
+    → IfOk r (λ answer. (counts : Counts) → Replied c counts None (put_of text) old before answer.reply.items answer.counted new after)
+text_unread c text old new before after fault (Err e) says same told how = tt
+text_unread c text old new before after fault (Ok answer) (is, made) same told how = λ counts.
+    subst (λ (how : Counted). Replied c counts None (put_of text) old before answer.reply.items how new after) (sym how)
+    (subst (λ (queue : List Stored). Replied c counts None (put_of text) old before answer.reply.items counted.Refused new queue) (sym same) (unread_told c counts fault (point_of text) old new before answer.reply.items is made told))
+
+-- whatever came of it, the put was begun
+none_for : (c : Admission) (names : List (Kind × List ℕ)) → ForNames c names []
+none_for c [] = nil
+none_for c (n ∷ names) = more ForName.none (none_for c names)
+
+begun_of : (c : Admission) (h : History) (own : List Placed) (read : Result DataPoint PointFault) → own ≡ [] → BegunBy c h own (point_asked (Put read))
+begun_of c h own (Ok point) none = (Err OutOfMemory, subst (ForNames c (names_of point)) (sym none) (none_for c (names_of point)))
+begun_of c h own (Err fault) none = none
+
+pub text_begun : (c : Admission) (text : List ℕ) (old new : Seen) (before after : List Stored) (fault : TextFault) → FailsTextQueued c text old fault new → after ≡ before → WasBegun c None (put_of text) old before new after
+text_begun c text old new before after (Unread fault) (is, made) same = record {
+  since = made.since;
+  begun = λ h l f. (refl, begun_of c (first new.length h) (deeds h old.caller old.length new.length) (point_of text) (made.made h f));
+  rows = λ h l f. may_have before [] after (deeds h old.caller old.length new.length) (subst (λ (queue : List Stored). HasRows before [] queue) (sym same) (rows_none before));
+}
+text_begun c text old new before after (Unput fault) (point, is, says) same =
+    subst (λ (r : Result DataPoint PointFault). WasBegun c None (Telnet (Put r)) old before new after) (sym is) (failed_begun c point old new before after fault says same)

@@ -5,4 +5,4 @@ pub mod Exchanges
 pub mod ServedConns
 pub mod ConnPieces
 pub mod Talks
-pub mod PointAnswers
+pub mod PutAnswers

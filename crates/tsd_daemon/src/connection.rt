@@ -21,8 +21,8 @@ use uid_table::uids::Uids;
 /// Serves one connection, from the bytes that the source gives to the replies that the sink takes, to its end.
 ///
 /// The first byte decides what the connection asks: where it is `A` to `Z` it is an HTTP connection, any other begins a telnet
-/// session. Requests are answered one after the other. The row of each point that was accepted is added to the queue. At most
-/// 2^40 bytes are taken.
+/// session. Requests are answered one after the other. A new name is given an id only where the rule allows it. The row of each point
+/// that was accepted is added to the queue. At most 2^40 bytes are taken.
 ///
 /// Replies may wait to be given together, at most 64 KiB of them, but not while a point is put, not while an HTTP request is worked, and not
 /// while bytes are taken.

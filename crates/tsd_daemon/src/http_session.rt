@@ -1,5 +1,5 @@
 //! An HTTP connection, from its bytes to its replies.
-ghost use Rattle.std.specs.Prelude.{◌≡◌, ℕ, ◌^◌, ◌<◌, ◌≤◌, [], length, None};
+ghost use Rattle.std.specs.Prelude.{◌≡◌, ◌^◌, ◌<◌, ◌≤◌, [], None};
 ghost use Rattle.std.specs.Io.KnownBytes.{IsAtEnd};
 ghost use Rattle.http_routes.specs.Routes.{route_table, valued};
 ghost use Rattle.point_put.specs.Admissions.{admission};

@@ -9,7 +9,7 @@ mod exchange;
 mod http_session;
 pub mod laws;
 mod next_piece;
-mod point_answer;
+mod put_answer;
 mod reply_buffer;
 pub mod served;
 mod session;

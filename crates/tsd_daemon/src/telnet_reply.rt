@@ -1,10 +1,11 @@
 //! Replies to the requests of a telnet session.
-ghost use Rattle.std.specs.Prelude.{◌≡◌, ◌++◌, codes, decimal, None, IfOk, OnOk};
+ghost use Rattle.std.specs.Prelude.{◌≡◌, ◌++◌, codes, decimal, false, IfOk, OnOk};
 ghost use Rattle.tsd_base.specs.Faults.{point_fault_text};
 ghost use Rattle.point_put.specs.PutFaults.{put_fault_text};
 ghost use Rattle.telnet_put.specs.TelnetCommands.{request_of};
-ghost use Rattle.tsd_daemon.specs.ConnRequests.{point_asked};
+ghost use Rattle.tsd_daemon.specs.ConnRequests.ConnRequest.{Telnet};
 ghost use Rattle.tsd_daemon.specs.ConnReplies.{fixed_reply, line, put_line, stats_text};
+ghost use Rattle.tsd_daemon.specs.Exchanges.{is_put};
 
 use crate::counts::Counts;
 use itoa::Buffer;
@@ -15,13 +16,16 @@ use tsd_base::points::PointFault;
 
 /// The reply to a request that asks for no step, where the counts are those of the requests before it.
 #[tactic(auto, unfolding(crate::specs::ConnReplies::fixed_reply))]
-pub fn fixed_reply(alloc: Global, counts: &Counts, command: &Command) -> Result<Vec<u8>, AllocError>
-    requires { point_asked (request_of command.now) ≡ None }
+pub fn fixed_reply(
+    alloc: Global,
+    counts: &Counts,
+    command: &Command<'_>,
+) -> Result<Vec<u8>, AllocError>
+    requires { is_put (Telnet (request_of command.now)) ≡ false }
     ensures { IfOk result (λ reply. reply.items ≡ fixed_reply counts.now (request_of command.now)) }
 {
     match command {
-        Command::Put { result: Ok(_) } => unreachable!(),
-        Command::Put { result: Err(fault) } => unread_line(alloc, fault),
+        Command::Put { .. } => unreachable!(),
         Command::Version => line(alloc, b"tsd integer profile 1"),
         Command::Help => help_line(alloc),
         Command::Stats => stats(alloc, counts),
@@ -43,8 +47,8 @@ pub fn refused_line(alloc: Global, fault: &PutFault) -> Result<Vec<u8>, AllocErr
     Ok(text)
 }
 
-/// The reply to a put whose words are no point.
-fn unread_line(alloc: Global, fault: &PointFault) -> Result<Vec<u8>, AllocError>
+/// The reply to a put whose text has no point.
+pub fn unread_line(alloc: Global, fault: &PointFault) -> Result<Vec<u8>, AllocError>
     ensures { IfOk result (λ reply. reply.items ≡ put_line (point_fault_text fault.now)) }
 {
     let mut text = Vec::from_slice(alloc, b"put: ")?;

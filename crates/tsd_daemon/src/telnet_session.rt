@@ -1,7 +1,9 @@
 //! A telnet session, from its bytes to its replies.
-ghost use Rattle.std.specs.Prelude.{◌≡◌, ℕ, ◌^◌, ◌<◌, ◌≤◌, List, [], length, Option, None};
+ghost use Rattle.std.specs.Prelude.{◌≡◌, ℕ, ◌^◌, ◌<◌, ◌≤◌, List, [], Option, None};
 ghost use Rattle.std.specs.Io.KnownBytes.{IsAtEnd};
 ghost use Rattle.point_put.specs.Admissions.{admission};
+ghost use Rattle.telnet_put.specs.Requests.{Request};
+ghost use Rattle.telnet_put.specs.Sessions.{Gives, HasNext};
 ghost use Rattle.tsd_daemon.specs.ConnRequests.{telnet_asks};
 ghost use Rattle.tsd_daemon.specs.ServedConns.{ConnCauses};
 ghost use Rattle.tsd_daemon.specs.Talks.{Causes, Moves, SessionServed, telnet_to_come};
@@ -10,7 +12,7 @@ use crate::conn_input::ConnInput;
 use crate::exchange::exchange;
 use crate::next_piece::next_piece;
 use crate::served::Served;
-use crate::session::{Session, break_off};
+use crate::session::Session;
 use cell_model::rows::Rows;
 use compactor::queue::Queue;
 use point_put::Config;
@@ -82,17 +84,38 @@ fn answer_all<R: Rows + Drop, K: Sink>(
     ensures causes { Causes (K.faults sink.old) (K.faults sink.new) (R.stops names.old) (R.stops names.new) result }
     ensures number { K.number sink.new ≡ K.number sink.old }
 {
-    loop {
-        match lines.turn(alloc) {
-            Err(_) => return Some(break_off(sink, &mut session.replies)),
-            Ok(None) => return None,
-            Ok(Some(command)) => {
-                if let Some(end) = exchange(
-                    alloc, names, rule, config, queue, sink, session, command,
-                ) {
-                    return Some(end);
-                }
-            }
+    while let Some(end) = lines.find() {
+        if let Some(ended) = answer_next(
+            alloc, names, rule, config, queue, sink, session, lines, end,
+        ) {
+            return Some(ended);
         }
     }
+    None
+}
+
+/// Answers the request that was found, whose line ends here, and uses it up.
+fn answer_next<R: Rows + Drop, K: Sink>(
+    alloc: Global,
+    names: &mut Uids<R>,
+    rule: &UidRule,
+    config: &Config,
+    queue: &mut Queue,
+    sink: &mut K,
+    session: &mut Session,
+    lines: &mut Lines,
+    end: usize,
+) -> Option<Served>
+    requires { HasNext lines.old end }
+    ensures moves { Moves (admission config.now rule.now.patterns) (record { seen = R.seen names.old; held = K.held sink.old; queue = queue.old; waiting = session.old.replies; counts = session.old.counts }) (telnet_to_come lines.old)
+        (record { seen = R.seen names.new; held = K.held sink.new; queue = queue.new; waiting = session.new.replies; counts = session.new.counts }) (telnet_to_come lines.new) result }
+    ensures used { (request : Request) × Gives lines.old request lines.new }
+    ensures causes { Causes (K.faults sink.old) (K.faults sink.new) (R.stops names.old) (R.stops names.new) result }
+    ensures number { K.number sink.new ≡ K.number sink.old }
+{
+    let command = lines.command(end);
+    let closing = command.closes();
+    let ended = exchange(alloc, names, rule, config, queue, sink, session, &command);
+    lines.skip(end, closing);
+    ended
 }

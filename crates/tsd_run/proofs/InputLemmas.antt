@@ -13,7 +13,10 @@ use Rattle.std.specs.Prelude.{is_some}
 use Rattle.std.proofs.lemmas.Bool.{true≢false}
 use Rattle.std.proofs.lemmas.Bool.Decides.{nat_tests}
 use Rattle.batch_job.specs.NotedIds.{no_names, noted_all, exhausted_text}
+use Rattle.std.specs.Global.{Vec}
+use Rattle.batch_job.specs.AddedTexts.{AddsText}
 use Rattle.batch_job.specs.Pending.{AddsPoint}
+use Rattle.batch_job.specs.declared.point_line.LineOutcome.TheVariants as outcome
 use Rattle.batch_job.specs.PointLines.{Judged, judged, judged_text, points_from, points_of, with_point, with_line, with_points}
 use Rattle.batch_job.specs.PointLines.Judged.{Blank, Taken, Refused}
 use Rattle.tsd_run.specs.Inputs.{IsRead, IsBad, ReadsLine, IsUnrefused, full_text, refusal}
@@ -215,3 +218,17 @@ module _ (taken taken' taken'' left left' left'' : Option (List ℕ)) (c : SoFar
 pub line_read : (taken taken' left left' : Option (List ℕ)) (c d : SoFar) (r : Reading) (end : ℕ) → HasRead taken taken' left left' c r → BeginsWithLine r.bytes end → ReadsLine (whole_line (take end r.bytes)) (r.lines + 1) c d None
     → HasRead taken taken' left left' d (without_line r end)
 line_read taken taken' left left' c d r end h t one = record { input = h.input; takes = h.takes; leaves = h.leaves; size = h.size; reads = read_on h.input r.bytes end [] c d r.lines t h.reads one }
+
+-- ---- what became of the text of a line that isn't too long
+pub line_blank : (line : Line) (number : ℕ) (old new : SoFar) → length line.bytes ≤ LONGEST_LINE → AddsText old (judged_text (text_of line)) outcome.Blank new → ReadsLine line number old new None
+line_blank line number old new short (is, same) = subst (λ (s : SoFar). ReadsLine line number old s None) (sym same) (blank_read line number old (short_judged line short ∙ is))
+
+pub line_taken : (line : Line) (number : ℕ) (old new : SoFar) → length line.bytes ≤ LONGEST_LINE → AddsText old (judged_text (text_of line)) outcome.Taken new → ReadsLine line number old new None
+line_taken line number old new short (p, is, adds) = point_read line number old new p (short_judged line short ∙ is) adds
+
+pub line_full : (line : Line) (number : ℕ) (old new : SoFar) (kind : Kind) (bad : BadLine) → length line.bytes ≤ LONGEST_LINE → AddsText old (judged_text (text_of line)) (outcome.Full kind) new → bad.text.items ≡ exhausted_text kind → bad.number ≡ number
+    → ReadsLine line number old new (Some bad)
+line_full line number old new kind bad short (p, is, adds) told counted = λ lines read. (point_full line old new p kind bad.text.items (short_judged line short ∙ is) adds told lines read, counted)
+
+pub line_refused : (line : Line) (number : ℕ) (old new : SoFar) (text : Vec ℕ) → length line.bytes ≤ LONGEST_LINE → AddsText old (judged_text (text_of line)) (outcome.Refused text) new → ReadsLine line number old new (Some (record { number = number; text = text }))
+line_refused line number old new text short is = λ lines read. (ap (refusal read.gathers.names) (short_judged line short ∙ is), refl)

@@ -1,12 +1,13 @@
 -- The query of a batch.
 use Rattle.std.proofs.Common.{◌≡◌, ◌≤◌, Bool, [], ◌∷◌, sym, subst, arith}
 use Rattle.std.specs.Prelude.{Ok, Err}
+use Rattle.tsd_base.specs.declared.times.TheConstants.{LAST_TIME}
 use Rattle.query_text.specs.Subs.{GivesSub, sub_of}
 use Rattle.query_text.specs.declared.queries.Query.{Query}
 use Rattle.query_text.specs.declared.queries.QueryFault.{QueryFault}
 use Rattle.query_text.specs.declared.queries.QueryFault.TheVariants.{BadM, UnknownAggregator, RateRefused, BadDownsample, BadFilter, BadTimes, BadQuery, TooManyQueries, OutOfMemory}
 use Rattle.query_text.specs.declared.queries.Sub.{Sub}
-use Rattle.query_run.specs.AskedQueries.{CanDown}
+use Rattle.query_text.specs.QueryReadings.{CanDown}
 use Rattle.batch_job.specs.JobAnswers.{CanAsk}
 use Rattle.command_words.specs.CommandWords.{Batch}
 use Rattle.tsd_run.specs.BatchQueries.{GivesQuery, IsQueryOf}
@@ -15,7 +16,7 @@ module _ (query : Query) (batch : Batch) (s : Sub) (start : query.start ≡ batc
   pub is_query_of : IsQueryOf query batch
   is_query_of = record { sub = s; sub_is = is; query_is = λ i. record { start = start i; end = end i; ms = ms i; subs = subs i } }
 
-  pub can_ask : CanDown batch.ms s → batch.start ≤ batch.end → batch.end ≤ 4294967295999 → CanAsk query
+  pub can_ask : CanDown batch.ms s → batch.start ≤ batch.end → batch.end ≤ LAST_TIME → CanAsk query
   can_ask can range last = record {
     sub = s;
     subs_are = subs;

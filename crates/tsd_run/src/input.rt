@@ -9,8 +9,9 @@ ghost use Rattle.tsd_run.specs.RunFaults.{LineCause, RunCause};
 
 use crate::run_fault::RunFault;
 use batch_job::pending::Gathered;
-use batch_job::point_line::{Judgement, judge};
+use batch_job::point_line::LineOutcome;
 use cell_model::Rows;
+use line_stream::line::text_of;
 use line_stream::reader::{LineReader, NextLine};
 use std::alloc::{AllocError, Global};
 use tsd_base::kinds::Kind;
@@ -99,13 +100,11 @@ fn read_line<R: Rows + Drop>(
     ensures grows { R.stops store.old ≤ R.stops store.new }
     ensures cause { IfErr result (LineCause (R.stops store.old) (R.stops store.new)) }
 {
-    match judge(alloc, bytes, ended)? {
-        Judgement::Blank => Ok(None),
-        Judgement::Taken { point } => match gathered.add(alloc, store, rule, point)? {
-            None => Ok(None),
-            Some(kind) => Ok(Some(exhausted(alloc, kind, number)?)),
-        },
-        Judgement::Refused { text } => Ok(Some(BadLine { number, text })),
+    match gathered.add_text(alloc, store, rule, text_of(bytes, ended))? {
+        LineOutcome::Blank => Ok(None),
+        LineOutcome::Taken => Ok(None),
+        LineOutcome::Full { kind } => Ok(Some(exhausted(alloc, kind, number)?)),
+        LineOutcome::Refused { text } => Ok(Some(BadLine { number, text })),
     }
 }
 

@@ -1,5 +1,6 @@
 //! The query of a batch.
 ghost use Rattle.std.specs.Prelude.{◌≡◌, ◌≤◌, [], ◌∷◌, IfOk};
+ghost use Rattle.tsd_base.specs.declared.times.TheConstants.{LAST_TIME};
 ghost use Rattle.batch_job.specs.JobAnswers.{CanAsk};
 ghost use Rattle.command_words.specs.PlainAsked.{plain_batch};
 ghost use Rattle.tsd_run.specs.BatchQueries.{GivesQuery};
@@ -12,7 +13,7 @@ use std::alloc::{AllocError, Global};
 /// Reads the query of a batch: one sub query over its range. It answers why its text is none.
 pub fn read_query(alloc: Global, batch: &Batch<'_>) -> Result<Query, QueryFault>
     requires range { batch.now.start ≤ batch.now.end }
-    requires end { batch.now.end ≤ 4294967295999 }
+    requires end { batch.now.end ≤ LAST_TIME }
     ensures gives { GivesQuery result (plain_batch batch.now) }
     ensures can { IfOk result CanAsk }
 {

@@ -1,5 +1,6 @@
 //! The top call: everything that the program does.
 ghost use Rattle.std.specs.Prelude.{◌≡◌, ◌≢◌, ◌≤◌, true, false, map, string_bytes, Some, IfErr, IfOk, IfSome};
+ghost use Rattle.tsd_base.specs.declared.times.TheConstants.{LAST_TIME};
 ghost use Rattle.query_text.specs.QueryFaultTexts.{query_fault_text};
 ghost use Rattle.tsd_io.specs.Causes.{Rose};
 ghost use Rattle.batch_job.specs.JobAnswers.{CanAsk};
@@ -236,7 +237,7 @@ fn print<S: Source, K: Sink, H: Halt + Drop>(
     output: &mut K,
     halt: H,
 ) -> Ended<H>
-    requires range { IfSome batch (λ b. (b.start ≤ b.end) × (b.end ≤ 4294967295999)) }
+    requires range { IfSome batch (λ b. (b.start ≤ b.end) × (b.end ≤ LAST_TIME)) }
     ensures runs { RunsPrinted (batch_of batch.entry) (S.taken input.old) (S.taken input.new) (S.left input.old) (S.left input.new) (K.held output.old) (K.held output.new) result.status }
     ensures reads_later { S.faults input.old ≤ S.faults input.new }
     ensures writes_later { K.faults output.old ≤ K.faults output.new }
@@ -283,7 +284,7 @@ fn decide<S: Source, H: Halt + Drop>(
     input: &mut S,
     halt: H,
 ) -> Decided<H>
-    requires range { IfSome batch (λ b. (b.start ≤ b.end) × (b.end ≤ 4294967295999)) }
+    requires range { IfSome batch (λ b. (b.start ≤ b.end) × (b.end ≤ LAST_TIME)) }
     ensures works { Works (batch_of batch.entry) (S.taken input.old) (S.taken input.new) (S.left input.old) (S.left input.new) result.printed }
     ensures later { S.faults input.old ≤ S.faults input.new }
     ensures grows { H.stops halt ≤ H.stops result.halt }
@@ -318,7 +319,7 @@ fn run_batch<S: Source, H: Halt + Drop>(
     halt: H,
 ) -> Decided<H>
     requires range { batch.now.start ≤ batch.now.end }
-    requires end { batch.now.end ≤ 4294967295999 }
+    requires end { batch.now.end ≤ LAST_TIME }
     ensures works { Works (Some (plain_batch batch.now)) (S.taken input.old) (S.taken input.new) (S.left input.old) (S.left input.new) result.printed }
     ensures later { S.faults input.old ≤ S.faults input.new }
     ensures grows { H.stops halt ≤ H.stops result.halt }

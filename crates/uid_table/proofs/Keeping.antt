@@ -1,9 +1,11 @@
 -- What is kept was kept before or put, and stays shown.
-use Rattle.std.proofs.Common.{◌≡◌, inl, inr, ℕ, Bool, true, List, [], Contains, rules, IfSome, Option, Some, None, refl, sym, ap, subst, ◌∙◌}
+use Rattle.std.proofs.lemmas.List.Elements.{All-set}
+use Rattle.std.proofs.Common.{set, get_or, length, ◌<◌, ◌≡◌, inl, inr, ℕ, Bool, true, List, [], Contains, rules, IfSome, Option, Some, None, refl, sym, ap, subst, ◌∙◌}
 use Rattle.std.specs.Borrow.{Bor}
 use Rattle.std.specs.Prelude.{option_copied, Result, Ok, Err, IfOk, OnOk, OnErr}
 use Rattle.std.specs.Map.{lookup}
 use Rattle.list_lemmas.proofs.BoolTests.{both_true}
+use Rattle.list_lemmas.proofs.ListMembers.{not_in}
 use Rattle.lru.specs.LruCache.{LruCache, lru_cache, promoted, put_entries}
 use Rattle.lru.proofs.CallerLemmas.{Contains-lookup, Contains-promoted, Contains-put_entries}
 use Rattle.short_bytes.specs.Alike.{same_list}
@@ -22,6 +24,17 @@ use Rattle.cell_model.specs.Seen.{Seen, Waited, Stepped, IsPossible}
 use Rattle.cell_model.specs.Deeds.{Extends}
 use Rattle.uid_table.specs.Shown.{HasShown, HasShownName}
 use Rattle.uid_table.specs.IdSteps.{MadeSo}
+use Rattle.std.specs.Global.{Box}
+use Rattle.tsd_base.specs.declared.kinds.Kind.TheVariants.{Metric, TagKey, TagValue}
+use Rattle.tsd_base.specs.TagList.{Pair}
+use Rattle.tsd_base.specs.Points.{DataPoint, data_point}
+use Rattle.row_key.specs.declared.keys.RowKey.{RowKey}
+use Rattle.cell_model.specs.Layout.{names_of}
+use Rattle.uid_table.specs.declared.known_series.KnownSeries.{KnownSeries}
+use Rattle.uid_table.specs.declared.placed_point.PlacedPoint.{PlacedPoint}
+use Rattle.uid_table.specs.ShownKeys.{AllShown, IdsShown, PairsShown, KeyShown}
+use Rattle.uid_table.specs.PlacedPoints.{IsPlaced}
+use Rattle.uid_table.specs.KnownSeries.{IsShownSeries, IsShownSlot, KeepsSeries, KeepsNone}
 use Rattle.uid_table.specs.Cache.{AreAmong, IsShownId, KeepsIds, KeepsNames}
 use Rattle.cell_laws.proofs.CallerLemmas.{wait_made, step_extends, extends_joined}
 use Rattle.uid_table.proofs.Shows.{shown_kept}
@@ -99,8 +112,68 @@ pub step_on : {T E : Type 0} (old new : Seen) (step : Step) (reply : T → Reply
 step_on old new step reply (Ok x) done waited possible lives = (step_extends old new step (reply x) done, λ _. possible)
 step_on old new step reply (Err e) done waited possible lives = made_on old new (λ list. list ≡ []) ([], wait_made old new waited lives, refl)
 
-pub kept_on : (s t : Seen) (ids : List (NameKey × ℕ)) (names : List (IdKey × List ℕ)) → KeepsIds s ids × KeepsNames s names → IsLater s t → KeepsIds t ids × KeepsNames t names
-kept_on s t ids names all on = (ids_kept s t ids on all.0, names_kept s t names on all.1)
+all_shown_kept : (s t : Seen) (names : List (Kind × List ℕ)) → Extends s t → AllShown s names → AllShown t names
+all_shown_kept s t names e all k n c = let w = all k n c in (w.0, shown_kept s t k n w.0 e w.1)
+
+ids_shown_kept : (s t : Seen) (p : Pair) (i : ℕ × ℕ) → Extends s t → IdsShown s p i → IdsShown t p i
+ids_shown_kept s t p i e shown = (shown_kept s t TagKey p.0 i.0 e shown.0, shown_kept s t TagValue p.1 i.1 e shown.1)
+
+pairs_shown_kept : (s t : Seen) (tags : List Pair) (pairs : List (ℕ × ℕ)) → Extends s t → PairsShown s tags pairs → PairsShown t tags pairs
+pairs_shown_kept s t tags pairs e p = record {
+  rising = p.rising;
+  count = p.count;
+  each_tag = λ g c. let w = p.each_tag g c in (w.0, w.1, ids_shown_kept s t g w.0 e w.2);
+  each_pair = λ i c. let w = p.each_pair i c in (w.0, w.1, ids_shown_kept s t w.0 i e w.2);
+}
+
+key_shown_kept : (s t : Seen) (p : DataPoint) (key : RowKey) → Extends s t → KeyShown s p key → KeyShown t p key
+key_shown_kept s t p key e k = record {
+  is_point = k.is_point;
+  is_key = k.is_key;
+  metric = shown_kept s t Metric p.metric key.metric e k.metric;
+  base = k.base;
+  pairs = pairs_shown_kept s t p.tags key.pairs.items e k.pairs;
+}
+
+-- a point that is placed stays so
+pub placed_kept : (s t : Seen) (p : PlacedPoint) → IsLater s t → IsPlaced s p → IsPlaced t p
+placed_kept s t p on h = record {
+  key = h.key;
+  shown = key_shown_kept s t (data_point p.point) h.key on.0 h.shown;
+  row = h.row;
+  base = h.base;
+  names = all_shown_kept s t (names_of (data_point p.point)) on.0 h.names;
+  possible = on.1 h.possible;
+}
+
+pub series_shown_kept : (s t : Seen) (k : KnownSeries) → IsLater s t → IsShownSeries s k → IsShownSeries t k
+series_shown_kept s t k on h = record { reads = h.reads; placed = placed_kept s t k.placed on h.placed }
+
+slot_kept : (s t : Seen) (slot : Option (Box KnownSeries)) → IsLater s t → IsShownSlot s slot → IsShownSlot t slot
+slot_kept s t None on h = tt
+slot_kept s t (Some b) on h = series_shown_kept s t b.value on h
+
+pub series_kept : (s t : Seen) (slots : List (Option (Box KnownSeries))) → IsLater s t → KeepsSeries s slots → KeepsSeries t slots
+series_kept s t slots on all k d lt = slot_kept s t _ on (all k d lt)
+
+pub none_kept : (s : Seen) (slots : List (Option (Box KnownSeries))) → KeepsNone slots → KeepsSeries s slots
+none_kept s slots none k d lt = subst (IsShownSlot s) (sym (none k d lt)) tt
+
+-- a slot was written
+pub set_kept : (s : Seen) (old new : List (Option (Box KnownSeries))) (at : ℕ) (slot : Option (Box KnownSeries)) → new ≡ set old at slot → KeepsSeries s old → IsShownSlot s slot → KeepsSeries s new
+set_kept s old new at slot is all one = subst (KeepsSeries s) (sym is) (All-set (IsShownSlot s) old at slot one all)
+
+-- what stands in a slot
+pub slot_among : (s : Seen) (slots : List (Option (Box KnownSeries))) (at : ℕ) (slot : Option (Box KnownSeries)) → ((d : Option (Box KnownSeries)) → get_or slots at d ≡ slot) → at < length slots → KeepsSeries s slots → IsShownSlot s slot
+slot_among s slots at slot is lt all = subst (IsShownSlot s) (is None) (all at None lt)
+
+-- no pair is kept
+pub no_pairs : {K V : Type 0} (P : K × V → Type 0) (c : LruCache K V) (cap : ℕ) → c ≡ lru_cache [] cap → (e : K × V) → Contains c.entries e → P e
+no_pairs P c cap is e h = absurd (not_in e (subst (λ (x : LruCache _ _). Contains x.entries e) is h))
+
+pub kept_on : (s t : Seen) (ids : List (NameKey × ℕ)) (names : List (IdKey × List ℕ)) (slots : List (Option (Box KnownSeries))) → KeepsIds s ids × KeepsNames s names × KeepsSeries s slots → IsLater s t
+    → KeepsIds t ids × KeepsNames t names × KeepsSeries t slots
+kept_on s t ids names slots all on = (ids_kept s t ids on all.0, names_kept s t names on all.1, series_kept s t slots on all.2)
 
 -- a look leaves what is kept shown
 pub look_kept : {K V : Type 0} (P : K × V → Type 0) (old new : List (K × V)) → AreAmong new old → ((e : K × V) → Contains old e → P e) → (e : K × V) → Contains new e → P e

@@ -6,5 +6,6 @@ mod NamesThere
 mod Shows
 mod NextRows
 mod Ranks
+mod RowLengths
 mod Searches
 pub mod CallerLemmas

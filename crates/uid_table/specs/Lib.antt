@@ -4,3 +4,6 @@ pub mod Cache
 pub mod Shown
 pub mod IdSteps
 pub mod Suggest
+pub mod KnownSeries
+pub mod PlacedPoints
+pub mod ShownKeys

@@ -1,5 +1,5 @@
 //! Rows with the ids of names.
-ghost use Rattle.std.specs.Prelude.{◌≡◌, ◌≤◌, IfOk, IfErr};
+ghost use Rattle.std.specs.Prelude.{◌≡◌, ◌≤◌, IfOk, IfErr, IfSome};
 ghost use Rattle.cell_model.specs.Stops.{CountsStops, is_stop};
 ghost use Rattle.cell_model.specs.Calls.{Leaves};
 ghost use Rattle.uid_table.specs.IdAnswers.{answered_id, is_resolve_stop, is_assign_stop};
@@ -7,6 +7,7 @@ ghost use Rattle.uid_table.specs.Shown.{HasShown, KnowsName, HasShownName};
 ghost use Rattle.tsd_base.specs.Alphabet.{IsName};
 ghost use Rattle.cell_model.specs.IdRows.{name_row};
 ghost use Rattle.uid_table.specs.Cache.{KeepsIds, KeepsNames};
+ghost use Rattle.uid_table.specs.KnownSeries.{IsShownSeries};
 ghost use Rattle.uid_table.specs.Suggest.{AllLooks, Suggests};
 ghost use Rattle.uid_table.specs.IdSteps.{MadeSo, ResolveMade, AssignMade, NameMade};
 
@@ -17,6 +18,7 @@ use crate::cache::{
 use crate::id_answers::{AssignFault, Assigned, ResolveFault};
 use crate::id_name::name_in;
 use crate::id_reads::look;
+use crate::known_series::{KnownSeries, SeriesTable};
 use crate::suggest::suggest_in;
 use cell_model::answers::{Bumped, Claimed, RowsFault, Stopped};
 use cell_model::row::{Cells, Drops, Found, Row};
@@ -37,22 +39,26 @@ use tsd_hooks::UidRule;
 /// kept, of all kinds together, and for one more the least recently used goes. A pair for which there is no memory isn't
 /// kept. An id stays its name's, so what is kept stays true whatever other callers do.
 ///
+/// Series are kept too, by the texts of their metric and tags ([`Uids::take_series`]), up to 262,144 of them.
+///
 /// It is itself [`Rows`], and passes each step on. Contracts see it as the rows.
 #[derive(Drop)]
 pub struct Uids<R: Rows + Drop> {
     rows: R,
     ids: Ids,
     names: Names,
+    series: SeriesTable,
 }
 
 impl<R: Rows + Drop> Model for Uids<R> {
     ghost use Rattle.uid_table.specs.Cache.{KeepsIds, KeepsNames};
+    ghost use Rattle.uid_table.specs.KnownSeries.{KeepsSeries};
 
     ghost Value = { R };
 
     ghost view = { λ u. u.rows };
 
-    ghost invariant = { λ u. KeepsIds (R.seen u.rows) u.ids.entries × KeepsNames (R.seen u.rows) u.names.entries };
+    ghost invariant = { λ u. KeepsIds (R.seen u.rows) u.ids.entries × KeepsNames (R.seen u.rows) u.names.entries × KeepsSeries (R.seen u.rows) u.series };
 }
 
 impl<R: Rows + Drop> Uids<R> {
@@ -67,7 +73,12 @@ impl<R: Rows + Drop> Uids<R> {
         ensures err { IfErr result (λ refused. refused.1 ≡ rows) }
     {
         match nothing_kept(alloc, cap) {
-            Ok((ids, names)) => Ok(Uids { rows, ids, names }),
+            Ok((ids, names)) => Ok(Uids {
+                rows,
+                ids,
+                names,
+                series: SeriesTable::make(alloc),
+            }),
             Err(refused) => Err((refused, rows)),
         }
     }
@@ -80,16 +91,47 @@ impl<R: Rows + Drop> Uids<R> {
             rows,
             ids: _,
             names: _,
+            series: _,
         } = self;
         rows
     }
 
-    /// Forgets the pairs that are kept, so that each is read anew. How many may be kept stays as it is.
+    /// Forgets the pairs and the series that are kept, so that each is read anew. How many may be kept stays as it is.
     pub fn drop_cache(&mut self)
         ensures { self.new ≡ self.old }
     {
         self.ids.clear();
         self.names.clear();
+        self.series.clear();
+    }
+
+    /// Takes out the series of these texts, where it is kept: of the metric, and of what stands behind the value of a point. It goes
+    /// back by [`Uids::keep_series`].
+    #[inline]
+    pub fn take_series(&mut self, metric: &[u8], tags: &[u8]) -> Option<Box<KnownSeries>>
+        ensures same { self.new ≡ self.old }
+        ensures shown { IfSome result (λ b. IsShownSeries (R.seen self.old) b.value) }
+        ensures metric { IfSome result (λ b. b.value.metric ≡ metric.now) }
+        ensures tags { IfSome result (λ b. b.value.tags ≡ tags.now) }
+    {
+        self.series.take(metric, tags)
+    }
+
+    /// Keeps a series that was taken out.
+    #[inline]
+    pub fn keep_series(&mut self, known: Box<KnownSeries>)
+        requires { IsShownSeries (R.seen self.old) known.value }
+        ensures { self.new ≡ self.old }
+    {
+        self.series.keep(known);
+    }
+
+    /// Keeps one more series. A later one may take its place.
+    pub fn add_series(&mut self, alloc: Global, known: Box<KnownSeries>)
+        requires { IsShownSeries (R.seen self.old) known.value }
+        ensures { self.new ≡ self.old }
+    {
+        self.series.add(alloc, known);
     }
 
     /// The id of a name, by one read, or by none where the pair is kept.

@@ -1,48 +1,42 @@
-use Rattle.std.proofs.Common.{◌≡◌, ℕ, ℤ, get_or, rules, sym, subst, ◌∙◌, refl, arith}
-use Rattle.std.specs.Prelude.{pos}
-use Rattle.std.proofs.lemmas.List.Elements.{Contains-get_or}
-use Rattle.std.specs.Prelude.{Contains}
-use Rattle.tsd_base.specs.Points.{data_point}
-use Rattle.tsd_base.specs.Moments.{IsTime}
-use Rattle.batch_job.proofs.StoredPoints.{first_dot, next_dot, all_dots, point_resolved, series_put}
-use Rattle.batch_job.proofs.ValueLemmas.{settled_times}
+use Rattle.std.proofs.Common.{◌≡◌, ℕ, ℤ, List, of_z, rules, sym, subst, to_z, w64, ◌∙◌}
+use Rattle.tsd_base.specs.Points.{DataPoint, data_point}
+use Rattle.tsd_base.specs.declared.points.Point.{Point}
+use Rattle.cell_model.specs.Layout.{names_of}
+use Rattle.batch_job.specs.PendingPuts.{Adds, AreResolved, AreTimes, points_in}
+use Rattle.batch_job.proofs.Puts.{still_resolved}
+use Rattle.batch_job.proofs.StoredPoints.{first_and_others, series_put, where_ok}
+use Rattle.batch_job.proofs.ValueLemmas.{settled_all}
 use Rattle.batch_job.proofs.pending_puts.put_series.Goals as goal
 
-pub set-requires : goal.set-requires
-set-requires g c =
-    let items = c.list-time-items.result.now in
-    let d : ℕ × ℤ = get_or items c.loop-time.time-index (0, pos 0) in
-    let has = Contains-get_or items c.loop-time.time-index (0, pos 0) c.loop-time-test.true in
-    let time : IsTime d.0 c.args.fine = settled_times c.args.fine c.in-Ok.dots c.args.values.now c.list-time-items.ensures.rising c.in-Ok.ensures c.requires.may.times d (subst (λ ds. Contains ds d) c.list-time-items.ensures.list has) in
-    subst (λ fine. IsTime d.0 fine) (sym c.loop-time.invariant.form) time
+pub invariant_of-point : goal.invariant_of-point
+invariant_of-point g c =
+    let all = settled_all c.args.fine c.in-Ok.dots c.args.values.now c.list.ensures.rising c.in-Ok.ensures c.requires.may.times in
+    let times = subst (λ (ds : List (ℕ × ℤ)). AreTimes c.args.fine ds) (sym c.list.ensures.list ∙ c.in-Some.ensures.cases.0) all in
+    record { timed = times.0 }
 
-pub put_point-requires : goal.put_point-requires
-put_point-requires g c = record {
-  allows = c.requires.allows;
-  resolved = point_resolved c.args.metric c.args.tags c.args.fine (data_point c.set.new.point) c.args.values.now _ (g.R.Rows.seen c.args.store.now) (g.R.Rows.seen c.loop-time.store)
-      (c.set.ensures.metric ∙ c.loop-time.invariant.metric) (c.set.ensures.tags ∙ c.loop-time.invariant.tags) c.requires.may c.loop-time.invariant.adds;
-}
-
-pub loop-time-init : goal.loop-time-init
-loop-time-init g c = record { metric = refl; tags = refl; form = refl; adds = first_dot c.args.metric c.args.tags c.args.fine (g.R.Rows.seen c.args.store.now) c.list-time-items.result.now c.requires.may.resolved.by; grows = omega arith }
-
-pub loop-time-preserved : goal.loop-time-preserved
-loop-time-preserved g c =
-    let items = c.list-time-items.result.now in
-    let metric = c.set.ensures.metric ∙ c.loop-time.invariant.metric in
-    let tags = c.set.ensures.tags ∙ c.loop-time.invariant.tags in
-    let form = c.set.ensures.fine ∙ c.loop-time.invariant.form in
-    let value : c.set.new.point.value ≡ (get_or items c.loop-time.time-index (0, pos 0)).1 = search rules in
+pub put_others-requires : goal.put_others-requires
+put_others-requires g c =
+    let all = settled_all c.args.fine c.in-Ok.dots c.args.values.now c.list.ensures.rising c.in-Ok.ensures c.requires.may.times in
+    let times = subst (λ (ds : List (ℕ × ℤ)). AreTimes c.args.fine ds) (sym c.list.ensures.list ∙ c.in-Some.ensures.cases.0) all in
+    let new = g.R.Rows.seen c.put_one.new.store in
     record {
-      metric = metric;
-      tags = tags;
-      form = form;
-      adds = next_dot c.args.metric c.args.tags c.args.fine (data_point c.set.new.point) items c.loop-time.time-index (g.R.Rows.seen c.args.store.now) (g.R.Rows.seen c.loop-time.store) (g.R.Rows.seen c.put_point.new.store)
-          c.loop-time-test.true metric tags form c.set.ensures.time value c.loop-time.invariant.adds c.in_ok-put_point.ensures.adds;
-      grows = let was = c.loop-time.invariant.grows in let now = c.in_ok-put_point.ensures.stops.grows in omega (arith, was, now);
+      times = times.1;
+      placed = c.in_ok-placed.ensures.placed;
+      resolved = subst (λ (p : Point). AreResolved new (names_of (data_point p))) (sym c.in_ok-placed.ensures.point) (still_resolved _ (g.R.Rows.seen c.args.store.now) new _ c.in_ok-placed.ensures.adds c.requires.may.resolved);
     }
 
 pub returns-clause-puts : goal.returns-clause-puts
 returns-clause-puts g c =
-    series_put c.args.metric c.args.tags c.args.fine c.in-Ok.dots c.args.values.now c.list-time-items.ensures.rising c.in-Ok.ensures (g.R.Rows.seen c.args.store.now) (g.R.Rows.seen c.loop-time.store)
-    (all_dots c.args.metric c.args.tags c.args.fine c.list-time-items.result.now c.in-Ok.dots c.loop-time.time-index (g.R.Rows.seen c.args.store.now) (g.R.Rows.seen c.loop-time.store) c.loop-time-test.false c.list-time-items.ensures.list c.loop-time.invariant.adds)
+    let old = g.R.Rows.seen c.args.store.now in
+    let mid = g.R.Rows.seen c.put_one.new.store in
+    let new = g.R.Rows.seen c.put_others.new.store in
+    let others = c.in-Some.others.now in
+    let first = c.in-Some.first.now in
+    let value : to_z w64 (of_z w64 first.1) ≡ first.1 = search rules in
+    let is : ◌≡◌ {A = DataPoint} (record { metric = c.args.metric; tags = c.args.tags; time = first.0; fine = c.args.fine; value = to_z w64 (of_z w64 first.1) }) (record { metric = c.args.metric; tags = c.args.tags; time = first.0; fine = c.args.fine; value = first.1 }) =
+    λ i. record { metric = c.args.metric; tags = c.args.tags; time = first.0; fine = c.args.fine; value = value i } in
+    where_ok c.put_others.result
+    (λ adds. series_put c.args.metric c.args.tags c.args.fine c.in-Ok.dots c.args.values.now c.list.ensures.rising c.in-Ok.ensures old new
+    (first_and_others c.args.metric c.args.tags c.args.fine first others c.in-Ok.dots (record { metric = c.args.metric; tags = c.args.tags; time = first.0; fine = c.args.fine; value = to_z w64 (of_z w64 first.1) }) old mid new (sym c.list.ensures.list ∙ c.in-Some.ensures.cases.0) is c.in_ok-placed.ensures.adds
+    (subst (λ (p : Point). Adds mid (points_in p.metric p.tags c.args.fine others) new) c.in_ok-placed.ensures.point adds)))
+    c.put_others.ensures.adds

@@ -1,11 +1,12 @@
 use Rattle.std.proofs.Common.{◌≡◌, ◌+◌, ◌++◌, ◌∷◌, [], ◌∙◌, ℕ, sym, ap, subst, arith, List, take, drop, length}
 use Rattle.std.proofs.lemmas.List.{map_push}
 use Rattle.list_lemmas.proofs.ListParts.{length_push}
+use Rattle.list_lemmas.proofs.MapPlaces.{behind_map, more_map, split_map}
 use Rattle.tsd_base.specs.Names.{name_of}
 use Rattle.cell_model.specs.IdRows.{NameOf}
 use Rattle.http_assign.specs.AssignLists.{IdTold, of_kind, outcome_of, outcomes_of}
 use Rattle.http_assign.specs.AssignTexts.{GoesOn, TextBegun, TextSays}
-use Rattle.http_assign.proofs.TextRuns.{at_err, behind_map, ends_more, ends_there, goes_more, goes_none, made_more, made_none, more_map, split_map}
+use Rattle.http_assign.proofs.TextRuns.{at_err, ends_more, ends_there, goes_more, goes_none, made_more, made_none}
 use Rattle.http_assign.proofs.assign_lists.assign_texts.Goals as goal
 
 pub loop-text-init : goal.loop-text-init

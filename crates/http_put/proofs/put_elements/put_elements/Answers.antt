@@ -1,10 +1,11 @@
 use Rattle.std.proofs.Common.{◌≡◌, ◌+◌, ◌++◌, ◌∷◌, [], ◌∙◌, sym, ap, subst, arith, List, map, take, drop}
 use Rattle.std.proofs.lemmas.List.{map_push}
+use Rattle.list_lemmas.proofs.MapPlaces.{behind_map, more_map, split_map}
 use Rattle.serde_json.specs.View.{view}
 use Rattle.serde_json.specs.Data.{Data}
 use Rattle.point_put.specs.Admissions.{admission}
 use Rattle.http_put.specs.PutElements.{Outcome, text_of, texts_of}
-use Rattle.http_put.proofs.ElementRuns.{SoFar, begun_more, behind_map, ended_more, may_have_put, more_map, none_so_far, one_more, since_start, split_map}
+use Rattle.http_put.proofs.ElementRuns.{SoFar, begun_more, ended_more, may_have_put, none_so_far, one_more, since_start}
 use Rattle.http_put.proofs.OneElement.{at_err}
 use Rattle.http_put.proofs.put_elements.put_elements.Goals as goal
 

@@ -1,5 +1,5 @@
 use Rattle.std.proofs.Common.{All}
-use Rattle.query_run.specs.AskedQueries.{CanDown}
+use Rattle.query_text.specs.QueryReadings.{CanDown}
 use Rattle.scenarios.proofs.asks.asked_subs.Given as goal
 
 abbrev pub invariant-loop-word : goal.invariant-loop-word

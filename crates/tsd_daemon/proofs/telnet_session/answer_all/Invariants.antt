@@ -6,8 +6,8 @@ use Rattle.tsd_daemon.specs.Talks.{Causes, Moves, telnet_to_come}
 use Rattle.tsd_daemon.proofs.telnet_session.answer_all.Given as goal
 
 -- the connection goes on, and no cause of an end came
-abbrev pub invariant-loop-sink : goal.invariant-loop-sink
-invariant-loop-sink g l =
+abbrev pub invariant-loop-end : goal.invariant-loop-end
+invariant-loop-end g l =
     let seen = g.R.Rows.seen in
     let held = g.K.Sink.held in
     record {
@@ -17,5 +17,5 @@ invariant-loop-sink g l =
       number : g.K.Sink.number l.sink ≡ g.K.Sink.number l.fn.sink;
     }
 
-abbrev pub decreases-loop-sink : goal.decreases-loop-sink
-decreases-loop-sink g l = length (to_come l.lines [])
+abbrev pub decreases-loop-end : goal.decreases-loop-end
+decreases-loop-end g l = length (to_come l.lines [])

@@ -1,30 +1,34 @@
-use Rattle.std.proofs.Common.{◌≡◌, sym, ap, subst, ◌∙◌}
-use Rattle.tsd_base.specs.Points.{data_point}
-use Rattle.batch_job.specs.Pending.{AddsPoint, so_far}
-use Rattle.batch_job.specs.Judgements.{judged_of}
+use Rattle.std.proofs.Common.{List, ℕ, subst}
+use Rattle.batch_job.specs.AddedTexts.{AddsText}
+use Rattle.batch_job.specs.Pending.{so_far}
+use Rattle.batch_job.specs.PointLines.{judged_text}
+use Rattle.batch_job.specs.declared.point_line.LineOutcome.{LineOutcome}
+use Rattle.batch_job.specs.declared.point_line.LineOutcome.TheVariants as outcome
 use Rattle.line_stream.specs.Lines.{Line}
-use Rattle.batch_job.specs.PointLines.{judged}
-use Rattle.batch_job.specs.PointLines.Judged.{Blank, Taken}
-use Rattle.tsd_run.proofs.InputLemmas.{blank_read, point_full, point_read, short_judged}
+use Rattle.tsd_run.proofs.InputLemmas.{line_blank, line_full, line_taken}
 use Rattle.tsd_run.proofs.input.read_line.Goals as goal
 
 pub returns-in-Blank-clause-reads : goal.returns-in-Blank-clause-reads
 returns-in-Blank-clause-reads g c =
     let line : Line = record { bytes = c.args.bytes.now; ended = c.args.ended } in
-    let is : judged line ≡ Blank = short_judged line c.requires.short ∙ sym c.in_ok-judge.ensures ∙ ap judged_of c.in-Blank.is in
-    blank_read line c.args.number (so_far (g.R.Rows.seen c.args.store.now) c.args.gathered.now) is
+    let old = so_far (g.R.Rows.seen c.args.store.now) c.args.gathered.now in
+    let new = so_far (g.R.Rows.seen c.add_text.new.store) c.add_text.new.self in
+    let adds = subst (λ (o : LineOutcome). AddsText old (judged_text c.text_of.result.now) o new) c.in-Blank.is c.in_ok-add_text.ensures.adds in
+    line_blank line c.args.number old new c.requires.short (subst (λ (text : List ℕ). AddsText old (judged_text text) outcome.Blank new) c.text_of.ensures adds)
 
-pub returns-in-None-clause-reads : goal.returns-in-None-clause-reads
-returns-in-None-clause-reads g c =
+pub returns-in-Taken-clause-reads : goal.returns-in-Taken-clause-reads
+returns-in-Taken-clause-reads g c =
     let line : Line = record { bytes = c.args.bytes.now; ended = c.args.ended } in
-    let is : judged line ≡ Taken (data_point c.in-Taken.point) = short_judged line c.requires.short ∙ sym c.in_ok-judge.ensures ∙ ap judged_of c.in-Taken.is in
-    let adds = subst (λ full. AddsPoint (so_far (g.R.Rows.seen c.args.store.now) c.args.gathered.now) (data_point c.in-Taken.point) full (so_far (g.R.Rows.seen c.add.new.store) c.add.new.self)) c.in-None.is c.in_ok-add-in-Taken.ensures.adds in
-    point_read line c.args.number (so_far (g.R.Rows.seen c.args.store.now) c.args.gathered.now) (so_far (g.R.Rows.seen c.add.new.store) c.add.new.self) (data_point c.in-Taken.point) is adds
+    let old = so_far (g.R.Rows.seen c.args.store.now) c.args.gathered.now in
+    let new = so_far (g.R.Rows.seen c.add_text.new.store) c.add_text.new.self in
+    let adds = subst (λ (o : LineOutcome). AddsText old (judged_text c.text_of.result.now) o new) c.in-Taken.is c.in_ok-add_text.ensures.adds in
+    line_taken line c.args.number old new c.requires.short (subst (λ (text : List ℕ). AddsText old (judged_text text) outcome.Taken new) c.text_of.ensures adds)
 
-pub returns-in_ok-exhausted-in-Some-clause-reads : goal.returns-in_ok-exhausted-in-Some-clause-reads
-returns-in_ok-exhausted-in-Some-clause-reads g c = λ lines read.
+pub returns-in_ok-exhausted-in-Full-clause-reads : goal.returns-in_ok-exhausted-in-Full-clause-reads
+returns-in_ok-exhausted-in-Full-clause-reads g c =
     let line : Line = record { bytes = c.args.bytes.now; ended = c.args.ended } in
-    let is : judged line ≡ Taken (data_point c.in-Taken.point) = short_judged line c.requires.short ∙ sym c.in_ok-judge.ensures ∙ ap judged_of c.in-Taken.is in
-    let adds = subst (λ full. AddsPoint (so_far (g.R.Rows.seen c.args.store.now) c.args.gathered.now) (data_point c.in-Taken.point) full (so_far (g.R.Rows.seen c.add.new.store) c.add.new.self)) c.in-Some.is c.in_ok-add-in-Taken.ensures.adds in
-    let bad = c.in_ok-exhausted-in-Some.ensures in
-    (point_full line (so_far (g.R.Rows.seen c.args.store.now) c.args.gathered.now) (so_far (g.R.Rows.seen c.add.new.store) c.add.new.self) (data_point c.in-Taken.point) c.in-Some.kind c.in_ok-exhausted-in-Some.field-0.text.items is adds bad.0 lines read, bad.1)
+    let old = so_far (g.R.Rows.seen c.args.store.now) c.args.gathered.now in
+    let new = so_far (g.R.Rows.seen c.add_text.new.store) c.add_text.new.self in
+    let adds = subst (λ (o : LineOutcome). AddsText old (judged_text c.text_of.result.now) o new) c.in-Full.is c.in_ok-add_text.ensures.adds in
+    let bad = c.in_ok-exhausted-in-Full.ensures in
+    line_full line c.args.number old new c.in-Full.kind c.in_ok-exhausted-in-Full.field-0 c.requires.short (subst (λ (text : List ℕ). AddsText old (judged_text text) (outcome.Full c.in-Full.kind) new) c.text_of.ensures adds) bad.0 bad.1

@@ -1,4 +1,4 @@
-use Rattle.std.proofs.Common.{◌≡◌, ℕ, List, refl, sym, subst}
+use Rattle.std.proofs.Common.{List, refl, subst}
 use Rattle.std.specs.Prelude.{map}
 use Rattle.cell_model.specs.declared.answers.Stored.{Stored}
 use Rattle.compactor.specs.Queues.{AddMade, stored_of}
@@ -6,12 +6,12 @@ use Rattle.compactor.proofs.QueueRows.{are_queued, was_added, more_known, still_
 use Rattle.compactor.proofs.queue.Queue.insert.Goals as goal
 
 pub invariant_of-self : goal.invariant_of-self
-invariant_of-self c = (are_queued c.insert.new.self c.in_err-added.ensures.ordered, still_known c.self.inside.rows c.insert.new.self c.self.inside.known.keys c.in_err-added.ensures.err c.self.invariant.1)
+invariant_of-self c = (are_queued c.insert.new.self c.in_err-added.ensures.ordered, still_known c.self.inside.rows c.insert.new.self c.self.inside.known c.in_err-added.ensures.err c.self.invariant.1)
 
 pub invariant_of-self-2 : goal.invariant_of-self-2
 invariant_of-self-2 c = (
   are_queued c.insert.new.self c.in_ok-added.ensures.ordered,
-  more_known c.self.inside.rows c.insert.new.self c.self.inside.known c.insert-2.new.self c.args.key (c.args.key.0, c.in_ok-again.field-0) c.insert-2.result (λ i. (c.args.key.0, c.in_ok-again.ensures.made i)) c.in_ok-added.ensures.keys c.insert-2.ensures.keys c.insert-2.ensures.err c.self.invariant.1,
+  more_known c.self.inside.rows c.insert.new.self c.self.inside.known c.keep.new.self c.args.key (c.args.key.0, c.in_ok-again.field-0) (λ i. (c.args.key.0, c.in_ok-again.ensures.made i)) c.in_ok-added.ensures.keys c.keep.ensures c.self.invariant.1,
 )
 
 pub returns-clause-ok : goal.returns-clause-ok

@@ -1,0 +1,174 @@
+-- Regions whose licences a pass takes one after another, and the store that they make at the end.
+use Rattle.std.proofs.Common.{◌≡◌, ℕ, zero, suc, ◌+◌, ◌<◌, ◌≤◌, min, List, [], ◌∷◌, ◌++◌, map, length, append_assoc, append-nil, length-append, refl, sym, ap, ◌∙◌, subst, arith}
+use Rattle.std.specs.Prelude.{Some, None, Contains}
+use Rattle.std.specs.declared.option.Option.{Option}
+use Rattle.std.proofs.lemmas.List.Elements.{Contains-append_right}
+use Rattle.atomic_table.specs.Seated.{TableId}
+use Rattle.cell_model.specs.declared.events.Placed.{Placed}
+use Rattle.cell_model.specs.Store.{Store}
+use Rattle.cell_model.specs.History.{History, store_after}
+use Rattle.cell_model.specs.Seen as seen
+use Rattle.cell_parts.specs.StoreParts.{is_in, part, picked, replayed}
+use Rattle.cell_parts.specs.JoinedParts.{part_at}
+use Rattle.cell_region.specs.declared.region.Region.{Region}
+use Rattle.cell_region.specs.DividedStore.{DividedStore}
+use Rattle.cell_region.specs.RegionLists.{cells_in, rows_of, InOrder, AreComplete, HaveParts}
+use Rattle.step_count.specs.declared.view.Named.{Named}
+use Rattle.step_count.specs.declared.view.View.{View}
+use Rattle.step_count.specs.declared.steps.Licence.{Licence}
+use Rattle.step_count.specs.CounterRule.{region_count, in_region, IsOver, Fits}
+use Rattle.step_count.specs.Tokens.{view_of_licence}
+use Rattle.step_count.specs.ViewSteps.{Lives, learned, met}
+use Rattle.cell_store.specs.CallerViews.{seen_of, IsCaller, Replays}
+use Rattle.cell_store.specs.SiteEnds.{took, AreReplays, Closed, EndsAt}
+use Rattle.cell_store.specs.SiteStarts.{FollowOn, IsHeld}
+use Rattle.cell_store.proofs.Lower.{here, history_apart, parts_tell_store}
+use Rattle.cell_store.proofs.SeenViews.{fits_seen}
+use Rattle.cell_store.proofs.GreaterViews.{Sub, sub_trans, sub_took, sub_learned, fits_sub}
+
+took_append : (v : View) (xs ys : List View) → took v (xs ++ ys) ≡ took (took v xs) ys
+took_append v [] ys = refl
+took_append v (x ∷ xs) ys = took_append (met v x) xs ys
+
+replays_append : (name : Named) (number : ℕ) (rs qs : List Region) (ls ks : List View) → AreReplays name number rs ls → AreReplays name (number + length rs) qs ks → AreReplays name number (rs ++ qs) (ls ++ ks)
+replays_append name number [] qs [] ks a b = let same : number + 0 ≡ number = omega arith in subst (λ n. AreReplays name n qs ks) same b
+replays_append name number [] qs (l ∷ ls) ks a b = absurd a
+replays_append name number (r ∷ rs) qs [] ks a b = absurd a
+replays_append name number (r ∷ rs) qs (l ∷ ls) ks a b =
+    let same : number + length (r ∷ rs) ≡ number + 1 + length rs = omega arith in
+    (a.0, replays_append name (number + 1) rs qs ls ks a.1 (subst (λ n. AreReplays name n qs ks) same b))
+
+-- some regions, and then those behind them
+pub closed_both : (name : Named) (first middle last : ℕ) (v u w : View) (bs cs ds : List Region) → Closed name first middle v bs u cs → Closed name middle last u cs w ds → Closed name first last v bs w ds
+closed_both name first middle last v u w bs cs ds g h = record {
+  regions = g.regions ++ h.regions;
+  licences = g.licences ++ h.licences;
+  added = h.added ∙ ap (λ xs. xs ++ h.regions) g.added ∙ append_assoc bs g.regions h.regions;
+  took_them = h.took_them ∙ ap (λ x. took x h.licences) g.took_them ∙ sym (took_append v g.licences h.licences);
+  replays = replays_append name (min first (region_count name)) g.regions h.regions g.licences h.licences g.replays (subst (λ n. AreReplays name n h.regions h.licences) (sym g.count) h.replays);
+  count = let a = g.count in let b = h.count in let l = length-append g.regions h.regions in omega (arith, a, b, l);
+}
+
+-- one region that the site has
+pub closed_one : (name : Named) (number : ℕ) (v u l : View) (bs cs : List Region) (region : Region) → number < region_count name → Replays name number (cells_in region) (rows_of region) l → u ≡ met v l → cs ≡ bs ++ region ∷ [] → Closed name number (number + 1) v bs u cs
+closed_one name number v u l bs cs region lt r took_it added_it = record {
+  regions = region ∷ [];
+  licences = l ∷ [];
+  added = added_it;
+  took_them = took_it;
+  replays = (let same : number ≡ min number (region_count name) = omega (arith, lt) in subst (λ n. Replays name n (cells_in region) (rows_of region) l) same r, tt);
+  count = omega (arith, lt);
+}
+
+-- one that stood under its lock
+pub closed_held : (counter : TableId) (name : Named) (number : ℕ) (v u : View) (bs cs : List Region) (region : Region) (o : Option Licence) (l : Licence) → o ≡ Some l → IsHeld counter name number (cells_in region) (rows_of region) o
+    → u ≡ met v (view_of_licence l) → cs ≡ bs ++ region ∷ [] → Closed name number (number + 1) v bs u cs
+closed_held counter name number v u bs cs region o l is held took_it added_it =
+    let h = subst (IsHeld counter name number (cells_in region) (rows_of region)) is held in
+    closed_one name number v u (view_of_licence l) bs cs region h.0 h.2 took_it added_it
+
+-- one that it doesn't have
+pub closed_none : (name : Named) (number : ℕ) (v : View) (bs : List Region) → region_count name ≤ number → Closed name number (number + 1) v bs v bs
+closed_none name number v bs le = record {
+  regions = [];
+  licences = [];
+  added = sym (append-nil bs);
+  took_them = refl;
+  replays = tt;
+  count = omega (arith, le);
+}
+
+pub closed_absent : (counter : TableId) (name : Named) (number : ℕ) (v : View) (bs : List Region) (region : Region) (o : Option Licence) → o ≡ None → IsHeld counter name number (cells_in region) (rows_of region) o → Closed name number (number + 1) v bs v bs
+closed_absent counter name number v bs region o is held = closed_none name number v bs (subst (IsHeld counter name number (cells_in region) (rows_of region)) is held)
+
+-- five that follow one another
+module _ (name : Named) (a b c d e : ℕ) (v v1 v2 v3 v4 v5 : View) (rs rs1 rs2 rs3 rs4 rs5 : List Region) where
+  pub closed_five : FollowOn a b c d e → Closed name a (a + 1) v rs v1 rs1 → Closed name b (b + 1) v1 rs1 v2 rs2 → Closed name c (c + 1) v2 rs2 v3 rs3 → Closed name d (d + 1) v3 rs3 v4 rs4 → Closed name e (e + 1) v4 rs4 v5 rs5
+      → Closed name a (a + 5) v rs v5 rs5
+  closed_five order one two three four five =
+      let b_is = order.0 in let c_is = order.1 in let d_is = order.2 in let e_is = order.3 in
+      let to_b : a + 1 ≡ b = sym b_is in
+      let to_c : b + 1 ≡ c = omega (arith, b_is, c_is) in
+      let to_d : c + 1 ≡ d = omega (arith, c_is, d_is) in
+      let to_e : d + 1 ≡ e = omega (arith, d_is, e_is) in
+      let to_end : e + 1 ≡ a + 5 = omega (arith, e_is) in
+      closed_both name a b (a + 5) v v1 v5 rs rs1 rs5 (subst (λ n. Closed name a n v rs v1 rs1) to_b one)
+      (closed_both name b c (a + 5) v1 v2 v5 rs1 rs2 rs5 (subst (λ n. Closed name b n v1 rs1 v2 rs2) to_c two)
+      (closed_both name c d (a + 5) v2 v3 v5 rs2 rs3 rs5 (subst (λ n. Closed name c n v2 rs2 v3 rs3) to_d three)
+      (closed_both name d e (a + 5) v3 v4 v5 rs3 rs4 rs5 (subst (λ n. Closed name d n v3 rs3 v4 rs4) to_e four)
+      (subst (λ n. Closed name e n v4 rs4 v5 rs5) to_end five))))
+
+-- all regions of a site
+module _ (name : Named) (v v1 v2 v3 v4 v5 : View) (rs rs1 rs2 rs3 rs4 rs5 : List Region) where
+  pub closed_site : Closed name 0 5 v rs v1 rs1 → Closed name 5 10 v1 rs1 v2 rs2 → Closed name 10 15 v2 rs2 v3 rs3 → Closed name 15 20 v3 rs3 v4 rs4 → Closed name 20 25 v4 rs4 v5 rs5
+      → Closed name 0 25 v rs v5 rs5
+  closed_site one two three four five =
+      closed_both name 0 5 25 v v1 v5 rs rs1 rs5 one
+      (closed_both name 5 10 25 v1 v2 v5 rs1 rs2 rs5 two
+      (closed_both name 10 15 25 v2 v3 v5 rs2 rs3 rs5 three
+      (closed_both name 15 20 25 v3 v4 v5 rs3 rs4 rs5 four five)))
+
+-- regions from a number on with their parts of a store
+abbrev pub ArePartsFrom : ℕ → Store → ℕ → List Region → Type 0
+ArePartsFrom D s number [] = Unit {0}
+ArePartsFrom D s number (r ∷ rs) = (cells_in r ≡ part (is_in D number) s) × (rows_of r ≡ is_in D number) × ArePartsFrom D s (number + 1) rs
+
+parts_of : (name : Named) (h : History) (number : ℕ) (rs : List Region) (ls : List View) (v u : View) → IsOver name h → Fits name h u → Sub (took v ls) u → AreReplays name number rs ls → ArePartsFrom name.data_regions (store_after h) number rs
+parts_of name h number [] ls v u over f sub are = tt
+parts_of name h number (r ∷ rs) [] v u over f sub are = absurd are
+parts_of name h number (r ∷ rs) (l ∷ ls) v u over f sub are =
+    let x = are.0 in
+    let whole = sub_trans (met v l) (took (met v l) ls) u (sub_took (met v l) ls) sub in
+    let has : Contains (met v l).licences (number, x.log) = Contains-append_right v.licences l.licences (number, x.log) (subst (λ (xs : List (ℕ × List Placed)). Contains xs (number, x.log)) (sym x.licence) (here (number, x.log) [])) in
+    let log_is : picked (in_region name.data_regions number) h ≡ x.log = f.regions number x.log (whole.licences number x.log has) in (
+      x.content_is ∙ sym (history_apart (is_in name.data_regions number) h ∙ (λ i. replayed (part (is_in name.data_regions number) (over.base i)) (log_is i))),
+      x.rows_are,
+      parts_of name h (number + 1) rs ls (met v l) u over f sub are.1,
+    )
+
+in_order : (D : ℕ) (s : Store) (number : ℕ) (rs : List Region) → ArePartsFrom D s number rs → InOrder D number rs
+in_order D s number [] a = tt
+in_order D s number (r ∷ rs) a = (a.1, in_order D s (number + 1) rs a.2)
+
+part_is : (D : ℕ) (s : Store) (number : ℕ) (rs : List Region) (k : ℕ) → ArePartsFrom D s number rs → k < length rs → part_at (map cells_in rs) k ≡ part (is_in D (number + k)) s
+part_is D s number [] k a lt = absurd (omega (arith, lt))
+part_is D s number (r ∷ rs) zero a lt = let same : number ≡ number + 0 = omega arith in a.0 ∙ ap (λ n. part (is_in D n) s) same
+part_is D s number (r ∷ rs) (suc k) a lt = let same : number + 1 + k ≡ number + suc k = omega arith in part_is D s (number + 1) rs k a.2 (omega (arith, lt)) ∙ ap (λ n. part (is_in D n) s) same
+
+-- a lawful history fits the pass, and the regions are all, with their parts of the store after it
+pub record IsOpened (name : Named) (v : View) (rs : List Region) : Type 0 where
+  pub history : History
+  pub over : IsOver name history
+  pub fits : seen.Fits (seen_of v) history
+  pub complete : AreComplete name.data_regions rs
+  pub parts : ArePartsFrom name.data_regions (store_after history) 0 rs
+
+pub opened_all : (name : Named) (v u w : View) (before now : List Region) (n : ℕ) → 1 ≤ name.data_regions → name.data_regions ≤ 16 → IsCaller name v → Closed name 0 25 v before u now → before ≡ [] → w ≡ learned u n → u.length ≤ n → Lives w → IsOpened name v now
+opened_all name v u w before now n least most c gone none is le live =
+    let sub_v : Sub v u = subst (Sub v) (sym gone.took_them) (sub_took v gone.licences) in
+    let sub : Sub u w = subst (Sub u) (sym is) (sub_learned u n le) in
+    let same : name ≡ live.name = live.fits.named name (sub.named name (sub_v.named name c.named)) in
+    let over : IsOver name live.history = subst (λ m. IsOver m live.history) (sym same) live.over in
+    let f : Fits name live.history w = subst (λ m. Fits m live.history w) (sym same) live.fits in
+    let regions : now ≡ gone.regions = gone.added ∙ ap (λ xs. xs ++ gone.regions) none in
+    let parts : ArePartsFrom name.data_regions (store_after live.history) 0 gone.regions = parts_of name live.history 0 gone.regions gone.licences v w over f (subst (λ (x : View). Sub x w) gone.took_them sub) (subst (λ k. AreReplays name k gone.regions gone.licences) (let z : min 0 (region_count name) ≡ 0 = omega arith in z) gone.replays) in
+    record {
+      history = live.history;
+      over = over;
+      fits = fits_seen name live.history v c.first c.others c.callers c.named over (fits_sub name live.history v w (sub_trans v u w sub_v sub) c.live f);
+      complete = subst (AreComplete name.data_regions) (sym regions) (record { least = least; most = most; all = let a = gone.count in omega (arith, a, most); in_order = in_order name.data_regions (store_after live.history) 0 gone.regions parts });
+      parts = subst (ArePartsFrom name.data_regions (store_after live.history) 0) (sym regions) parts;
+    }
+
+pub ends : (name : Named) (v : View) (rs : List Region) (d : DividedStore) → IsOpened name v rs → d.data_regions ≡ name.data_regions → HaveParts d.data_regions rs d.content → EndsAt name (seen_of v) d
+ends name v rs d o same have = record {
+  history = o.history;
+  lawful = o.over.lawful;
+  base_is = o.over.base;
+  fits = o.fits;
+  regions_are = same;
+  store_is = parts_tell_store name.data_regions d.content (store_after o.history) o.complete.least (λ k lt.
+      sym (subst (λ D. HaveParts D rs d.content) same have k lt)
+      ∙ part_is name.data_regions (store_after o.history) 0 rs k o.parts (let all = o.complete.all in omega (arith, all, lt))
+      ∙ (let same : 0 + k ≡ k = omega arith in ap (λ n. part (is_in name.data_regions n) (store_after o.history)) same));
+}

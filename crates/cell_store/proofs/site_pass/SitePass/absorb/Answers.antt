@@ -1,0 +1,29 @@
+use Rattle.std.proofs.Common.{◌∙◌, refl}
+use Rattle.cell_store.proofs.SeenViews.{possible}
+use Rattle.cell_store.proofs.GreaterViews.{caller_absorbed, extends_from}
+use Rattle.cell_store.proofs.site_pass.SitePass.absorb.Goals as goal
+
+pub invariant_of-self : goal.invariant_of-self
+invariant_of-self g c =
+    let i = c.self.invariant in let o = c.part.ensures in let m = c.absorb_all.ensures in
+    (m.counter ∙ i.0, (caller_absorbed g.J.StepNames.name _ _ _ _ _ i.1 o.caller refl m.view m.up m.live).0)
+
+pub returns-clause-mine : goal.returns-clause-mine
+returns-clause-mine g c =
+    let i = c.self.invariant in let o = c.part.ensures in let m = c.absorb_all.ensures in
+    rw (← c.self.view_is) (caller_absorbed g.J.StepNames.name _ _ _ _ _ i.1 o.caller refl m.view m.up m.live).1
+
+pub returns-clause-theirs : goal.returns-clause-theirs
+returns-clause-theirs g c =
+    let i = c.self.invariant in let o = c.part.ensures in let m = c.absorb_all.ensures in
+    extends_from _ _ _ o.seen (caller_absorbed g.J.StepNames.name _ _ _ _ _ i.1 o.caller refl m.view m.up m.live).2
+
+pub returns-clause-caller : goal.returns-clause-caller
+returns-clause-caller g c =
+    let i = c.self.invariant in let o = c.part.ensures in let m = c.absorb_all.ensures in
+    rw (← c.self.view_is) (caller_absorbed g.J.StepNames.name _ _ _ _ _ i.1 o.caller refl m.view m.up m.live).3
+
+pub returns-clause-possible : goal.returns-clause-possible
+returns-clause-possible g c =
+    let i = c.self.invariant in let o = c.part.ensures in let m = c.absorb_all.ensures in
+    possible g.J.StepNames.name _ (caller_absorbed g.J.StepNames.name _ _ _ _ _ i.1 o.caller refl m.view m.up m.live).0

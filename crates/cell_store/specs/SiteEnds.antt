@@ -1,0 +1,42 @@
+-- Regions whose licences a pass takes, and what is known at a site's end.
+use Rattle.std.specs.Prelude.{◌≡◌, ℕ, ◌+◌, min, List, [], ◌∷◌, ◌++◌, length}
+use Rattle.cell_model.specs.History.{History, base_of, store_after}
+use Rattle.cell_model.specs.Lawful.{IsLawful}
+use Rattle.cell_model.specs.Seen.{Seen, Fits}
+use Rattle.cell_region.specs.declared.region.Region.{Region}
+use Rattle.cell_region.specs.DividedStore.{DividedStore}
+use Rattle.cell_region.specs.RegionLists.{cells_in, rows_of}
+use Rattle.step_count.specs.declared.view.Named.{Named}
+use Rattle.step_count.specs.declared.view.View.{View}
+use Rattle.step_count.specs.CounterRule.{region_count, store_in}
+use Rattle.step_count.specs.ViewSteps.{met}
+use Rattle.cell_store.specs.CallerViews.{Replays}
+
+-- the view after it met these
+abbrev pub took : View → List View → View
+took v [] = v
+took v (l ∷ ls) = took (met v l) ls
+
+-- regions from a number on, in order, beside their licences
+abbrev pub AreReplays : Named → ℕ → List Region → List View → Type 0
+AreReplays name number [] [] = Unit {0}
+AreReplays name number (region ∷ regions) (licence ∷ licences) = Replays name number (cells_in region) (rows_of region) licence × AreReplays name (number + 1) regions licences
+AreReplays name number _ _ = ⊥
+
+-- of the regions with numbers from the first and below the last, the pass took the licences, and the list got those that the site has
+pub record Closed (name : Named) (first last : ℕ) (old : View) (before : List Region) (new : View) (now : List Region) : Type 0 where
+  pub regions : List Region
+  pub licences : List View
+  pub added : now ≡ before ++ regions
+  pub took_them : new ≡ took old licences
+  pub replays : AreReplays name (min first (region_count name)) regions licences
+  pub count : min first (region_count name) + length regions ≡ min last (region_count name)
+
+-- one lawful history over the named store fits what was seen, and the store of all regions is the store after it
+pub record EndsAt (name : Named) (s : Seen) (d : DividedStore) : Type 0 where
+  pub history : History
+  pub lawful : IsLawful history
+  pub base_is : base_of history ≡ store_in name
+  pub fits : Fits s history
+  pub regions_are : d.data_regions ≡ name.data_regions
+  pub store_is : d.content ≡ store_after history

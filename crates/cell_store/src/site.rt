@@ -1,0 +1,137 @@
+//! The regions of a store behind their locks, and the counter of their steps.
+ghost use Rattle.std.specs.Prelude.{◌≡◌, ◌+◌, ◌<◌, ◌≤◌, true, [], IfOk, vec_len, vec_capacity};
+ghost use Rattle.cell_model.specs.Seen.{HasSeenOpening, IsPossible};
+ghost use Rattle.cell_parts.specs.StoreParts.{is_in};
+ghost use Rattle.step_count.specs.CounterRule.{region_count, store_in};
+ghost use Rattle.step_count.specs.Tokens.{counter_of_pass, counter_of_steps, name_of_steps, view_of_pass};
+ghost use Rattle.cell_store.specs.StepOrders.{step_of};
+ghost use Rattle.cell_store.specs.CallerViews.{IsCaller, seen_of};
+ghost use Rattle.cell_store.specs.StepEntries.{HasRun, MayRun};
+ghost use Rattle.cell_store.specs.SiteEnds.{EndsAt};
+
+use crate::gate::Gate;
+use crate::site_locks::SiteLocks;
+use crate::site_pass::SitePass;
+use crate::step_names::StepNames;
+use crate::step_order::Order;
+use cell_model::events::Reply;
+use cell_region::{Region, Regions};
+use row_key::{Table, region_of};
+use std::alloc::{AllocError, Global};
+use std::marker::Model;
+use std::sync::Wait;
+use step_count::{Pass, Steps};
+
+/// The regions of a store, each behind its lock with its licence, and the counter of their steps. All callers of the store step on it.
+///
+/// Contracts see it as its gate.
+#[derive(Drop)]
+pub struct Site<J: StepNames, G: Gate + Drop> {
+    steps: Steps,
+    locks: SiteLocks<J>,
+    data_regions: u32,
+    // Room for the regions, for the site's end.
+    room: Vec<Region>,
+    alloc: Global,
+    gate: G,
+}
+
+impl<J: StepNames, G: Gate + Drop> Model for Site<J, G> {
+    ghost use Rattle.std.specs.Prelude.{◌≡◌, ◌+◌, ◌≤◌, [], vec_len, vec_capacity};
+    ghost use Rattle.step_count.specs.Tokens.{counter_of_steps, name_of_steps};
+
+    ghost Value = { G };
+
+    ghost view = { λ s. s.gate };
+
+    ghost invariant = { λ s. (counter_of_steps s.steps ≡ J.counter) × (name_of_steps s.steps ≡ J.name) × (s.data_regions ≡ J.name.data_regions) × (1 ≤ s.data_regions) × (s.data_regions ≤ 16) × (s.room.items ≡ []) × (vec_len s.room + 25 ≤ vec_capacity s.room) };
+}
+
+impl<J: StepNames, G: Gate + Drop> Site<J, G> {
+    /// The site of these locks.
+    pub(crate) fn over(
+        alloc: Global,
+        steps: Steps,
+        locks: SiteLocks<J>,
+        data_regions: u32,
+        room: Vec<Region>,
+        gate: G,
+    ) -> Self
+        requires counter { counter_of_steps steps ≡ J.counter }
+        requires name { name_of_steps steps ≡ J.name }
+        requires data_regions { data_regions ≡ J.name.data_regions }
+        requires least { 1 ≤ data_regions }
+        requires most { data_regions ≤ 16 }
+        requires empty { room.items ≡ [] }
+        requires room { vec_len room + 25 ≤ vec_capacity room }
+    {
+        Site {
+            steps,
+            locks,
+            data_regions,
+            room,
+            alloc,
+            gate,
+        }
+    }
+
+    /// The allocator of those steps that are given none.
+    pub(crate) fn alloc(&self) -> Global {
+        self.alloc
+    }
+
+    /// The region of a row.
+    pub(crate) fn region(&self, table: Table, row: &[u8]) -> u32
+        ensures here { is_in J.name.data_regions result (record { table = table; bytes = row.now }) ≡ true }
+        ensures among { result < region_count J.name }
+    {
+        region_of(table, row, self.data_regions)
+    }
+
+    /// One step on a region, after the gate.
+    pub(crate) fn run<T: Wait>(
+        &self,
+        alloc: Global,
+        rt: &T,
+        pass: &mut Pass,
+        region: u32,
+        order: &Order,
+    ) -> Result<Reply, AllocError>
+        requires { MayRun J.counter J.name region pass.old (step_of order.now) }
+        ensures gate { G.lets_in self.now region ≡ true }
+        ensures run { HasRun J.counter J.name (view_of_pass pass.old) (step_of order.now) result pass.new }
+    {
+        self.locks.run(&self.gate, alloc, rt, pass, region, order)
+    }
+
+    /// A new caller. It makes one entry, its opening, and fails only for want of memory.
+    pub fn open_pass<'a, T: Wait>(&'a self, rt: &'a T) -> Result<SitePass<'a, J, G, T>, AllocError>
+        ensures possible { IfOk result (λ p. IsPossible p) }
+        ensures opening { IfOk result (λ p. HasSeenOpening p) }
+        ensures base { IfOk result (λ p. p.base ≡ store_in J.name) }
+    {
+        let pass = Pass::open_on(rt, &self.steps)?;
+        Ok(SitePass::of(self, rt, pass))
+    }
+
+    /// The store after the site's whole history, which fits what the pass has seen, for each caller that it is or absorbed.
+    pub fn end(self, pass: Pass) -> Regions
+        requires counter { counter_of_pass pass ≡ J.counter }
+        requires caller { IsCaller J.name (view_of_pass pass) }
+        ensures { EndsAt J.name (seen_of (view_of_pass pass)) result }
+    {
+        let Site {
+            steps: _,
+            locks,
+            data_regions: _,
+            room,
+            alloc: _,
+            gate: _,
+        } = self;
+        let mut pass = pass;
+        let mut regions = room;
+        locks.close(&mut pass, &mut regions);
+        pass.learn();
+        Regions::joined(regions)
+    }
+}

@@ -1,0 +1,166 @@
+//! A step as it is asked of a region, and what it makes of a body.
+ghost use Rattle.std.specs.Prelude.{◌≡◌, ℕ, ◌<◌, IfOk, OnOk, OnErr};
+ghost use Rattle.cell_model.specs.Machine.{after, reply_of};
+ghost use Rattle.cell_model.specs.Store.{Store};
+ghost use Rattle.cell_store.specs.StepOrders.{step_of, Covered, TakesMemory, Applied, gave, did};
+
+use cell_model::answers::{Bumped, Claimed};
+use cell_model::body::Body;
+use cell_model::events::Reply;
+use cell_model::row::{Drops, Row};
+use qual_codec::Bytes;
+use row_key::Table;
+use std::alloc::{AllocError, Global};
+use tsd_base::kinds::Kind;
+use tsd_base::points::Point;
+
+/// A step that a caller asks for.
+#[derive(Clone, Copy)]
+pub enum Order<'a> {
+    Read {
+        row: &'a Row,
+    },
+    NextRow {
+        table: Table,
+        from: &'a Bytes,
+        to: &'a Bytes,
+    },
+    Bump {
+        kind: Kind,
+    },
+    Claim {
+        row: &'a Row,
+        qual: &'a Bytes,
+        value: &'a Bytes,
+    },
+    PutPoint {
+        point: &'a Point,
+        row: &'a Row,
+        qual: &'a Bytes,
+        value: &'a Bytes,
+    },
+    PutMerged {
+        row: &'a Row,
+        qual: &'a Bytes,
+        value: &'a Bytes,
+    },
+    DropCells {
+        row: &'a Row,
+        which: &'a Drops,
+    },
+}
+
+/// Makes the step on a body, without a stamp, and answers its reply. Where memory is wanted, the body is as before.
+pub fn apply<B: Body>(body: &mut B, alloc: Global, order: &Order) -> Result<Reply, AllocError>
+    requires covered { Covered (B.covers body.old) (step_of order.now) }
+    ensures reply { IfOk result (λ r. (place : ℕ) → r ≡ reply_of (B.content body.old) place (step_of order.now)) }
+    ensures ok { OnOk result (B.content body.new ≡ after (B.content body.old) 0 (step_of order.now)) }
+    ensures err { OnErr result (B.content body.new ≡ B.content body.old) }
+    ensures covers { B.covers body.new ≡ B.covers body.old }
+    ensures memory { OnErr result (TakesMemory (step_of order.now)) }
+{
+    match order {
+        Order::Read { row } => {
+            let cells = body.read(alloc, row)?;
+            Ok(Reply::Shown { cells })
+        }
+        Order::NextRow { table, from, to } => {
+            let found = body.next_row(alloc, *table, from, to)?;
+            Ok(Reply::Next { found })
+        }
+        Order::Bump { kind } => {
+            let bumped = body.bump(*kind);
+            Ok(Reply::BumpReply { bumped })
+        }
+        Order::Claim { row, qual, value } => {
+            let claimed = body.claim(alloc, row, qual, value)?;
+            Ok(Reply::ClaimReply { claimed })
+        }
+        Order::PutPoint {
+            point: _,
+            row,
+            qual,
+            value,
+        } => {
+            body.put(alloc, row, qual, value)?;
+            Ok(Reply::Written)
+        }
+        Order::PutMerged { row, qual, value } => {
+            body.put(alloc, row, qual, value)?;
+            Ok(Reply::Written)
+        }
+        Order::DropCells { row, which } => {
+            let count = body.drop_cells(row, which);
+            Ok(Reply::Removed { count })
+        }
+    }
+}
+
+/// Whether an id was given.
+fn gave(reply: &Reply) -> bool
+    ensures { result ≡ gave reply.now }
+{
+    match reply {
+        Reply::BumpReply { bumped } => match bumped {
+            Bumped::Given { id: _ } => true,
+            Bumped::Full => false,
+        },
+        _ => false,
+    }
+}
+
+/// Whether a claim was done.
+fn did(reply: &Reply) -> bool
+    ensures { result ≡ did reply.now }
+{
+    match reply {
+        Reply::ClaimReply { claimed } => match claimed {
+            Claimed::Done => true,
+            Claimed::Held { value: _ } => false,
+        },
+        _ => false,
+    }
+}
+
+/// Stamps what a step wrote with its place. It takes no memory.
+pub fn stamp<B: Body>(body: &mut B, order: &Order, reply: &Reply, place: u64)
+    requires covered { Covered (B.covers body.old) (step_of order.now) }
+    requires applied { (s : Store) × Applied s (step_of order.now) reply.now (B.content body.old) }
+    ensures content { (s : Store) → Applied s (step_of order.now) reply.now (B.content body.old) → B.content body.new ≡ after s place (step_of order.now) }
+    ensures covers { B.covers body.new ≡ B.covers body.old }
+{
+    match order {
+        Order::Bump { kind } => {
+            if gave(reply) {
+                body.stamp_counter(*kind, place);
+            }
+        }
+        Order::Claim {
+            row,
+            qual,
+            value: _,
+        } => {
+            if did(reply) {
+                body.stamp(row, qual, place);
+            }
+        }
+        Order::PutPoint {
+            point: _,
+            row,
+            qual,
+            value: _,
+        } => body.stamp(row, qual, place),
+        Order::PutMerged {
+            row,
+            qual,
+            value: _,
+        } => body.stamp(row, qual, place),
+        Order::Read { row: _ } => (),
+        Order::NextRow {
+            table: _,
+            from: _,
+            to: _,
+        } => (),
+        Order::DropCells { row: _, which: _ } => (),
+    }
+}

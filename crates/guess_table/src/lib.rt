@@ -1,0 +1,8 @@
+//! Where something may be, by a hash of its bytes.
+#![tactic(auto)]
+
+mod bytes_hash;
+mod guesses;
+
+pub use bytes_hash::hash_bytes;
+pub use guesses::Guesses;

@@ -1,0 +1,91 @@
+//! The points of one row at their times.
+ghost use Rattle.std.specs.Prelude.{◌≡◌, ◌+◌, ◌*◌, ◌<◌, ◌++◌, ◌∷◌, [], map, All, AllPairs, IfOk, IfErr, IfSome, OnOk, if◌then◌else◌};
+ghost use Rattle.qual_codec.specs.CellDots.{Reads};
+ghost use Rattle.qual_codec.specs.Merge.{TellsConflict, is_within as tests_within};
+ghost use Rattle.tsd_base.specs.Dots.{IsAboveAll};
+ghost use Rattle.row_scan.specs.RowTimes.{KeepsPoints, dot_at};
+
+use crate::merged_points::row_points;
+use cell_model::Cells;
+use qual_codec::merge::is_within;
+use qual_codec::{Dot, MergeFault, short_dot};
+use std::alloc::{AllocError, Global};
+use tsd_base::dots::Dots;
+
+/// The points of a row's data points, whose hour begins at this second.
+fn points_of(alloc: Global, base: u32, dots: &[Dot]) -> Result<Dots, AllocError>
+    requires { AllPairs (λ d e. d.item.offset < e.item.offset) dots.now }
+    ensures { IfOk result (λ points. points ≡ map (dot_at base) dots.now) }
+{
+    let mut points = Dots::make(alloc);
+    for dot in dots {
+        points.push(base as u64 * 1000 + dot.item.offset as u64, dot.value)?;
+    }
+    Ok(points)
+}
+
+/// Adds the point of a data point that is later than all points, where its offset is in the range.
+#[inline]
+fn add_within(
+    points: &mut Dots,
+    base: u32,
+    dot: Dot,
+    first: u32,
+    last: u32,
+) -> Result<(), AllocError>
+    requires { IsAboveAll (base * 1000 + dot.item.offset) points.old }
+    ensures { OnOk result (points.new ≡ (if tests_within first last dot then points.old ++ dot_at base dot ∷ [] else points.old)) }
+{
+    if is_within(&dot, first, last) {
+        points.push(base as u64 * 1000 + dot.item.offset as u64, dot.value)?;
+    }
+    Ok(())
+}
+
+/// The points of cells of which each is one item of two bytes, with offsets that rise from cell to cell, and None for other cells.
+fn rising_points(
+    alloc: Global,
+    cells: &Cells,
+    base: u32,
+    first: u32,
+    last: u32,
+) -> Result<Option<Dots>, AllocError>
+    ensures { IfOk result (λ answer. IfSome answer (KeepsPoints cells.now base first last)) }
+{
+    let mut points = Dots::make(alloc);
+    let mut least = 0;
+    for i in 0..cells.len() {
+        let cell = cells.cell(i);
+        let Some(dot) = short_dot(cell.qual, cell.value) else {
+            return Ok(None);
+        };
+        if dot.item.offset < least {
+            return Ok(None);
+        }
+        add_within(&mut points, base, dot, first, last)?;
+        least = dot.item.offset + 1;
+    }
+    Ok(Some(points))
+}
+
+/// The points of a row's cells whose offset is from `first` to `last`, both included, at rising times in milliseconds: those that
+/// [`row_points`] gives, where the row's hour begins at the second `base`. `Conflict` comes as it comes there.
+///
+/// Cells of one item each, with offsets that rise, are read straight into the points.
+pub fn timed_points(
+    alloc: Global,
+    cells: &Cells,
+    base: u32,
+    first: u32,
+    last: u32,
+) -> Result<Dots, MergeFault>
+    requires { All (λ c. Reads c.qual c.value) cells.now }
+    ensures kept { IfOk result (KeepsPoints cells.now base first last) }
+    ensures conflict { IfErr result (TellsConflict cells.now first last) }
+{
+    if let Some(points) = rising_points(alloc, cells, base, first, last)? {
+        return Ok(points);
+    }
+    let dots = row_points(alloc, cells, first, last)?;
+    Ok(points_of(alloc, base, dots.as_slice())?)
+}

@@ -1,0 +1,125 @@
+//! Two workers over one site, each in a thread of its own.
+ghost use Rattle.std.specs.Prelude.{◌≡◌, IfSome};
+ghost use Rattle.cell_model.specs.Deeds.{Extends};
+ghost use Rattle.cell_model.specs.Seen.{InEach};
+ghost use Rattle.cell_model.specs.Sound.{IsBase};
+ghost use Rattle.step_count.specs.CounterRule.{store_in};
+ghost use Rattle.point_put.specs.Admissions.{admission};
+ghost use Rattle.cell_store.specs.CallerViews.{IsCaller, seen_of};
+ghost use Rattle.step_count.specs.Tokens.{counter_of_pass, view_of_pass};
+ghost use Rattle.site_fleet.specs.FleetAnswers.{Stand, WereAsked};
+
+use crate::put_worker::{Answer, Worked, work};
+use cell_region::Regions;
+use cell_store::{Gate, Site, SiteParts, SitePass, StepNames};
+use point_put::Config;
+use std::alloc::Global;
+use std::marker::{Brand, Model};
+use std::sync::Wait;
+use std::thread::{Threads, join};
+use step_count::Pass;
+use tsd_base::points::Point;
+use tsd_hooks::UidRule;
+
+/// The store that workers left, and what each was answered, in order.
+#[derive(Drop)]
+pub struct FleetDone {
+    pub regions: Regions,
+    pub first: Vec<Answer>,
+    pub second: Vec<Answer>,
+}
+
+/// Two workers over these regions put their points, each in a thread of its own. Over one lawful history that begins with the store of the
+/// regions each was answered as it was, and what is left is the store after it. None is want of memory.
+pub fn two_workers<G: Gate + Drop + Send + Sync, T: Threads + Wait + Sync>(
+    rt: &T,
+    alloc: Global,
+    regions: Regions,
+    gate: G,
+    rule: &UidRule,
+    config: &Config,
+    first: &[Point],
+    second: &[Point],
+) -> Option<FleetDone>
+    requires { IsBase regions.content }
+    ensures { IfSome result (λ d. Stand regions.content d.regions.content (WereAsked (admission config.now rule.now.patterns) first.now d.first.items) (WereAsked (admission config.now rule.now.patterns) second.now d.second.items)) }
+{
+    let Ok(parts) = SiteParts::make(alloc, regions, gate) else {
+        return None;
+    };
+    over::<Brand, G, T>(rt, alloc, parts, rule, config, first, second)
+}
+
+// The same, over the parts of a site.
+fn over<J: StepNames + Send + Sync, G: Gate + Drop + Send + Sync, T: Threads + Wait + Sync>(
+    rt: &T,
+    alloc: Global,
+    parts: SiteParts<G>,
+    rule: &UidRule,
+    config: &Config,
+    first: &[Point],
+    second: &[Point],
+) -> Option<FleetDone>
+    requires counter { parts.counter ≡ J.counter }
+    requires name { parts.name ≡ J.name }
+    ensures { IfSome result (λ d. Stand (store_in parts.name) d.regions.content (WereAsked (admission config.now rule.now.patterns) first.now d.first.items) (WereAsked (admission config.now rule.now.patterns) second.now d.second.items)) }
+{
+    let site = parts.named::<J>();
+    let (pass, first, second) = both(rt, alloc, &site, rule, config, first, second)?;
+    Some(FleetDone {
+        regions: site.end(pass),
+        first,
+        second,
+    })
+}
+
+// Two callers in threads of their own, and the token of the one that took the other's place.
+fn both<J: StepNames + Send + Sync, G: Gate + Drop + Send + Sync, T: Threads + Wait + Sync>(
+    rt: &T,
+    alloc: Global,
+    site: &Site<J, G>,
+    rule: &UidRule,
+    config: &Config,
+    first: &[Point],
+    second: &[Point],
+) -> Option<(Pass, Vec<Answer>, Vec<Answer>)>
+    ensures counter { IfSome result (λ r. counter_of_pass r.0 ≡ J.counter) }
+    ensures caller { IfSome result (λ r. IsCaller J.name (view_of_pass r.0)) }
+    ensures first { IfSome result (λ r. InEach (seen_of (view_of_pass r.0)) (WereAsked (admission config.now rule.now.patterns) first.now r.1.items)) }
+    ensures second { IfSome result (λ r. InEach (seen_of (view_of_pass r.0)) (WereAsked (admission config.now rule.now.patterns) second.now r.2.items)) }
+{
+    let (one, two) = join(
+        rt,
+        || -> Option<Worked>
+            ensures { IfSome result (λ w. (counter_of_pass w.pass ≡ J.counter) × IsCaller J.name (view_of_pass w.pass) × InEach (seen_of (view_of_pass w.pass)) (WereAsked (admission config.entry.now rule.entry.now.patterns) first.entry.now w.answers.items)) }
+        { work(rt, alloc, site, rule, config, first) },
+        || -> Option<Worked>
+            ensures { IfSome result (λ w. (counter_of_pass w.pass ≡ J.counter) × IsCaller J.name (view_of_pass w.pass) × InEach (seen_of (view_of_pass w.pass)) (WereAsked (admission config.entry.now rule.entry.now.patterns) second.entry.now w.answers.items)) }
+        { work(rt, alloc, site, rule, config, second) },
+    );
+    let one = one?;
+    let two = two?;
+    let pass = absorbed(rt, site, one.pass, two.pass);
+    Some((pass, one.answers, two.answers))
+}
+
+// The first takes the second's place.
+fn absorbed<J: StepNames, G: Gate + Drop, T: Wait>(
+    rt: &T,
+    site: &Site<J, G>,
+    first: Pass,
+    second: Pass,
+) -> Pass
+    requires first_counter { counter_of_pass first ≡ J.counter }
+    requires first_caller { IsCaller J.name (view_of_pass first) }
+    requires second_counter { counter_of_pass second ≡ J.counter }
+    requires second_caller { IsCaller J.name (view_of_pass second) }
+    ensures counter { counter_of_pass result ≡ J.counter }
+    ensures caller { IsCaller J.name (view_of_pass result) }
+    ensures first { Extends (seen_of (view_of_pass first)) (seen_of (view_of_pass result)) }
+    ensures second { Extends (seen_of (view_of_pass second)) (seen_of (view_of_pass result)) }
+{
+    let mut rows = SitePass::of(site, rt, first);
+    rows.absorb(SitePass::of(site, rt, second));
+    rows.part()
+}

@@ -1,0 +1,72 @@
+//! One worker, which puts points.
+ghost use Rattle.std.specs.Prelude.{◌≡◌, IfOk, IfSome};
+ghost use Rattle.cell_model.specs.Seen.{InEach};
+ghost use Rattle.point_put.specs.Admissions.{admission};
+ghost use Rattle.step_count.specs.Tokens.{counter_of_pass, view_of_pass};
+ghost use Rattle.cell_store.specs.CallerViews.{IsCaller, seen_of};
+ghost use Rattle.site_fleet.specs.FleetAnswers.{WereAsked};
+
+use cell_model::answers::Stored;
+use cell_model::rows::Rows;
+use cell_store::{Gate, Site, StepNames};
+use point_put::{Config, PutFault, put};
+use std::alloc::{AllocError, Global};
+use std::marker::Model;
+use std::sync::Wait;
+use step_count::Pass;
+use tsd_base::points::Point;
+use tsd_hooks::UidRule;
+use uid_table::uids::Uids;
+
+/// What a put was answered.
+pub type Answer = Result<Stored, PutFault>;
+
+// How many pairs of a name and its id each worker keeps.
+const KEPT_PAIRS: u32 = 10_000;
+
+/// A caller's token, and what each of its puts was answered.
+#[derive(Drop)]
+pub(crate) struct Worked {
+    pub(crate) pass: Pass,
+    pub(crate) answers: Vec<Answer>,
+}
+
+/// A new caller of the site puts the points, in order. None is want of memory.
+pub(crate) fn work<J: StepNames, G: Gate + Drop, T: Wait>(
+    rt: &T,
+    alloc: Global,
+    site: &Site<J, G>,
+    rule: &UidRule,
+    config: &Config,
+    points: &[Point],
+) -> Option<Worked>
+    ensures counter { IfSome result (λ w. counter_of_pass w.pass ≡ J.counter) }
+    ensures caller { IfSome result (λ w. IsCaller J.name (view_of_pass w.pass)) }
+    ensures asked { IfSome result (λ w. InEach (seen_of (view_of_pass w.pass)) (WereAsked (admission config.now rule.now.patterns) points.now w.answers.items)) }
+{
+    let pass = site.open_pass(rt).ok()?;
+    let mut names = Uids::over(alloc, pass, KEPT_PAIRS).ok()?;
+    let answers = put_all(alloc, &mut names, rule, config, points).ok()?;
+    Some(Worked {
+        pass: names.part().part(),
+        answers,
+    })
+}
+
+// Puts the points, in order.
+fn put_all<R: Rows + Drop>(
+    alloc: Global,
+    names: &mut Uids<R>,
+    rule: &UidRule,
+    config: &Config,
+    points: &[Point],
+) -> Result<Vec<Answer>, AllocError>
+    ensures { IfOk result (λ answers. InEach (R.seen names.new) (WereAsked (admission config.now rule.now.patterns) points.now answers.items)) }
+{
+    let mut answers = Vec::with_capacity(alloc, points.len())?;
+    for point in points {
+        let answer = put(alloc, names, rule, config, point);
+        answers.push(answer)?;
+    }
+    Ok(answers)
+}
