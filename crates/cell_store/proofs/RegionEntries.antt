@@ -118,11 +118,11 @@ module _ (name : Named) (number : ℕ) (content : Store) (covers : Row → Bool)
   abbrev Logs : List Log
   Logs = extended by_caller P (first ∷ (others ++ []))
 
-  abbrev W1 : View
-  W1 = record { named = Some name; length = place; seen = P ∷ (vs ++ ls); callers = Logs; licences = [] }
+  abbrev Unlicensed : View
+  Unlicensed = record { named = Some name; length = place; seen = P ∷ (vs ++ ls); callers = Logs; licences = [] }
 
-  abbrev L1 : View
-  L1 = record { named = Some name; length = place; seen = P ∷ (vs ++ ls); callers = []; licences = (number, log ++ P ∷ []) ∷ [] }
+  abbrev Licence : View
+  Licence = record { named = Some name; length = place; seen = P ∷ (vs ++ ls); callers = []; licences = (number, log ++ P ∷ []) ∷ [] }
 
   module _ (mine : is_mine (is_in name.data_regions number) step ≡ true) (content_is : content ≡ replayed (part (is_in name.data_regions number) (store_in name)) log) (rows_are : covers ≡ is_in name.data_regions number)
       (old : Lives V) (le : max vlen llen + 1 ≤ place) (lives : Lives W) where
@@ -135,13 +135,13 @@ module _ (name : Named) (number : ℕ) (content : Store) (covers : Row → Bool)
     only_one : (t : List Placed) → only number ((number, t) ∷ []) ≡ (number, t) ∷ []
     only_one t = ap (λ b. cond b ((number, t) ∷ []) []) (same_number number)
 
-    ridden : without_licence number W ≡ W1
+    ridden : without_licence number W ≡ Unlicensed
     ridden = λ i. record { named = Some name; length = place; seen = P ∷ (vs ++ ls); callers = Logs; licences = (ap (without number) licensed ∙ without_one (log ++ P ∷ [])) i }
 
-    licence_is : licence_alone number W ≡ L1
+    licence_is : licence_alone number W ≡ Licence
     licence_is = λ i. record { named = Some name; length = place; seen = P ∷ (vs ++ ls); callers = []; licences = (ap (only number) licensed ∙ only_one (log ++ P ∷ [])) i }
 
-    lives_after : Lives W1
+    lives_after : Lives Unlicensed
     lives_after = record {
       name = lives.name;
       history = lives.history;
@@ -151,10 +151,10 @@ module _ (name : Named) (number : ℕ) (content : Store) (covers : Row → Bool)
       whole = lives.whole;
     }
 
-    caller_after : IsCaller name W1
+    caller_after : IsCaller name Unlicensed
     caller_after = record { named = refl; free = refl; first = (first.0, first.1 ++ cond (by_caller first.0 E) (P ∷ []) []); others = extended by_caller P (others ++ []); callers = refl; live = lives_after }
 
-    licence_after : Replays name number (after content place step) covers L1
+    licence_after : Replays name number (after content place step) covers Licence
     licence_after = record {
       named = refl;
       nobody = refl;
@@ -179,7 +179,7 @@ module _ (name : Named) (number : ℕ) (content : Store) (covers : Row → Bool)
           | inr i ↦ absurd (ne (ap (λ (y : Placed). y.place) (sym (one_or_none (by_caller x.caller E) P (placed q x) i).1)))
         ]
 
-    stepped_after : Stepped (seen_of V) step reply (seen_of W1)
+    stepped_after : Stepped (seen_of V) step reply (seen_of Unlicensed)
     stepped_after = record {
       base = refl;
       caller = refl;
@@ -200,7 +200,7 @@ module _ (name : Named) (number : ℕ) (content : Store) (covers : Row → Bool)
       subst (IsCaller name) (sym ridden) caller_after,
       subst (Replays name number (after content place step) covers) (sym licence_is) licence_after,
       subst (λ (x : View). Stepped (seen_of V) step reply (seen_of x)) (sym ridden) stepped_after,
-      subst (λ (x : View). IsPossible (seen_of x)) (sym ridden) (possible name W1 caller_after),
+      subst (λ (x : View). IsPossible (seen_of x)) (sym ridden) (possible name Unlicensed caller_after),
     )
 
 -- the step at the views that the calls name
