@@ -14,7 +14,7 @@ prepare() {
     cp "$top/HANDLES" "$folder"
     for crate in "$@"; do
         cp -r "$top/crates/$crate" "$folder/crates"
-        grep "^$crate:" "$top/crates.txt" >>"$folder/crates.txt"
+        grep "^$crate[ :]" "$top/crates.txt" >>"$folder/crates.txt"
     done
     echo "${name}_bench: $uses" >>"$folder/crates.txt"
     if [ -d "$top/bench/$name" ]; then

@@ -1,14 +1,18 @@
 //! Guesses, by a hash.
 use std::alloc::Global;
+use std::mem;
 
 // The most slots.
-const MOST_SLOTS: usize = 262144;
+const MOST_SLOTS: usize = 4194304;
 
-// What is guessed, and bits of the hash that the slot's number doesn't have.
+// The slots of a bucket. What a slot has may be in any of its bucket.
+const BUCKET: usize = 4;
+
+// What is guessed, and the bits of the hash by which it is told and its slot is found. A slot of no bits has nothing.
 #[derive(Clone, Copy, Drop)]
 struct Guess<T: Copy> {
     what: T,
-    mark: u16,
+    bits: u32,
 }
 
 /// Where things were last found, by a hash of their bytes.
@@ -17,8 +21,9 @@ struct Guess<T: Copy> {
 /// one may have the same slot. No contract says what the answers are, so no proof rests on them.
 #[derive(Drop)]
 pub struct Guesses<T: Copy> {
-    // None, or a power of two of them.
+    // None, or a power of two of them, and then a bucket at least.
     slots: Vec<Guess<T>>,
+    alloc: Global,
 }
 
 impl<T: Copy> Guesses<T> {
@@ -26,54 +31,68 @@ impl<T: Copy> Guesses<T> {
     pub fn make(alloc: Global) -> Guesses<T> {
         Guesses {
             slots: Vec::new(alloc),
+            alloc,
         }
     }
 
     /// What may be where this hash is.
     #[inline]
     pub fn guess(&self, hash: u64) -> Option<T> {
-        let slot = self.slot(hash);
-        match self.read(slot, hash) {
-            Some(what) => Some(what),
-            None => self.read(slot ^ 1, hash),
-        }
-    }
-
-    #[inline]
-    fn read(&self, slot: usize, hash: u64) -> Option<T> {
-        let guess = self.slots.get(slot)?;
-        if guess.mark != mark(hash) {
-            return None;
-        }
-        Some(guess.what)
-    }
-
-    /// Remembers what is where this hash is. An earlier guess of another hash goes to the neighbour of its slot, in place of
-    /// what that had.
-    #[inline]
-    pub fn keep(&mut self, hash: u64, what: T) {
-        let mark = mark(hash);
-        let slot = self.slot(hash);
-        let Some(guess) = self.slots.get_mut(slot) else {
-            return;
-        };
-        let before = *guess;
-        *guess = Guess { what, mark };
-        if before.mark != mark {
-            if let Some(neighbour) = self.slots.get_mut(slot ^ 1) {
-                *neighbour = before;
+        let bits = bits_of(hash);
+        let slot = self.slot(bits);
+        for at in 0..BUCKET {
+            let guess = self.slots.get(slot ^ at)?;
+            if guess.bits == bits {
+                return Some(guess.what);
             }
         }
+        None
     }
 
-    /// Makes more slots where they are fewer than four for each of this many things, up to 262,144 slots and if there is
-    /// memory. They are filled with this guess.
+    /// Remembers what is where this hash is. Earlier guesses of other hashes go on to the next slots of the bucket, as far as one
+    /// that has nothing, and the last goes.
+    #[inline]
+    pub fn keep(&mut self, hash: u64, what: T) {
+        self.put(Guess {
+            what,
+            bits: bits_of(hash),
+        });
+    }
+
+    #[inline]
+    fn put(&mut self, guess: Guess<T>) {
+        let mut moved = guess;
+        let slot = self.slot(guess.bits);
+        for at in 0..BUCKET {
+            let Some(place) = self.slots.get_mut(slot ^ at) else {
+                return;
+            };
+            let before = *place;
+            *place = moved;
+            if before.bits == guess.bits || before.bits == 0 {
+                return;
+            }
+            moved = before;
+        }
+    }
+
+    /// Makes more slots where they are fewer than two for each of this many things, up to 4,194,304 slots and if there is
+    /// memory. New slots are filled with this guess.
     pub fn grow(&mut self, count: usize, what: T) {
-        if self.slots.len() >= MOST_SLOTS || self.slots.len() / 4 >= count {
+        let len = self.slots.len();
+        if len >= MOST_SLOTS || len / 2 >= count {
             return;
         }
-        let slots = (self.slots.len() * 4).max(64);
-        let _ = self.slots.resize(slots, Guess { what, mark: 0 });
+        let mut slots = Vec::new(self.alloc);
+        let Ok(()) = slots.resize((len * 2).max(64), Guess { what, bits: 0 }) else {
+            return;
+        };
+        let before = mem::replace(&mut self.slots, slots);
+        for guess in before.iter() {
+            if guess.bits != 0 {
+                self.put(*guess);
+            }
+        }
     }
 
     /// Forgets all guesses.
@@ -82,13 +101,13 @@ impl<T: Copy> Guesses<T> {
     }
 
     #[inline]
-    fn slot(&self, hash: u64) -> usize {
-        hash as usize & self.slots.len().wrapping_sub(1)
+    fn slot(&self, bits: u32) -> usize {
+        bits as usize & self.slots.len().wrapping_sub(1)
     }
 }
 
-// The bits of a hash by which a guess is told from others of its slot.
+// The bits of a hash that are kept: they are never 0.
 #[inline]
-fn mark(hash: u64) -> u16 {
-    (hash >> 48) as u16
+fn bits_of(hash: u64) -> u32 {
+    (hash >> 32) as u32 | 0x8000_0000
 }

@@ -35,6 +35,17 @@ impl Hints {
         })
     }
 
+    /// Remembers where a row of this hash is, where something else was guessed.
+    #[inline]
+    pub fn correct(&mut self, hash: u64, guess: Option<Place>, place: Place) {
+        if let Some(guess) = guess {
+            if guess.page == place.page && guess.row == place.row {
+                return;
+            }
+        }
+        self.keep(hash, place);
+    }
+
     /// Remembers where a row of this hash is.
     #[inline]
     pub fn keep(&mut self, hash: u64, place: Place) {

@@ -80,9 +80,10 @@ impl RowPages {
         ensures value { option_copied_mut result ≡ get self.old row.now }
     {
         let hash = hash_bytes(row.list());
-        match place_by(&self.pages, self.hints.guess(hash), row) {
+        let guess = self.hints.guess(hash);
+        match place_by(&self.pages, guess, row) {
             Some(place) => {
-                self.hints.keep(hash, place);
+                self.hints.correct(hash, guess, place);
                 let page = &mut self.pages[place.page];
                 let found = &mut page.rows[place.row];
                 Some(&mut found.1)

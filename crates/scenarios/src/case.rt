@@ -1,11 +1,12 @@
 //! The blocks of a file, one after the other.
 
-use crate::case_lines::{Block, Line, add, joined};
-use crate::report::Report;
-use crate::{run_cases, store_case};
+use crate::run_cases;
+use case_blocks::case_lines::{Block, Line, add, joined};
+use case_blocks::report::Report;
 use case_readers::readers::read;
 use case_readers::text::Bad;
 use std::alloc::Global;
+use store_cases::store_case;
 
 /// Does a line that stands alone.
 fn read_alone(alloc: Global, line: &Line, report: &mut Report) -> Result<(), Bad> {

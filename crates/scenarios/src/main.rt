@@ -1,18 +1,8 @@
 //! Cases that are data: reads files of cases, does them, and prints what differs from what they want.
 #![tactic(auto)]
 
-mod acts;
-mod asks;
-mod calls;
 mod case;
-mod case_lines;
-mod case_patterns;
-mod compactions;
-mod connections;
-mod devices;
-mod report;
 mod run_cases;
-mod store_case;
 
 use crate::case::do_file;
 use anyhow::{Context, Result, anyhow};

@@ -1,8 +1,8 @@
 //! Whole runs of the program, over devices in memory.
 
-use crate::case_lines::Line;
-use crate::devices::{Devices, Pieces, tell_output};
-use crate::report::Report;
+use case_blocks::case_lines::Line;
+use case_blocks::devices::{Devices, Pieces, tell_output};
+use case_blocks::report::Report;
 use case_readers::text::{Bad, bytes, number};
 use std::alloc::Global;
 use tsd_run::run::run;

@@ -5,10 +5,16 @@ use Rattle.tsd_base.specs.declared.points.Point.{Point}
 use Rattle.tsd_base.specs.Points.{DataPoint, data_point}
 use Rattle.cell_model.specs.declared.answers.Stored.{Stored}
 use Rattle.cell_model.specs.declared.events.Placed.{Placed}
+use Rattle.atomic_table.specs.Seated.{TableId}
+use Rattle.cell_model.specs.Seen.{InEach}
 use Rattle.cell_model.specs.Store.{Store}
 use Rattle.cell_model.specs.History.{History, first, base_of, store_after}
 use Rattle.cell_model.specs.Lawful.{IsLawful}
 use Rattle.cell_model.specs.Deeds.{deeds}
+use Rattle.step_count.specs.declared.steps.Pass.{Pass}
+use Rattle.step_count.specs.declared.view.Named.{Named}
+use Rattle.step_count.specs.Tokens.{counter_of_pass, view_of_pass}
+use Rattle.cell_store.specs.CallerViews.{IsCaller, seen_of}
 use Rattle.point_put.specs.declared.fault.PutFault.{PutFault}
 use Rattle.point_put.specs.Admissions.{Admission}
 use Rattle.point_put.specs.PutPoint.{PointAsked}
@@ -34,3 +40,10 @@ pub record Stand (base store : Store) (one two : History → Type 0) : Type 0 wh
   pub store_is : store ≡ store_after history
   pub first : one history
   pub second : two history
+
+-- two callers of the site were answered so, and this token is theirs
+pub record HaveTold (counter : TableId) (name : Named) (a : Admission) (one two : List Point) (pass : Pass) (one_answers two_answers : List (Result Stored PutFault)) : Type 0 where
+  pub counter_is : counter_of_pass pass ≡ counter
+  pub caller : IsCaller name (view_of_pass pass)
+  pub first : InEach (seen_of (view_of_pass pass)) (WereAsked a one one_answers)
+  pub second : InEach (seen_of (view_of_pass pass)) (WereAsked a two two_answers)

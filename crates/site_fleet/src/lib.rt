@@ -4,5 +4,5 @@
 pub mod put_fleet;
 mod put_worker;
 
-pub use put_fleet::{FleetDone, two_workers};
+pub use put_fleet::{FleetDone, FourDone, FourLists, four_workers, two_workers};
 pub use put_worker::Answer;

@@ -7,7 +7,7 @@ ghost use Rattle.step_count.specs.CounterRule.{store_in};
 ghost use Rattle.point_put.specs.Admissions.{admission};
 ghost use Rattle.cell_store.specs.CallerViews.{IsCaller, seen_of};
 ghost use Rattle.step_count.specs.Tokens.{counter_of_pass, view_of_pass};
-ghost use Rattle.site_fleet.specs.FleetAnswers.{Stand, WereAsked};
+ghost use Rattle.site_fleet.specs.FleetAnswers.{HaveTold, Stand, WereAsked};
 
 use crate::put_worker::{Answer, Worked, work};
 use cell_region::Regions;
@@ -103,6 +103,71 @@ fn both<J: StepNames + Send + Sync, G: Gate + Drop + Send + Sync, T: Threads + W
     Some((pass, one.answers, two.answers))
 }
 
+/// The points of four workers.
+#[derive(Drop)]
+pub struct FourLists {
+    pub first: Vec<Point>,
+    pub second: Vec<Point>,
+    pub third: Vec<Point>,
+    pub fourth: Vec<Point>,
+}
+
+/// The store that four workers left, and what each was answered, in order.
+#[derive(Drop)]
+pub struct FourDone {
+    pub regions: Regions,
+    pub first: Vec<Answer>,
+    pub second: Vec<Answer>,
+    pub third: Vec<Answer>,
+    pub fourth: Vec<Answer>,
+}
+
+/// Four workers over these regions put their points, each in a thread of its own; else as [`two_workers`].
+pub fn four_workers<G: Gate + Drop + Send + Sync, T: Threads + Wait + Sync>(
+    rt: &T,
+    alloc: Global,
+    regions: Regions,
+    gate: G,
+    rule: &UidRule,
+    config: &Config,
+    lists: &FourLists,
+) -> Option<FourDone>
+    requires { IsBase regions.content }
+    ensures { IfSome result (λ d. Stand regions.content d.regions.content (λ h. WereAsked (admission config.now rule.now.patterns) lists.now.first.items d.first.items h × WereAsked (admission config.now rule.now.patterns) lists.now.second.items d.second.items h) (λ h. WereAsked (admission config.now rule.now.patterns) lists.now.third.items d.third.items h × WereAsked (admission config.now rule.now.patterns) lists.now.fourth.items d.fourth.items h)) }
+{
+    let Ok(parts) = SiteParts::make(alloc, regions, gate) else {
+        return None;
+    };
+    over_four::<Brand, G, T>(rt, alloc, parts, rule, config, lists)
+}
+
+// The same, over the parts of a site.
+fn over_four<J: StepNames + Send + Sync, G: Gate + Drop + Send + Sync, T: Threads + Wait + Sync>(
+    rt: &T,
+    alloc: Global,
+    parts: SiteParts<G>,
+    rule: &UidRule,
+    config: &Config,
+    lists: &FourLists,
+) -> Option<FourDone>
+    requires counter { parts.counter ≡ J.counter }
+    requires name { parts.name ≡ J.name }
+    ensures { IfSome result (λ d. Stand (store_in parts.name) d.regions.content (λ h. WereAsked (admission config.now rule.now.patterns) lists.now.first.items d.first.items h × WereAsked (admission config.now rule.now.patterns) lists.now.second.items d.second.items h) (λ h. WereAsked (admission config.now rule.now.patterns) lists.now.third.items d.third.items h × WereAsked (admission config.now rule.now.patterns) lists.now.fourth.items d.fourth.items h)) }
+{
+    let site = parts.named::<J>();
+    let (one, two) = four(rt, alloc, &site, rule, config, lists)?;
+    let (pass, first, second) = one;
+    let (other, third, fourth) = two;
+    let pass = absorbed(rt, &site, pass, other);
+    Some(FourDone {
+        regions: site.end(pass),
+        first,
+        second,
+        third,
+        fourth,
+    })
+}
+
 // The first takes the second's place.
 fn absorbed<J: StepNames, G: Gate + Drop, T: Wait>(
     rt: &T,
@@ -122,4 +187,71 @@ fn absorbed<J: StepNames, G: Gate + Drop, T: Wait>(
     let mut rows = SitePass::of(site, rt, first);
     rows.absorb(SitePass::of(site, rt, second));
     rows.part()
+}
+
+// Two pairs of callers, each pair in a thread of its own.
+fn four<J: StepNames + Send + Sync, G: Gate + Drop + Send + Sync, T: Threads + Wait + Sync>(
+    rt: &T,
+    alloc: Global,
+    site: &Site<J, G>,
+    rule: &UidRule,
+    config: &Config,
+    lists: &FourLists,
+) -> Option<
+    (
+        (Pass, Vec<Answer>, Vec<Answer>),
+        (Pass, Vec<Answer>, Vec<Answer>),
+    ),
+>
+    ensures one { IfSome result (λ r. HaveTold J.counter J.name (admission config.now rule.now.patterns) lists.now.first.items lists.now.second.items r.0.0 r.0.1.items r.0.2.items) }
+    ensures two { IfSome result (λ r. HaveTold J.counter J.name (admission config.now rule.now.patterns) lists.now.third.items lists.now.fourth.items r.1.0 r.1.1.items r.1.2.items) }
+{
+    let (one, two) = join(
+        rt,
+        || -> Option<(Pass, Vec<Answer>, Vec<Answer>)>
+            ensures { IfSome result (λ r. HaveTold J.counter J.name (admission config.entry.now rule.entry.now.patterns) lists.entry.now.first.items lists.entry.now.second.items r.0 r.1.items r.2.items) }
+        {
+            pair(
+                rt,
+                alloc,
+                site,
+                rule,
+                config,
+                lists.first.as_slice(),
+                lists.second.as_slice(),
+            )
+        },
+        || -> Option<(Pass, Vec<Answer>, Vec<Answer>)>
+            ensures { IfSome result (λ r. HaveTold J.counter J.name (admission config.entry.now rule.entry.now.patterns) lists.entry.now.third.items lists.entry.now.fourth.items r.0 r.1.items r.2.items) }
+        {
+            pair(
+                rt,
+                alloc,
+                site,
+                rule,
+                config,
+                lists.third.as_slice(),
+                lists.fourth.as_slice(),
+            )
+        },
+    );
+    let one = one?;
+    let two = two?;
+    Some((one, two))
+}
+
+// Two callers, as one fact.
+fn pair<J: StepNames + Send + Sync, G: Gate + Drop + Send + Sync, T: Threads + Wait + Sync>(
+    rt: &T,
+    alloc: Global,
+    site: &Site<J, G>,
+    rule: &UidRule,
+    config: &Config,
+    first: &[Point],
+    second: &[Point],
+) -> Option<(Pass, Vec<Answer>, Vec<Answer>)>
+    ensures { IfSome result (λ r. HaveTold J.counter J.name (admission config.now rule.now.patterns) first.now second.now r.0 r.1.items r.2.items) }
+{
+    let (pass, first, second) = both(rt, alloc, site, rule, config, first, second)?;
+    Some((pass, first, second))
 }

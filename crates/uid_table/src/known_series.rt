@@ -1,8 +1,9 @@
 //! Series that are known by their texts, so that neither their names nor their ids need be read again.
 ghost use Rattle.std.specs.Prelude.{◌≡◌, ◌<◌, IfSome, IfOk, IsTrue, Option as Maybe, Some as Just, length, slice_index_or, slice_set};
 ghost use Rattle.std.specs.Global.{Box as ABox};
+ghost use Rattle.cell_model.specs.Seen.{Seen};
 ghost use Rattle.uid_table.specs.declared.known_series.KnownSeries.{KnownSeries as AKnown};
-ghost use Rattle.uid_table.specs.KnownSeries.{IsAmong, IsKept, KeepsNone, KeptAmong};
+ghost use Rattle.uid_table.specs.KnownSeries.{IsAmong, IsKept, KeepsNone, KeepsSeries, KeptAmong};
 
 use crate::placed_point::PlacedPoint;
 use guess_table::hash_bytes;
@@ -15,6 +16,9 @@ use std::mem;
 const LEAST_SLOTS: usize = 256;
 
 const MOST_SLOTS: usize = 262_144;
+
+// The slots of a bucket. A series is in any slot of its bucket.
+const BUCKET: usize = 4;
 
 /// A series by its texts as they came: the metric, and what stands behind the value of a point. With it stands the last of
 /// its points.
@@ -38,7 +42,7 @@ impl KnownSeries {
     }
 }
 
-/// The series that are kept, each in one of two slots by the hash of its texts, where a later one takes the place of an
+/// The series that are kept, each in one of four slots by the hash of its texts, where a later one may take the place of an
 /// earlier one.
 ///
 /// Contracts see what the slots hold.
@@ -46,6 +50,8 @@ impl KnownSeries {
 pub struct SeriesTable {
     // None, or a power of two of them.
     slots: Vec<Option<Box<KnownSeries>>>,
+    // Of each slot bits of the hash of its series, also while that is taken out, or 0. They are guesses.
+    marks: Vec<u32>,
     // How many series were added since the slots were made.
     count: usize,
 }
@@ -53,6 +59,7 @@ pub struct SeriesTable {
 impl Model for SeriesTable {
     ghost use Rattle.std.specs.Prelude.{List, Option};
     ghost use Rattle.std.specs.Global.{Box};
+    ghost use Rattle.cell_model.specs.Seen.{Seen};
     ghost use Rattle.uid_table.specs.declared.known_series.KnownSeries.{KnownSeries};
 
     ghost Value = { List (Option (Box KnownSeries)) };
@@ -67,6 +74,7 @@ impl SeriesTable {
     {
         SeriesTable {
             slots: Vec::new(alloc),
+            marks: Vec::new(alloc),
             count: 0,
         }
     }
@@ -76,6 +84,7 @@ impl SeriesTable {
         ensures { KeepsNone self.new }
     {
         self.slots.clear();
+        self.marks.clear();
         self.count = 0;
     }
 
@@ -87,44 +96,53 @@ impl SeriesTable {
         ensures metric { IfSome result (λ b. b.value.metric ≡ metric.now) }
         ensures tags { IfSome result (λ b. b.value.tags ≡ tags.now) }
     {
-        let at = slot_of(hash_texts(metric, tags), self.slots.len());
-        match take_at(&mut self.slots, at, metric, tags) {
-            Some(known) => Some(known),
-            None => take_at(&mut self.slots, at ^ 1, metric, tags),
+        match marked_slot(&self.marks, hash_texts(metric, tags)) {
+            Some(at) => take_at(&mut self.slots, at, metric, tags),
+            None => None,
         }
     }
 
-    /// Keeps a series in the slot of its hash. The one that was there goes to the neighbour, in place of what that had.
+    /// Keeps a series: in the slot that it had, or else in an empty one of its bucket, or in the place of another series.
     #[inline]
     pub fn keep(&mut self, known: Box<KnownSeries>)
         ensures { IsKept self.old (Just known) self.new }
     {
-        let at = slot_of(known.hash, self.slots.len());
-        let before = swap_at(&mut self.slots, at, Some(known));
-        if before.is_some() {
-            swap_at(&mut self.slots, at ^ 1, before);
-        }
+        let at = slot_for(&mut self.marks, known.hash);
+        swap_at(&mut self.slots, at, Some(known));
     }
 
-    /// Keeps one more series. The slots grow with the series, where there is memory, and are emptied then.
+    /// Keeps one more series. The slots grow with the series, where there is memory.
     pub fn add(&mut self, alloc: Global, known: Box<KnownSeries>)
         ensures { IsKept self.old (Just known) self.new }
     {
         let len = self.slots.len();
-        if self.count >= len / 2 && len < MOST_SLOTS {
-            self.grow(alloc, (len * 4).max(LEAST_SLOTS));
+        if self.count >= len / 4 && len < MOST_SLOTS {
+            self.grow(alloc, (len * 2).max(LEAST_SLOTS));
         }
         self.count = self.count.saturating_add(1);
         self.keep(known);
     }
 
-    /// Makes this many slots, where there is memory for them, which keep no series.
+    /// Makes this many slots, where there is memory for them, and keeps in them the series that are kept.
     fn grow(&mut self, alloc: Global, len: usize)
         ensures { KeptAmong self.new self.old }
     {
-        if let Ok(slots) = empty_slots(alloc, len) {
-            self.slots = slots;
-            self.count = 0;
+        let (Ok(slots), Ok(marks)) = (empty_slots(alloc, len), no_marks(alloc, len)) else {
+            return;
+        };
+        let mut before = mem::replace(&mut self.slots, slots);
+        self.marks = marks;
+        keep_each(self, &mut before);
+    }
+}
+
+/// Keeps the series of these slots, which are emptied.
+fn keep_each(table: &mut SeriesTable, slots: &mut Vec<Option<Box<KnownSeries>>>)
+    ensures { (s : Seen) → KeepsSeries s table.old → KeepsSeries s slots.old.items → KeepsSeries s table.new }
+{
+    for at in 0..slots.len() {
+        if let Some(known) = swap_at(slots, at, None) {
+            table.keep(known);
         }
     }
 }
@@ -138,6 +156,62 @@ fn empty_slots(alloc: Global, len: usize) -> Result<Vec<Option<Box<KnownSeries>>
         slots.push(None)?;
     }
     Ok(slots)
+}
+
+/// Marks of slots without a series.
+fn no_marks(alloc: Global, len: usize) -> Result<Vec<u32>, AllocError> {
+    let mut marks = Vec::new(alloc);
+    marks.resize(len, 0)?;
+    Ok(marks)
+}
+
+/// The slot that has the mark of a hash, where there is one.
+#[inline]
+fn marked_slot(marks: &[u32], hash: u64) -> Option<usize> {
+    slot_of(marks, hash, mark_of(hash))
+}
+
+/// A slot for a series of this hash, which is marked: one that has the mark already, or else an empty one, or that of another
+/// series.
+#[inline]
+fn slot_for(marks: &mut Vec<u32>, hash: u64) -> usize {
+    let mark = mark_of(hash);
+    if let Some(at) = slot_of(marks, hash, mark) {
+        return at;
+    }
+    let at = match slot_of(marks, hash, 0) {
+        Some(at) => at,
+        None => first_slot(hash, marks.len()),
+    };
+    if let Some(place) = marks.get_mut(at) {
+        *place = mark;
+    }
+    at
+}
+
+/// The slot of the bucket of a hash that has this mark, where there is one.
+#[inline]
+fn slot_of(marks: &[u32], hash: u64, mark: u32) -> Option<usize> {
+    let first = first_slot(hash, marks.len());
+    for step in 0..BUCKET {
+        let at = first ^ step;
+        if *marks.get(at)? == mark {
+            return Some(at);
+        }
+    }
+    None
+}
+
+/// The slot of a hash among this many, where there is one.
+#[inline]
+fn first_slot(hash: u64, len: usize) -> usize {
+    hash as usize & len.wrapping_sub(1)
+}
+
+/// The bits of a hash by which a slot is told from others of its bucket. They are never 0.
+#[inline]
+fn mark_of(hash: u64) -> u32 {
+    (hash >> 32) as u32 | 1
 }
 
 /// Takes a series of these texts out of a slot, where there is that slot. Another one stays there.
@@ -190,12 +264,6 @@ fn replace_at(
     ensures new { slots.new.items ≡ slice_set slots.old.items at slot }
 {
     mem::replace(&mut slots[at], slot)
-}
-
-/// The slot of a hash among this many, where there is one.
-#[inline]
-fn slot_of(hash: u64, len: usize) -> usize {
-    hash as usize & len.wrapping_sub(1)
 }
 
 /// A hash of the texts of a series.

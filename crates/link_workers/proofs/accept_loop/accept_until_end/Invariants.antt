@@ -1,0 +1,14 @@
+use Rattle.std.specs.Prelude.{◌≡◌, ◌≤◌}
+use Rattle.link_workers.specs.Accepting.{AddsUp, links_between, StillTells}
+use Rattle.link_workers.proofs.accept_loop.accept_until_end.Given as goal
+
+abbrev pub invariant-loop : goal.invariant-loop
+invariant-loop g l = record {
+  parts : l.share.parts ≡ l.fn.share.parts;
+  adds_up : AddsUp 0 (g.D.Doors.counts l.fn.doors) (g.D.Doors.counts l.doors) l.fn.share.amount l.share.amount;
+  links : l.links ≡ links_between (g.D.Doors.counts l.fn.doors) (g.D.Doors.counts l.doors);
+  tells : StillTells (g.D.Doors.waiting l.fn.doors) (g.D.Doors.waiting l.doors);
+  back : g.D.Doors.back l.doors ≡ g.D.Doors.back l.fn.doors;
+  stops : g.H.Halt.stops l.fn.halt ≤ g.H.Halt.stops l.halt;
+  faults : g.D.Doors.faults l.fn.doors ≤ g.D.Doors.faults l.doors;
+}

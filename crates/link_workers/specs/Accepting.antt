@@ -1,0 +1,40 @@
+-- What accepting comes to, in the numbers that doors tell and in how many were put into the queues.
+use Rattle.std.specs.Prelude.{ℕ, ◌+◌, ◌-◌, ◌^◌, ◌≤◌, ◌≡◌, min, ⊤, List, [], Option, Some, None}
+use Rattle.link_workers.specs.declared.accept_loop.AcceptEnd.{AcceptEnd}
+use Rattle.link_workers.specs.declared.accept_loop.AcceptEnd.TheVariants.{NoneLeft, Stopped, DoorFault, OutOfMemory}
+use Rattle.tsd_io.specs.Causes.{Rose}
+use Rattle.tsd_doors.specs.Links.{Counts}
+
+-- as many more are out as were put; want of memory alone loses the one that was accepted last
+pub record AddsUp (lost : ℕ) (before now : Counts) (put_before put_now : ℕ) : Type 0 where
+  pub returned : now.returned ≡ before.returned
+  pub port : now.port ≡ before.port
+  pub more : before.out ≤ now.out
+  pub out : now.out + put_before ≡ before.out + put_now + lost
+
+-- how many more are out, up to the last value of a u64
+abbrev pub links_between : Counts → Counts → ℕ
+links_between before now = min (now.out - before.out) (2 ^ 64 - 1)
+
+-- how many accepted connections were lost where accepting ended so
+abbrev pub lost_by : AcceptEnd → ℕ
+lost_by NoneLeft = 0
+lost_by Stopped = 0
+lost_by DoorFault = 0
+lost_by OutOfMemory = 1
+
+-- where the doors tell which connections are left, they still do
+abbrev pub StillTells : Option (List (List ℕ)) → Option (List (List ℕ)) → Type 0
+StillTells None now = ⊤
+StillTells (Some before) now = (rest : List (List ℕ)) × (now ≡ Some rest)
+
+-- where the doors tell which connections are left, none is left any more
+abbrev pub IsNoneLeft : Option (List (List ℕ)) → Option (List (List ℕ)) → Type 0
+IsNoneLeft None now = ⊤
+IsNoneLeft (Some before) now = now ≡ Some []
+
+-- an end has its reason in what the doors tell is left, in how often the halt refused, and in how often the doors failed
+pub record HasReason (end : AcceptEnd) (waiting waiting_now : Option (List (List ℕ))) (stops stops_now faults faults_now : ℕ) : Type 0 where
+  pub none : end ≡ NoneLeft → IsNoneLeft waiting waiting_now
+  pub stopped : end ≡ Stopped → Rose stops stops_now
+  pub fault : end ≡ DoorFault → Rose faults faults_now

@@ -1,0 +1,95 @@
+//! A caller that asks for what another noted.
+ghost use Rattle.std.specs.Prelude.{◌≡◌, IfOk};
+ghost use Rattle.step_count.specs.Tokens.{counter_of_note, view_of_note};
+ghost use Rattle.cell_store.specs.CallerViews.{IsNote};
+
+use crate::new_regions::new_regions;
+use anyhow::{Result, anyhow};
+use cell_store::{NoGate, Site, SiteParts, StepNames};
+use json_reply::reply::reply_text;
+use point_put::{Config, put};
+use query_run::ask;
+use query_text::form_query::read_query_form;
+use std::alloc::Global;
+use std::marker::Brand;
+use std::sync::Wait;
+use step_count::Note;
+use tsd_base::point_text::read_point;
+use tsd_hooks::UidRule;
+use uid_table::Uids;
+
+/// One caller puts a point and gives a note, another sees what the note tells and asks: the text of the reply.
+pub fn noted_reply<T: Wait>(rt: &T, alloc: Global, rule: &UidRule) -> Result<Vec<u8>> {
+    let regions = new_regions(alloc)?;
+    let parts = SiteParts::make(alloc, regions, NoGate)?;
+    over::<Brand, T>(rt, alloc, parts, rule)
+}
+
+/// The same, over the parts of a site.
+fn over<J: StepNames, T: Wait>(
+    rt: &T,
+    alloc: Global,
+    parts: SiteParts<NoGate>,
+    rule: &UidRule,
+) -> Result<Vec<u8>>
+    requires counter { parts.counter ≡ J.counter }
+    requires name { parts.name ≡ J.name }
+{
+    let site = parts.named::<J>();
+    let note = put_noted(rt, alloc, &site, rule)?;
+    ask_noted(rt, alloc, &site, note)
+}
+
+/// A new caller puts a point, and notes what it has seen.
+fn put_noted<J: StepNames, T: Wait>(
+    rt: &T,
+    alloc: Global,
+    site: &Site<J, NoGate>,
+    rule: &UidRule,
+) -> Result<Note>
+    ensures counter { IfOk result (λ note. counter_of_note note ≡ J.counter) }
+    ensures note { IfOk result (λ note. IsNote J.name (view_of_note note)) }
+{
+    let pass = site.open_pass(rt)?;
+    let Ok(mut names) = Uids::over(alloc, pass, 1) else {
+        return Err(anyhow!("out of memory"));
+    };
+    let Ok(point) = read_point(alloc, b"m 1356998400 5 h=a") else {
+        return Err(anyhow!("no point"));
+    };
+    let config = Config {
+        auto_metric: true,
+        auto_tag_key: true,
+        auto_tag_value: true,
+    };
+    if put(alloc, &mut names, rule, &config, &point).is_err() {
+        return Err(anyhow!("not stored"));
+    }
+    let mut pass = names.part();
+    Ok(pass.note())
+}
+
+/// A new caller sees what a note tells, and asks.
+fn ask_noted<J: StepNames, T: Wait>(
+    rt: &T,
+    alloc: Global,
+    site: &Site<J, NoGate>,
+    note: Note,
+) -> Result<Vec<u8>>
+    requires counter { counter_of_note note ≡ J.counter }
+    requires note { IsNote J.name (view_of_note note) }
+{
+    let mut pass = site.open_pass(rt)?;
+    pass.meet(note);
+    let Ok(mut names) = Uids::over(alloc, pass, 1) else {
+        return Err(anyhow!("out of memory"));
+    };
+    let form = b"start=1356998400&end=1356998400&m=sum:m";
+    let Ok(query) = read_query_form(alloc, form, 0) else {
+        return Err(anyhow!("no query"));
+    };
+    match ask(alloc, &mut names, &query) {
+        Ok(reply) => Ok(reply_text(alloc, &reply)?),
+        Err(_) => Err(anyhow!("no reply")),
+    }
+}

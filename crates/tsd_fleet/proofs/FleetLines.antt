@@ -1,0 +1,194 @@
+-- The line of a fleet, why it ended, and the numbers of the store that it leaves.
+use Rattle.std.proofs.Common.{◌≡◌, ℕ, ◌+◌, ◌-◌, ◌^◌, ◌≤◌, List, [], ◌∷◌, length, take, drop, inl, inr, refl, sym, subst, ap, ◌∙◌, take-append-drop, append-nil, arith}
+use Rattle.std.specs.Prelude.{◌≢◌, Bool, Option, Some, Result, IfOk, min, filter, map}
+use Rattle.std.specs.Option.{option_map_or}
+use Rattle.std.specs.Int.{w64, from_be_bytes}
+use Rattle.std.specs.List.{list_any}
+use Rattle.std.specs.FinMap.{empty, entries, from_entries, keys, len-empty, len-entries}
+use Rattle.std.specs.Io.KnownBytes.{Appends}
+use Rattle.std.proofs.KnownBytes.{Appends-nil}
+use Rattle.tsd_io.specs.Causes.{Rose}
+use Rattle.tsd_doors.specs.Links.{Counts, Shut, accepted}
+use Rattle.tsd_base.specs.declared.kinds.Kind.{Kind}
+use Rattle.tsd_base.specs.declared.kinds.Kind.TheVariants.{Metric, TagKey, TagValue}
+use Rattle.link_workers.specs.declared.accept_loop.AcceptEnd.{AcceptEnd}
+use Rattle.link_workers.specs.declared.accept_loop.AcceptEnd.TheVariants as accept_end
+use Rattle.link_workers.specs.Accepting.{HasReason, IsNoneLeft, lost_by}
+use Rattle.cell_model.specs.declared.answers.Tally.{Tally}
+use Rattle.cell_model.specs.declared.row.Row.{Row}
+use Rattle.cell_model.specs.PlaceOrder.{place_cmp}
+use Rattle.cell_model.specs.declared.events.Place.{Place}
+use Rattle.cell_model.specs.declared.events.Content.{Content}
+use Rattle.cell_model.specs.Store.{Store, row_cmp}
+use lib.ListN.{length-map}
+use Rattle.cell_model.specs.Machine.{counter_of, counter_row, kind_qual}
+use Rattle.cell_model.specs.Counts.{point_entries, point_rows}
+use Rattle.cell_model.specs.History.History.{Base}
+use Rattle.cell_model.specs.Seen.{Seen}
+use Rattle.cell_region.specs.DividedStore.{DividedStore}
+use Rattle.step_count.specs.declared.view.Named.{Named}
+use Rattle.step_count.specs.CounterRule.{store_in}
+use Rattle.cell_store.specs.SiteEnds.{EndsAt}
+use Rattle.lone_store.proofs.CallerLemmas.{empty_base, no_cell}
+use Rattle.point_put.specs.Admissions.{Admission}
+use Rattle.tsd_daemon.specs.declared.served.Served.{Served}
+use Rattle.tsd_fleet.specs.declared.fleet_end.FleetEnd.{FleetEnd}
+use Rattle.tsd_fleet.specs.declared.fleet_end.FleetEnd.TheVariants as end
+use Rattle.tsd_fleet.specs.FleetStands.{FleetStands, Gathered, SiteCounts}
+use Rattle.tsd_fleet.specs.FleetServes.{BeginsToListen, CountsLinks, FleetServes, HasFleetReason, HasListened, IsListenFault, IsTally, Listens, is_die, listening_line}
+use Rattle.tsd_fleet.proofs.GatheredLinks.{none_back, stands}
+
+-- ---- the line
+
+-- a front of the line was written
+pub begins_front : (held held' : Option (List ℕ)) (now : Counts) (bound n : ℕ) (piece : List ℕ) → now.port ≡ Some bound → piece ≡ listening_line bound → Appends held held' (take n piece) → BeginsToListen held held' now
+begins_front held held' now bound n piece port is more = (take n piece, more, inr (bound, drop n piece, port, take-append-drop n piece ∙ is))
+
+-- nothing was written
+pub begins_nothing : (held : Option (List ℕ)) (now : Counts) → BeginsToListen held held now
+begins_nothing held now = ([], Appends-nil held, inl refl)
+
+-- the port stays
+pub listens_still : (held held' : Option (List ℕ)) (x y : Counts) → y.port ≡ x.port → Listens held held' x → Listens held held' y
+listens_still held held' x y same l = (l.0, same ∙ l.1, l.2)
+
+pub begins_still : (held held' : Option (List ℕ)) (x y : Counts) → y.port ≡ x.port → BeginsToListen held held' x → BeginsToListen held held' y
+begins_still held held' x y same (given, more, inl none) = (given, more, inl none)
+begins_still held held' x y same (given, more, inr (port, rest, is, front)) = (given, more, inr (port, rest, same ∙ is, front))
+
+-- ---- why it ended
+
+-- an end that lost no connection
+not_lost : (e : AcceptEnd) (r : FleetEnd) → (e ≡ accept_end.OutOfMemory → r ≡ end.OutOfMemory) → r ≢ end.OutOfMemory → lost_by e ≡ 0
+not_lost accept_end.NoneLeft r memory other = refl
+not_lost accept_end.Stopped r memory other = refl
+not_lost accept_end.DoorFault r memory other = refl
+not_lost accept_end.OutOfMemory r memory other = absurd (other (memory refl))
+
+pub counts_links : (e : AcceptEnd) (r : FleetEnd) (links ends : ℕ) (x y : Counts) → (e ≡ accept_end.OutOfMemory → r ≡ end.OutOfMemory) → SiteCounts e links ends x y → CountsLinks r links ends x y
+counts_links e r links ends x y memory s = record { links_are = s.links_are; returned = s.returned; all = λ other. s.all (not_lost e r memory other) }
+
+-- the port alone changed before
+pub counts_from : (r : FleetEnd) (links ends : ℕ) (x y z : Counts) → y.returned ≡ x.returned → y.out ≡ x.out → CountsLinks r links ends y z → CountsLinks r links ends x z
+counts_from r links ends x y z returned out c = record {
+  links_are = c.links_are ∙ ap (λ n. min (accepted z - n) (2 ^ 64 - 1)) same;
+  returned = c.returned ∙ ap (λ n. n + ends) returned;
+  all = λ other. c.all other ∙ ap (λ n. n + ends) same;
+}
+  where
+    same : accepted y ≡ accepted x
+    same = omega (arith, returned, out)
+
+-- no connection was accepted
+pub counts_none : (r : FleetEnd) (x y : Counts) → y.returned ≡ x.returned → y.out ≡ x.out → CountsLinks r 0 0 x y
+counts_none r x y returned out = record { links_are = none; returned = omega (arith, returned); all = λ other. omega (arith, returned, out) }
+  where
+    none : 0 ≡ min (accepted y - accepted x) (2 ^ 64 - 1)
+    none = omega (arith, returned, out)
+
+pub fleet_reason : (e : AcceptEnd) (r : FleetEnd) (ends : List Served) (w w' : Option (List (List ℕ))) (s s' d d' k k' : ℕ) → (r ≡ end.Closed → (e ≡ accept_end.NoneLeft) × (list_any is_die ends ≡ Bool.false))
+    → (r ≡ end.Died → (e ≡ accept_end.NoneLeft) × (list_any is_die ends ≡ Bool.true)) → (r ≡ end.Stopped → e ≡ accept_end.Stopped) → (r ≡ end.DoorFault → e ≡ accept_end.DoorFault) → r ≢ end.WriteFault
+    → HasReason e w w' s s' d d' → HasFleetReason r ends w w' s s' d d' k k'
+fleet_reason e r ends w w' s s' d d' k k' closed died stopped door no_write reason = record {
+  closed = λ is. (reason.none (closed is).0, (closed is).1);
+  died = λ is. (reason.none (died is).0, (died is).1);
+  stopped = λ is. reason.stopped (stopped is);
+  door_fault = λ is. reason.fault (door is);
+  write_fault = λ is. absurd (no_write is);
+}
+
+-- the same ends
+pub reason_as : (r : FleetEnd) (ends ends' : List Served) (w w' : Option (List (List ℕ))) (s s' d d' k k' : ℕ) → ends ≡ ends' → HasFleetReason r ends w w' s s' d d' k k' → HasFleetReason r ends' w w' s s' d d' k k'
+reason_as r ends ends' w w' s s' d d' k k' same reason = subst (λ (l : List Served). HasFleetReason r l w w' s s' d d' k k') same reason
+
+-- what was before the accepting changed no more than how often the doors failed
+pub reason_from : (r : FleetEnd) (ends : List Served) (v w w' : Option (List (List ℕ))) (s s' c d d' k k' : ℕ) → w ≡ v → c ≤ d → HasFleetReason r ends w w' s s' d d' k k' → HasFleetReason r ends v w' s s' c d' k k'
+reason_from r ends v w w' s s' c d d' k k' same le reason = record {
+  closed = λ is. (subst (λ (o : Option (List (List ℕ))). IsNoneLeft o w') same (reason.closed is).0, (reason.closed is).1);
+  died = λ is. (subst (λ (o : Option (List (List ℕ))). IsNoneLeft o w') same (reason.died is).0, (reason.died is).1);
+  stopped = λ is. reason.stopped is;
+  door_fault = λ is. later (reason.door_fault is);
+  write_fault = λ is. reason.write_fault is;
+}
+  where
+    later : Rose d d' → Rose c d'
+    later rose = omega (arith, le, rose)
+
+-- listening failed
+pub fault_reason : (r : FleetEnd) (ends : List Served) (w w' : Option (List (List ℕ))) (s s' d d' k k' : ℕ) → IsListenFault r d d' k k' → HasFleetReason r ends w w' s s' d d' k k'
+fault_reason r ends w w' s s' d d' k k' fault = record {
+  closed = λ is. absurd (subst (λ (e : FleetEnd). IsListenFault e d d' k k') is fault);
+  died = λ is. absurd (subst (λ (e : FleetEnd). IsListenFault e d d' k k') is fault);
+  stopped = λ is. absurd (subst (λ (e : FleetEnd). IsListenFault e d d' k k') is fault);
+  door_fault = λ is. subst (λ (e : FleetEnd). IsListenFault e d d' k k') is fault;
+  write_fault = λ is. subst (λ (e : FleetEnd). IsListenFault e d d' k k') is fault;
+}
+
+pub fault_listened : (r : FleetEnd) (held held' : Option (List ℕ)) (now : Counts) (d d' k k' : ℕ) → IsListenFault r d d' k k' → BeginsToListen held held' now → HasListened r held held' now
+fault_listened r held held' now d d' k k' fault begun = record {
+  closed = λ is. absurd (subst (λ (e : FleetEnd). IsListenFault e d d' k k') is fault);
+  died = λ is. absurd (subst (λ (e : FleetEnd). IsListenFault e d d' k k') is fault);
+  stopped = λ is. absurd (subst (λ (e : FleetEnd). IsListenFault e d d' k k') is fault);
+  begun = begun;
+}
+
+pub has_listened : (r : FleetEnd) (held held' : Option (List ℕ)) (now : Counts) → Listens held held' now → HasListened r held held' now
+has_listened r held held' now l = record {
+  closed = λ is. l;
+  died = λ is. l;
+  stopped = λ is. l;
+  begun = (listening_line l.0, l.2, inr (l.0, [], l.1, append-nil (listening_line l.0)));
+}
+
+-- ---- the store that is left
+
+no_elements : {X : Type 0} (xs : List X) → length xs ≡ 0 → xs ≡ []
+no_elements [] none = refl
+no_elements (x ∷ xs) none = absurd (omega (arith, none))
+
+no_counter : (kind : Kind) → counter_of empty kind ≡ 0
+no_counter kind = ap (λ (o : Option (List ℕ)). option_map_or (from_be_bytes w64) o 0) (no_cell counter_row (kind_qual kind))
+
+no_point_cells : point_entries empty ≡ []
+no_point_cells = ap (filter _) (no_elements (entries (empty {R = place_cmp})) (sym (len-entries (empty {R = place_cmp})) ∙ len-empty place_cmp _))
+
+no_point_rows : length (point_rows empty) ≡ 0
+no_point_rows =
+    ap (λ (es : List (Place × Content)). length (keys (from_entries {R = row_cmp} (map (λ (e : Place × Content). (e.0.row, e.0.qual)) es)))) no_point_cells
+    ∙ length-map (entries (empty {K = Row} {X = List ℕ} {R = row_cmp})) (λ (e : Row × List ℕ). e.0) ∙ sym (len-entries (empty {R = row_cmp})) ∙ len-empty row_cmp _
+
+-- the numbers of the store without a cell
+pub empty_tally : (tally : Tally) → tally.ids ≡ 0 ∷ 0 ∷ 0 ∷ [] → tally.point_rows ≡ 0 → tally.point_cells ≡ 0 → IsTally empty tally
+empty_tally tally ids rows cells = record {
+  ids = ids ∙ sym (rw (no_counter Metric, no_counter TagKey, no_counter TagValue) refl);
+  rows = rows ∙ sym no_point_rows;
+  cells = cells ∙ sym (ap length no_point_cells);
+}
+
+-- the site's history is one in which all was served
+pub fleet_serves : (T U : Type 0) (c : Admission) (moments : Option (List ℕ)) (s : Seen) (name given : Named) (d : DividedStore) (back back' : Option (List Shut)) (faults faults' : ℕ) (ends : List Served) (tally : Tally)
+    → given ≡ name → EndsAt name s d → Gathered T U c moments s back back' faults faults' ends → IsTally d.content tally → FleetServes T U c moments (store_in given) back back' faults faults' ends tally
+fleet_serves T U c moments s name given d back back' faults faults' ends tally same e g t = record {
+  store = d.content;
+  stands = stands T U c moments s (store_in given) d.content back back' faults faults' ends e.history e.lawful e.fits (e.base_is ∙ sym (ap store_in same)) e.store_is g;
+  tally_is = t;
+}
+
+-- another name of the base
+pub fleet_over : (T U : Type 0) (c : Admission) (moments : Option (List ℕ)) (base other : Store) (back back' : Option (List Shut)) (faults faults' : ℕ) (ends : List Served) (tally : Tally)
+    → base ≡ other → FleetServes T U c moments base back back' faults faults' ends tally → FleetServes T U c moments other back back' faults faults' ends tally
+fleet_over T U c moments base other back back' faults faults' ends tally same f = subst (λ (b : Store). FleetServes T U c moments b back back' faults faults' ends tally) same f
+
+pub fleet_over_ok : {D E : Type 0} (T U : Type 0) (c : Admission) (moments : Option (List ℕ)) (base other : Store) (back back' : Option (List Shut)) (faults faults' : ℕ) (ends : D → List Served) (tally : D → Tally) (r : Result D E)
+    → base ≡ other → IfOk r (λ s. FleetServes T U c moments base back back' faults faults' (ends s) (tally s)) → IfOk r (λ s. FleetServes T U c moments other back back' faults faults' (ends s) (tally s))
+fleet_over_ok T U c moments base other back back' faults faults' ends tally r same f = subst (λ (b : Store). IfOk r (λ s. FleetServes T U c moments b back back' faults faults' (ends s) (tally s))) same f
+
+-- nothing was served
+pub fleet_none : (T U : Type 0) (c : Admission) (moments : Option (List ℕ)) (back back' : Option (List Shut)) (faults faults' : ℕ) (ends : List Served) (tally : Tally) → back' ≡ back → faults' ≡ faults → ends ≡ [] → IsTally empty tally
+    → FleetServes T U c moments empty back back' faults faults' ends tally
+fleet_none T U c moments back back' faults faults' ends tally same still none t = record {
+  store = empty;
+  stands = subst (λ (o : Option (List Shut)). FleetStands T U c moments empty empty back o faults faults' ends) (sym same) (subst (λ (n : ℕ). FleetStands T U c moments empty empty back back faults n ends) (sym still)
+      (none_back T U c moments (Base empty) empty back faults ends empty_base refl refl none));
+  tally_is = t;
+}

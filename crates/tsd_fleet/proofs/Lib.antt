@@ -1,0 +1,3 @@
+mod ServedTurns
+mod GatheredLinks
+mod FleetLines

@@ -1,0 +1,3 @@
+pub mod ServedLinks
+pub mod FleetStands
+pub mod FleetServes

@@ -1,0 +1,81 @@
+-- What one worker serves, connection by connection, as a fact of the store's history.
+use Rattle.std.specs.Prelude.{◌≡◌, ℕ, ◌^◌, ◌<◌, ◌≤◌, min, ◌-◌, Bool, true, false, ⊤, List, [], ◌∷◌, ◌++◌, length, filter, Option, None, Some, IsSome}
+use Rattle.std.specs.Io.KnownBytes.{IsAtEnd}
+use Rattle.tsd_doors.specs.Links.{Shut}
+use Rattle.cell_model.specs.History.{History}
+use Rattle.cell_model.specs.Seen.{Seen, InEach}
+use Rattle.point_put.specs.Admissions.{Admission}
+use Rattle.tsd_daemon.specs.declared.served.Served.{Served}
+use Rattle.tsd_daemon.specs.declared.served.Served.TheVariants as answer
+use Rattle.tsd_daemon.specs.ConnClocks.{Gave}
+use Rattle.tsd_daemon.specs.ServedConns.{IsServed}
+
+-- a connection that was shut, as its two ends tell of it, and how it ended
+abbrev pub ServedLink : Type 0
+ServedLink = Shut × Served
+
+-- no name is given an id when a point is put
+abbrev pub no_names : Admission
+no_names = record { config = record { auto_metric = false; auto_tag_key = false; auto_tag_value = false }; patterns = record { metric = None; tag_key = None; tag_value = None } }
+
+-- each end of this kind tells its bytes
+abbrev pub AllTell : {E : Type 0} → (E → Option (List ℕ)) → Type 0
+AllTell bytes = (end : _) → IsSome (bytes end)
+
+-- a clock that had these moments to give at first gave these ones, at some time
+pub record GaveSome (moments : Option (List ℕ)) (times : List ℕ) : Type 0 where
+  pub earlier : List ℕ
+  pub before : Option (List ℕ)
+  pub after : Option (List ℕ)
+  pub until : Gave moments earlier before
+  pub then_ : Gave before times after
+
+-- A connection ends so only for its cause, where it gave so many bytes: at its end no byte of it is left, its source or its sink failed, or it was too long. It
+-- never ends because a step of its caller was stopped.
+abbrev pub HasEndCause : Shut → ℕ → Served → Type 0
+HasEndCause shut count answer.End = IsAtEnd shut.left
+HasEndCause shut count answer.ReadFault = 0 < shut.source_faults
+HasEndCause shut count answer.WriteFault = 0 < shut.sink_faults
+HasEndCause shut count answer.SessionFull = count ≡ 2 ^ 40
+HasEndCause shut count answer.Stopped = ⊥
+HasEndCause shut count other = ⊤
+
+-- One caller of the history served the connection between two lengths, to its end, with the bytes that were taken of it and those that were given to it, and with
+-- moments that its clock gave. What it was asked and how it was answered is what IsServed says.
+pub record LinkServed (inlets_tell outlets_tell : Type 0) (c : Admission) (moments : Option (List ℕ)) (h : History) (caller n n2 : ℕ) (link : ServedLink) : Type 0 where
+  pub input : List ℕ
+  pub output : List ℕ
+  pub times : List ℕ
+  pub taken : inlets_tell → link.0.taken ≡ Some input
+  pub given : outlets_tell → link.0.held ≡ Some output
+  pub clock : GaveSome moments times
+  pub served : IsServed c h caller n n2 input output times link.1
+  pub cause : HasEndCause link.0 (length input) link.1
+
+-- One caller of the history served these connections, one after the other: each from a length on that is at or above the one up to which it served the connection
+-- before it, and the last of them up to no more than this one. So no two of them share a place of the history.
+pub data ServedInTurn (inlets_tell outlets_tell : Type 0) (c : Admission) (moments : Option (List ℕ)) (h : History) (caller : ℕ) : List ServedLink → ℕ → Type 0 where
+  none_yet : (last : ℕ) → ServedInTurn inlets_tell outlets_tell c moments h caller [] last
+  then_served : {links : List ServedLink} {before n n2 last : ℕ} (link : ServedLink) → ServedInTurn inlets_tell outlets_tell c moments h caller links before → before ≤ n → n ≤ n2 → n2 ≤ last
+      → LinkServed inlets_tell outlets_tell c moments h caller n n2 link → ServedInTurn inlets_tell outlets_tell c moments h caller (links ++ link ∷ []) last
+
+-- how many of the connections ended because the clock failed
+abbrev pub is_clock_fault : Served → Bool
+is_clock_fault answer.ClockFault = true
+is_clock_fault other = false
+
+abbrev pub clock_fault_count : List ServedLink → ℕ
+clock_fault_count links = length (filter (λ (l : ServedLink). is_clock_fault l.1) links)
+
+-- no more connections than this ended because the clock failed, unless the count stands at the last u64
+abbrev pub ClockFaultsWithin : List ServedLink → ℕ → Type 0
+ClockFaultsWithin links faults = min (clock_fault_count links) (2 ^ 64 - 1) ≤ faults
+
+-- What a worker promises of the connections that it served, where its caller has seen this, it gives ids by this admission, and its clock has these moments to give
+-- and failed so often: it served them in turn, in each lawful history that fits.
+pub record WorkerServed (inlets_tell outlets_tell : Type 0) (c : Admission) (first : Option (List ℕ)) (by : Admission) (s : Seen) (now : Option (List ℕ)) (faults : ℕ) (links : List ServedLink) : Type 0 where
+  pub same : by ≡ c
+  pub served : InEach s (λ h. ServedInTurn inlets_tell outlets_tell c first h s.caller links s.length)
+  pub times : List ℕ
+  pub clock : Gave first times now
+  pub clock_faults : ClockFaultsWithin links faults

@@ -1,0 +1,15 @@
+//! A fleet of workers over one site that serve connections, each on a thread of its own: each connection is served in the site's one history.
+#![tactic(auto)]
+
+pub mod conn_terms;
+pub mod conn_worker;
+pub mod fleet;
+pub mod fleet_end;
+mod listening;
+mod site_service;
+pub mod unstopped_rows;
+mod worker_return;
+mod worker_seats;
+
+pub use fleet::{Fleet, FleetDone, serve};
+pub use fleet_end::FleetEnd;
