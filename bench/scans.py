@@ -55,4 +55,5 @@ def main():
                 print(f"| {series} | {points} | `{query}` | {taken * 1e3:.1f} | {least * 1e3:.1f} | {taken / least:.2f} |", flush=True)
 
 
-main()
+if __name__ == "__main__":
+    main()

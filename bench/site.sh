@@ -11,11 +11,11 @@ set -euo pipefail
 
 runs=${1:-5}
 processors=${2:-0,1}
-prepare site 'anyhow tsd_base tsd_hooks cell_model cell_region cell_store uid_table point_put' \
+prepare site 'anyhow tsd_base tsd_hooks cell_model cell_region cell_store uid_table point_put lone_store' \
     list_lemmas short_bytes guess_table row_key qual_codec packed_cells row_pages tsd_base tsd_hooks tsd_io cell_model cell_laws cell_parts \
-    step_count map_body cell_region cell_store uid_table point_put
+    step_count map_body cell_region cell_solo cell_store uid_table fused lone_store point_put
 # The regions of an empty store, with their proof, are those of site_stress.
-for file in src/new_regions.rt proofs/Lib.antt proofs/EmptyBase.antt proofs/new_regions/new_regions/Answers.antt; do
+for file in src/new_regions.rt proofs/new_regions/new_regions/Answers.antt; do
     mkdir -p "$(dirname "$folder/crates/site_bench/$file")"
     sed 's/site_stress/site_bench/g' "$top/crates/site_stress/$file" >"$folder/crates/site_bench/$file"
 done

@@ -20,7 +20,7 @@ use crate::series_text::{SeriesText, text_of};
 use crate::text_parts::{TextParts, parts_of};
 use cell_model::Rows;
 use cell_model::answers::RowsFault;
-use guess_table::Guesses;
+use guess_table::{Guesses, Round};
 use indexmap::IndexMap;
 use line_stream::line::is_blank;
 use std::alloc::{AllocError, Global};
@@ -41,6 +41,8 @@ pub struct Gathered {
     series: IndexMap<((Name, Tags), bool), PendingSeries>,
     // Where a series may be, by a hash of its text.
     places: Guesses<u32>,
+    // Which series may come next.
+    round: Round,
 }
 
 impl Model for Gathered {
@@ -63,6 +65,7 @@ impl Gathered {
         Gathered {
             series: IndexMap::new(alloc),
             places: Guesses::make(alloc),
+            round: Round::make(),
         }
     }
 
@@ -90,9 +93,30 @@ impl Gathered {
         }
     }
 
-    /// Reads a text of these parts.
+    /// Reads a text of these parts, of the series that comes next or of any other.
     #[inline]
     fn add_parts<R: Rows + Drop>(
+        &mut self,
+        alloc: Global,
+        store: &mut Uids<R>,
+        rule: &UidRule,
+        text: &[u8],
+        parts: &TextParts<'_>,
+    ) -> Result<LineOutcome, RowsFault>
+        requires allows { AllowsAll rule.now.patterns }
+        requires parts { HasTextParts text.now parts.now }
+        ensures adds { IfOk result (λ outcome. AddsText (so_far (R.seen store.old) self.old) (judged_point (point_of text.now)) outcome (so_far (R.seen store.new) self.new)) }
+        ensures stops { CountsStops is_stop result (R.stops store.old) (R.stops store.new) }
+    {
+        match self.add_next(parts) {
+            Ok(true) => Ok(LineOutcome::Taken),
+            Ok(false) => self.add_other(alloc, store, rule, text, parts),
+            Err(AllocError) => Err(RowsFault::OutOfMemory),
+        }
+    }
+
+    /// Reads a text of these parts, of any series.
+    fn add_other<R: Rows + Drop>(
         &mut self,
         alloc: Global,
         store: &mut Uids<R>,
@@ -113,6 +137,18 @@ impl Gathered {
         }
     }
 
+    /// Adds the value of the parts of a text, where its series is the one that comes next; the answer says whether it is. It fails
+    /// only for want of memory.
+    #[inline]
+    fn add_next(&mut self, parts: &TextParts<'_>) -> Result<bool, AllocError>
+        ensures { IfOk result (λ known. AddsKnown parts.now self.old known self.new) }
+    {
+        match self.round.guess() {
+            Some(at) => self.add_at(at, parts),
+            None => Ok(false),
+        }
+    }
+
     /// Adds the value of the parts of a text, where its series is found by them; the answer says whether it is. It fails only for
     /// want of memory.
     #[inline]
@@ -120,9 +156,19 @@ impl Gathered {
         ensures { IfOk result (λ known. AddsKnown parts.now self.old known self.new) }
     {
         match self.places.guess(hash) {
-            Some(at) => push_known(&mut self.series, at as usize, parts),
+            Some(at) => self.add_at(at, parts),
             None => Ok(false),
         }
+    }
+
+    /// Adds the value of the parts of a text to the series at a place, where it is known by them; the answer says whether it is. It
+    /// fails only for want of memory.
+    #[inline]
+    fn add_at(&mut self, at: u32, parts: &TextParts<'_>) -> Result<bool, AllocError>
+        ensures { IfOk result (λ known. AddsKnown parts.now self.old known self.new) }
+    {
+        self.round.came(at);
+        push_known(&mut self.series, at as usize, parts)
     }
 
     /// Reads a text as a point, and keeps the text by which its series is known, where there is one.
@@ -180,7 +226,7 @@ impl Gathered {
         let _ = tags.pairs();
         let series = ((metric, tags), fine);
         if let Some(at) = place_of(&self.series, &series) {
-            keep_place(&mut self.places, hash, at);
+            keep_place(&mut self.places, &mut self.round, hash, at);
             let Ok(()) = push_at(&mut self.series, &series, at, time, value, known) else {
                 return Err(RowsFault::OutOfMemory);
             };
@@ -213,7 +259,7 @@ impl Gathered {
         let pending = PendingSeries::make(alloc, time, value, known)?;
         self.series.insert(series, pending)?;
         self.places.grow(at + 1, 0);
-        keep_place(&mut self.places, hash, at);
+        keep_place(&mut self.places, &mut self.round, hash, at);
         Ok(())
     }
 
@@ -222,7 +268,11 @@ impl Gathered {
         ensures values { all_values result.entries ≡ self }
         ensures found { All (λ e. values_in self e.0 ≡ Found e.1) self }
     {
-        let Gathered { series, places: _ } = self;
+        let Gathered {
+            series,
+            places: _,
+            round: _,
+        } = self;
         // For the proof: no two series are the same.
         let _ = series.iter();
         series
@@ -246,10 +296,11 @@ fn push_known(
     }
 }
 
-/// Remembers where a series is.
-fn keep_place(places: &mut Guesses<u32>, hash: u64, at: usize) {
+/// Remembers where a series is that came.
+fn keep_place(places: &mut Guesses<u32>, round: &mut Round, hash: u64, at: usize) {
     if let Ok(at) = u32::try_from(at) {
         places.keep(hash, at);
+        round.came(at);
     }
 }
 

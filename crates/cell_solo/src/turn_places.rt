@@ -6,7 +6,7 @@ ghost use Rattle.cell_solo.specs.TurnPlaces.{GoesOn, IsWithin, AreWithin, named_
 
 use crate::turn_bytes::{write, write_names};
 use cell_model::row::Row;
-use guess_table::{Guesses, hash_bytes};
+use guess_table::{Guesses, Round, hash_bytes};
 use row_key::{HOUR_MILLIS, Table};
 use std::alloc::{AllocError, Global};
 use std::marker::Model;
@@ -37,6 +37,8 @@ pub struct Places {
     bytes: Vec<u8>,
     // The number of the place that a row had last, by the hash of the row's bytes.
     guesses: Guesses<u32>,
+    // Where points come round in the order of their places.
+    round: Round,
 }
 
 impl Model for Places {
@@ -59,6 +61,7 @@ impl Places {
             list: Vec::new(alloc),
             bytes: Vec::new(alloc),
             guesses: Guesses::make(alloc),
+            round: Round::make(),
         }
     }
 
@@ -76,7 +79,7 @@ impl Places {
         self.bytes.reserve(bytes)
     }
 
-    /// The number of the place of this point and row: the last one or the one that is guessed, where names, hour and row are the
+    /// The number of the place of this point and row: the last one or one that is guessed, where names, hour and row are the
     /// same, else a new one. The room is that of the row, and [`crate::turn_bytes::MOST_NAMES`] for the names.
     pub fn find_or_add(&mut self, point: &Point, row: &Row) -> u32
         requires spare { 1 ≤ self.old.spare }
@@ -86,12 +89,31 @@ impl Places {
         ensures kept { GoesOn self.old.list self.new.list }
         ensures spare { self.old.spare ≤ self.new.spare + 1 }
     {
+        let next = self.round.guess();
+        if let Some(number) = confirm(&self.list, &self.bytes, next, point, row) {
+            self.round.came(number);
+            return number;
+        }
         if is_last(&self.list, &self.bytes, point, row) {
             return (self.list.len() - 1) as u32;
         }
+        self.look_up(point, row)
+    }
+
+    /// The number of the place of this point and row: the one that is guessed by the row, where names, hour and row are the same,
+    /// else a new one.
+    fn look_up(&mut self, point: &Point, row: &Row) -> u32
+        requires spare { 1 ≤ self.old.spare }
+        requires room { 4352 + length row.now.bytes ≤ self.old.room }
+        requires fits { 4352 + length row.now.bytes < 2 ^ 32 }
+        ensures stands { slice_get self.new.list result ≡ Some (named_row_of (data_point point.now) row.now) }
+        ensures kept { GoesOn self.old.list self.new.list }
+        ensures spare { self.old.spare ≤ self.new.spare + 1 }
+    {
         let hash = hash_bytes(row.bytes.list());
         let guess = self.guesses.guess(hash);
         if let Some(number) = confirm(&self.list, &self.bytes, guess, point, row) {
+            self.round.came(number);
             return number;
         }
         let number = self.add(point, row);

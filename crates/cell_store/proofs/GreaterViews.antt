@@ -2,6 +2,7 @@
 use Rattle.std.proofs.Common.{◌≡◌, ◌⊎◌, inl, inr, ℕ, ◌+◌, ◌≤◌, max, true, false, List, [], ◌∷◌, ◌++◌, map, append-nil, refl, sym, ap, ◌∙◌, subst, arith}
 use Rattle.std.specs.Prelude.{Some, Contains}
 use Rattle.std.proofs.lemmas.List.Elements.{Contains-append_left, Contains-append_right}
+use mathlib.Core.List.{map-append}
 use Rattle.cell_model.specs.declared.events.Entry.{Entry}
 use Rattle.cell_model.specs.declared.events.Placed.{Placed}
 use Rattle.cell_model.specs.History.{History, entry_at}
@@ -10,9 +11,9 @@ use Rattle.cell_model.specs.Seen.{Seen, Saw, Waited, HasSeenOpening}
 use Rattle.cell_model.specs.Deeds.{placed, Extends}
 use Rattle.step_count.specs.declared.view.Named.{Named}
 use Rattle.step_count.specs.declared.view.View.{View}
-use Rattle.step_count.specs.CounterRule.{Log, opening, by_caller, Fits}
+use Rattle.step_count.specs.CounterRule.{Log, AreDifferent, numbers_in, opening, by_caller, Fits}
 use Rattle.step_count.specs.ViewSteps.{Lives, learned, met, first_named, opened, newcomer}
-use Rattle.cell_store.specs.CallerViews.{head_of, rest_of, base_in, seen_of, IsCaller, IsNote, Heard}
+use Rattle.cell_store.specs.CallerViews.{head_of, rest_of, base_in, numbers_of, seen_of, IsCaller, IsNote, Heard}
 use Rattle.cell_store.specs.SiteEnds.{took}
 use Rattle.cell_store.proofs.Lower.{nat_eq-refl, here, split, in_map, picked_has}
 use Rattle.cell_store.proofs.SeenViews.{own_in, own_seen}
@@ -152,15 +153,34 @@ caller_met name v l u w n c note is1 is2 le live =
           },
         )
 
+-- a caller's numbers are those of its view, and no two of them are one
+numbers_told : (name : Named) (v : View) → IsCaller name v → numbers_of (seen_of v) ≡ numbers_in v.callers
+numbers_told name v c = ap (λ (xs : List Log). head_of xs ∷ rest_of xs) c.callers ∙ sym (ap numbers_in c.callers)
+
+pub numbers_different : (name : Named) (v : View) → IsCaller name v → AreDifferent (numbers_of (seen_of v))
+numbers_different name v c = subst AreDifferent (sym (numbers_told name v c)) c.live.once
+
+-- the caller has its own numbers and then the other's, and no two of them are one
+pub record HasNumbers (v l w : View) : Type 0 where
+  pub numbers : numbers_of (seen_of w) ≡ numbers_of (seen_of v) ++ numbers_of (seen_of l)
+  pub different : AreDifferent (numbers_of (seen_of w))
+
+-- and so by other names
+pub different_as : (name : Named) (v : View) (s : Seen) → IsCaller name v → seen_of v ≡ s → AreDifferent (numbers_of s)
+different_as name v s c is = subst (λ (x : Seen). AreDifferent (numbers_of x)) is (numbers_different name v c)
+
+pub numbers_as : (own other own' other' : Seen) (now : List ℕ) → own ≡ own' → other ≡ other' → now ≡ numbers_of own ++ numbers_of other → now ≡ numbers_of own' ++ numbers_of other'
+numbers_as own other own' other' now own_is other_is are = are ∙ (λ i. numbers_of (own_is i) ++ numbers_of (other_is i))
+
 -- absorbing
 pub caller_absorbed : (name : Named) (v l u w : View) (n : ℕ) → IsCaller name v → IsCaller name l → u ≡ met v l → w ≡ learned u n → u.length ≤ n → Lives w
-    → IsCaller name w × Extends (seen_of v) (seen_of w) × Extends (seen_of l) (seen_of w) × (head_of w.callers ≡ head_of v.callers)
+    → IsCaller name w × Extends (seen_of v) (seen_of w) × Extends (seen_of l) (seen_of w) × (head_of w.callers ≡ head_of v.callers) × HasNumbers v l w
 caller_absorbed name v l u w n c o is1 is2 le live =
     let is : w ≡ learned (met v l) n = is2 ∙ ap (λ x. learned x n) is1 in
     let up : max v.length l.length ≤ n = subst (λ (x : View). x.length ≤ n) is1 le in
-    subst (λ (x : View). Lives x → IsCaller name x × Extends (seen_of v) (seen_of x) × Extends (seen_of l) (seen_of x) × (head_of x.callers ≡ head_of v.callers)) (sym is) (all up) live
+    subst (λ (x : View). Lives x → IsCaller name x × Extends (seen_of v) (seen_of x) × Extends (seen_of l) (seen_of x) × (head_of x.callers ≡ head_of v.callers) × HasNumbers v l x) (sym is) (all up) live
   where
-    all : max v.length l.length ≤ n → Lives (learned (met v l) n) → IsCaller name (learned (met v l) n) × Extends (seen_of v) (seen_of (learned (met v l) n)) × Extends (seen_of l) (seen_of (learned (met v l) n)) × (head_of (v.callers ++ l.callers) ≡ head_of v.callers)
+    all : max v.length l.length ≤ n → Lives (learned (met v l) n) → IsCaller name (learned (met v l) n) × Extends (seen_of v) (seen_of (learned (met v l) n)) × Extends (seen_of l) (seen_of (learned (met v l) n)) × (head_of (v.callers ++ l.callers) ≡ head_of v.callers) × HasNumbers v l (learned (met v l) n)
     all up live =
         let cu : IsCaller name (learned (met v l) n) = record { named = ap (λ b. first_named b l.named) c.named; free = (λ i. c.free i ++ o.free i); first = c.first; others = c.others ++ l.callers; callers = ap (λ (xs : List Log). xs ++ l.callers) c.callers; live = live } in
         let later = sub_learned (met v l) n up in (
@@ -168,6 +188,10 @@ caller_absorbed name v l u w n c o is1 is2 le live =
           extends_sub name v (learned (met v l) n) c cu (sub_trans v (met v l) (learned (met v l) n) (sub_met v l) later),
           extends_sub name l (learned (met v l) n) o cu (sub_trans l (met v l) (learned (met v l) n) (sub_other name v l c.named o.named) later),
           ap (λ (xs : List Log). head_of (xs ++ l.callers)) c.callers ∙ sym (ap head_of c.callers),
+          record {
+            numbers = numbers_told name (learned (met v l) n) cu ∙ map-append (λ (k : Log). k.0) v.callers l.callers ∙ (λ i. sym (numbers_told name v c) i ++ sym (numbers_told name l o) i);
+            different = numbers_different name (learned (met v l) n) cu;
+          },
         )
 
 -- opening

@@ -4,4 +4,4 @@ pub use Rattle.cell_model.proofs.CallerLemmas.{bump_full, bump_stamped, bump_the
 pub use Rattle.cell_parts.proofs.CallerLemmas.{history_apart, looks_in_one, parts_tell_store, replayed-snoc}
 pub use Rattle.list_lemmas.proofs.BoolTests.{nat_eq_is, nat_eq-refl}
 pub use Rattle.list_lemmas.proofs.ListMembers.{here, there, split, not_in, map_in, in_map}
-pub use Rattle.step_count.proofs.CallerLemmas.{picked_has, one_or_none, store_told}
+pub use Rattle.step_count.proofs.CallerLemmas.{numbers_extended, picked_has, one_or_none, store_told}

@@ -1,5 +1,5 @@
 -- One step under a region's lock.
-use Rattle.std.proofs.Common.{◌≡◌, ◌≢◌, ◌⊎◌, inl, inr, ℕ, ◌+◌, ◌≤◌, max, Bool, true, false, cond, List, [], ◌∷◌, ◌++◌, map, append-nil, refl, sym, ap, ◌∙◌, subst, arith, IsTrue}
+use Rattle.std.proofs.Common.{◌≡◌, ◌≢◌, ◌⊎◌, inl, inr, ℕ, ◌+◌, ◌≤◌, max, Bool, true, false, cond, List, [], ◌∷◌, ◌++◌, append-nil, refl, sym, ap, ◌∙◌, subst, arith, IsTrue}
 use Rattle.std.specs.Prelude.{Some, None, Option, IsSomeAnd, Contains, ◌==◌}
 use Rattle.std.proofs.lemmas.List.Elements.{Contains-append_cases, Contains-append_left, Contains-append_right}
 use Rattle.cell_model.specs.declared.row.Row.{Row}
@@ -20,12 +20,12 @@ use Rattle.cell_parts.specs.StoreParts.{is_in}
 use Rattle.row_key.specs.Regions.{region_number}
 use Rattle.step_count.specs.declared.view.Named.{Named}
 use Rattle.step_count.specs.declared.view.View.{View}
-use Rattle.step_count.specs.CounterRule.{Log, store_in, by_caller, in_region, Fits}
+use Rattle.step_count.specs.CounterRule.{Log, numbers_in, store_in, by_caller, in_region, Fits}
 use Rattle.step_count.specs.ViewSteps.{Lives, MayAdd, HasLicence, regions_in, added, extended, met, first_named, without_licence, licence_alone, without, only}
 use Rattle.cell_store.specs.CallerViews.{head_of, rest_of, seen_of, IsCaller, Replays}
 use Rattle.cell_store.specs.StepOrders.{Covered}
 use Rattle.cell_store.specs.StepEntries.{entry_of, InRange}
-use Rattle.cell_store.proofs.Lower.{claim_differs, here, known_is_allowed, looks_in_one, nat_eq-refl, nat_eq_is, not_in, one_or_none, picked_has, point_differs, replayed-snoc, split, there}
+use Rattle.cell_store.proofs.Lower.{claim_differs, here, known_is_allowed, looks_in_one, nat_eq-refl, nat_eq_is, not_in, numbers_extended, one_or_none, picked_has, point_differs, replayed-snoc, split, there}
 use Rattle.cell_store.proofs.SeenViews.{own_in, fits_seen, own_seen, possible}
 
 same_number : (n : ℕ) → (n == n) ≡ true
@@ -87,10 +87,6 @@ may_add name number content covers v l step reply c r mine range knows replied =
       subst (λ k. MayStep h k step) same (known_is_allowed (seen_of v) h step over.lawful (fits_seen name h v c.first c.others c.callers c.named over g) knows);
 }
 
-numbers_extended : (test : ℕ → Entry → Bool) (p : Placed) (ls : List Log) → map (λ (l : Log). l.0) (extended test p ls) ≡ map (λ (l : Log). l.0) ls
-numbers_extended test p [] = refl
-numbers_extended test p (l ∷ ls) = ap (λ (ns : List ℕ). l.0 ∷ ns) (numbers_extended test p ls)
-
 extended_has : (test : ℕ → Entry → Bool) (p : Placed) (ls : List Log) (c : ℕ) (log : List Placed) → Contains ls (c, log) → Contains (extended test p ls) (c, log ++ cond (test c p.entry) (p ∷ []) [])
 extended_has test p [] c log has = absurd (not_in (c, log) has)
 extended_has test p (l ∷ ls) c log has = at (split l (c, log) ls has) (extended_has test p ls c log)
@@ -149,6 +145,7 @@ module _ (name : Named) (number : ℕ) (content : Store) (covers : Row → Bool)
       fits = record { named = lives.fits.named; long = lives.fits.long; seen = lives.fits.seen; callers = lives.fits.callers; regions = λ r t a. absurd (not_in (r, t) a) };
       within = lives.within;
       whole = lives.whole;
+      once = lives.once;
     }
 
     caller_after : IsCaller name Unlicensed
@@ -165,7 +162,7 @@ module _ (name : Named) (number : ℕ) (content : Store) (covers : Row → Bool)
     }
 
     same_rest : rest_of Logs ≡ rest_of (first ∷ others)
-    same_rest = numbers_extended by_caller P (others ++ []) ∙ ap (map (λ (l : Log). l.0)) (append-nil others)
+    same_rest = numbers_extended by_caller P (others ++ []) ∙ ap numbers_in (append-nil others)
 
     -- an own entry that is seen now is the new one, or was seen
     own_after : (q : ℕ) (x : Entry) → Contains (P ∷ (vs ++ ls)) (placed q x) → IsOwn (seen_of V) x.caller → q ≢ place → Saw (seen_of V) q x

@@ -1,5 +1,5 @@
 -- What lies under a region's lock, and what a pass has seen.
-use Rattle.std.specs.Prelude.{◌≡◌, ℕ, ◌≤◌, Bool, false, Contains, List, [], ◌∷◌, map, Some, None}
+use Rattle.std.specs.Prelude.{◌≡◌, ℕ, ◌≤◌, Bool, false, Contains, List, [], ◌∷◌, Some, None}
 use Rattle.std.specs.declared.option.Option.{Option}
 use Rattle.std.specs.FinMap.{empty}
 use Rattle.atomic_table.specs.Seated.{TableId}
@@ -11,7 +11,7 @@ use Rattle.cell_parts.specs.StoreParts.{part, replayed}
 use Rattle.cell_parts.specs.StoreParts.{is_in}
 use Rattle.step_count.specs.declared.view.Named.{Named}
 use Rattle.step_count.specs.declared.view.View.{View}
-use Rattle.step_count.specs.CounterRule.{Log, store_in}
+use Rattle.step_count.specs.CounterRule.{Log, store_in, numbers_in}
 use Rattle.step_count.specs.ViewSteps.{Lives}
 
 -- a counter that is none
@@ -26,7 +26,7 @@ head_of (x ∷ xs) = x.0
 -- the numbers behind it
 abbrev pub rest_of : List Log → List ℕ
 rest_of [] = []
-rest_of (x ∷ xs) = map (λ (l : Log). l.0) xs
+rest_of (x ∷ xs) = numbers_in xs
 
 abbrev pub base_in : Option Named → Store
 base_in None = empty
@@ -35,6 +35,10 @@ base_in (Some n) = store_in n
 -- what a pass has seen, as rows are seen
 abbrev pub seen_of : View → Seen
 seen_of v = record { base = base_in v.named; caller = head_of v.callers; absorbed = rest_of v.callers; length = v.length; entries = v.seen; alone = false }
+
+-- the numbers that a caller has: its own, and those of the callers that it absorbed
+abbrev pub numbers_of : Seen → List ℕ
+numbers_of s = s.caller ∷ s.absorbed
 
 -- a caller between steps
 pub record IsCaller (name : Named) (v : View) : Type 0 where

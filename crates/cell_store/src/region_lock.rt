@@ -15,6 +15,7 @@ use crate::step_names::StepNames;
 use crate::step_order::{Order, apply, stamp};
 use cell_model::events::Reply;
 use cell_region::Region;
+use crossbeam_utils::CachePadded;
 use row_key::NAME_REGIONS;
 use std::alloc::{AllocError, Global};
 use std::marker::{Brand, Model, PhantomData};
@@ -151,10 +152,10 @@ fn hand_over(region: Region, own: Licence, pass: &mut Pass, regions: &mut Vec<Re
     regions.push_reserved(region);
 }
 
-/// A region behind its lock.
+/// A region behind its lock, on cache lines of its own, so that steps on different regions don't wait for each other.
 #[derive(Drop)]
 pub(crate) struct RegionLock<J: StepNames, const N: u32> {
-    lock: Mutex<Held<J, N>>,
+    lock: CachePadded<Mutex<Held<J, N>>>,
 }
 
 impl<J: StepNames, const N: u32> RegionLock<J, N> {
@@ -172,7 +173,7 @@ impl<J: StepNames, const N: u32> RegionLock<J, N> {
     {
         let held = Held::next(alloc, data_regions, regions, licences);
         RegionLock {
-            lock: Mutex::new(held),
+            lock: CachePadded::new(Mutex::new(held)),
         }
     }
 
@@ -205,7 +206,7 @@ impl<J: StepNames, const N: u32> RegionLock<J, N> {
         ensures length { vec_len regions.new ≤ vec_len regions.old + 1 }
     {
         let RegionLock { lock } = self;
-        let (region, licence) = lock.into_inner().part();
+        let (region, licence) = lock.into_inner().into_inner().part();
         match licence {
             Some(licence) => hand_over(region, licence, pass, regions),
             None => (),

@@ -104,11 +104,12 @@ impl<J: StepNames, G: Gate + Drop> Site<J, G> {
         self.locks.run(&self.gate, alloc, rt, pass, region, order)
     }
 
-    /// A new caller. It makes one entry, its opening, and fails only for want of memory.
+    /// A new caller, with a number of its own. It makes one entry, its opening, and fails only for want of memory.
     pub fn open_pass<'a, T: Wait>(&'a self, rt: &'a T) -> Result<SitePass<'a, J, G, T>, AllocError>
         ensures possible { IfOk result (λ p. IsPossible p) }
         ensures opening { IfOk result (λ p. HasSeenOpening p) }
         ensures base { IfOk result (λ p. p.base ≡ store_in J.name) }
+        ensures absorbed { IfOk result (λ p. p.absorbed ≡ []) }
     {
         let pass = Pass::open_on(rt, &self.steps)?;
         Ok(SitePass::of(self, rt, pass))

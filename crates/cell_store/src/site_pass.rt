@@ -1,13 +1,13 @@
 //! A caller of a site.
-ghost use Rattle.std.specs.Prelude.{◌≡◌, ◌<◌, ◌≤◌, true, IfOk, OnOk, OnErr};
+ghost use Rattle.std.specs.Prelude.{◌≡◌, ◌++◌, ◌<◌, ◌≤◌, true, IfOk, OnOk, OnErr};
 ghost use Rattle.cell_model.specs.Deeds.{Extends};
 ghost use Rattle.cell_model.specs.Seen.{IsPossible, Knows, Stepped, Waited};
 ghost use Rattle.cell_parts.specs.StoreParts.{is_in, is_mine};
-ghost use Rattle.step_count.specs.CounterRule.{region_count};
+ghost use Rattle.step_count.specs.CounterRule.{AreDifferent, region_count};
 ghost use Rattle.step_count.specs.Tokens.{counter_of_note, counter_of_pass, view_of_note, view_of_pass};
 ghost use Rattle.step_count.specs.ViewSteps.{Lives, learned, met};
 ghost use Rattle.cell_store.specs.StepOrders.{Answers, TakesMemory, step_of};
-ghost use Rattle.cell_store.specs.CallerViews.{Heard, IsCaller, IsNote, Tells, seen_of};
+ghost use Rattle.cell_store.specs.CallerViews.{Heard, IsCaller, IsNote, Tells, numbers_of, seen_of};
 ghost use Rattle.cell_store.specs.StepEntries.{InRange, WasLetIn};
 
 use crate::gate::Gate;
@@ -91,21 +91,24 @@ impl<'a, J: StepNames, G: Gate + Drop, T: Wait> SitePass<'a, J, G, T> {
         self.pass.learn();
     }
 
-    /// Takes another's place: what fits this caller afterwards fits both.
+    /// Takes another's place: what fits this caller afterwards fits both. It has the other's numbers too, and no two of them all are one.
     pub fn absorb(&mut self, other: SitePass<'a, J, G, T>)
         ensures mine { Extends self.old self.new }
         ensures theirs { Extends other.entry self.new }
         ensures caller { self.new.caller ≡ self.old.caller }
+        ensures numbers { numbers_of self.new ≡ numbers_of self.old ++ numbers_of other.entry }
+        ensures different { AreDifferent (numbers_of self.new) }
         ensures possible { IsPossible self.new }
     {
         absorb_all(&mut self.pass, other.part());
     }
 
-    /// The caller's token.
+    /// The caller's token. No two of the caller's numbers are one.
     pub fn part(self) -> Pass
         ensures counter { counter_of_pass result ≡ J.counter }
         ensures caller { IsCaller J.name (view_of_pass result) }
         ensures seen { seen_of (view_of_pass result) ≡ self.entry }
+        ensures different { AreDifferent (numbers_of self.entry) }
     {
         let SitePass {
             site: _,

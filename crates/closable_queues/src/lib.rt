@@ -3,5 +3,3 @@
 
 pub mod closable;
 pub mod queue_lists;
-#[cfg(test)]
-mod tests;

@@ -1,14 +1,15 @@
 -- Words that are taken, and words that are refused.
-use Rattle.std.proofs.Common.{◌≡◌, ⊎_elim, true, List, [], ◌∷◌, refl, sym, ap, subst, ◌∙◌}
+use Rattle.std.proofs.Common.{◌≡◌, ℕ, ◌-◌, ◌^◌, ◌<◌, min, ⊎_elim, true, List, [], ◌∷◌, refl, sym, ap, subst, ◌∙◌, arith}
+use Rattle.std.proofs.lemmas.Bool.Decides.{nat_tests}
 use Rattle.std.specs.Prelude.{Option, None}
 use Rattle.clap.specs.Kinds.{HasKind, IsAmong, Kinds}
 use Rattle.clap.specs.Values.{kind_of}
-use Rattle.clap.specs.Walk.{Row, Text}
-use Rattle.clap.specs.Simple.{App, is_simple, subcommand_of}
+use Rattle.clap.specs.Walk.{Row, Rule, Text}
+use Rattle.clap.specs.Simple.{App, is_simple, subcommand_of, with_rule}
 use Rattle.clap.specs.Faults.{fault_of, is_simple_and_free}
 use Rattle.clap.specs.declared.error.Error.{Error}
 use Rattle.clap.specs.declared.error.kind.ErrorKind.TheVariants as kind
-use Rattle.command_words.specs.CommandWords.{asked_in, asked_of, unless_refused}
+use Rattle.command_words.specs.CommandWords.{asked_in, asked_of, unless_refused, within}
 use Rattle.command_words.specs.Grammar.{grammar}
 
 is_plain : is_simple grammar ≡ true
@@ -32,3 +33,11 @@ module _ (app : App) (is : app ≡ grammar) (words : List Text) where
       some : (kinds : Kinds) → IsAmong (kind_of e) kinds → None ≡ unless_refused kinds (asked_in (subcommand_of grammar words))
       some [] among = absurd among
       some (k ∷ kinds) among = refl
+
+-- a number past the last `u64` is none up to a `u32`, and neither is the last `u64`
+pub within_min : (least most n : ℕ) → most < 2 ^ 32 → within least most (min n (2 ^ 64 - 1)) ≡ within least most n
+within_min least most n few = grind (arith, nat_tests)
+
+-- the same commands with the same rule
+pub with_rules : {a a2 : App} {r r2 : Rule} → a ≡ a2 → r ≡ r2 → with_rule a r ≡ with_rule a2 r2
+with_rules {a2 = a2} {r = r} same rule = ap (λ (a : App). with_rule a r) same ∙ ap (with_rule a2) rule

@@ -1,10 +1,12 @@
 -- What words ask for: `clap` gives the words of a command their places, and they have to be in their forms.
 use Rattle.std.specs.Prelude.{ℕ, Bool, true, false, not, ◌&&◌, nat_le, is_ok, List, [], ◌∷◌, codes, Option, None, Some, option_map, if◌then◌else◌}
-use Rattle.std.specs.Option.{option_map_or}
+use Rattle.std.specs.Option.{option_map_or, option_and_then}
+use Rattle.std.specs.Str.Parse.{digits_value}
 use Rattle.clap.specs.Kinds.{Kinds}
 use Rattle.clap.specs.Walk.{Row, Text, first_of}
 use Rattle.clap.specs.Simple.{subcommand_of}
 use Rattle.clap.specs.Faults.{fault_of}
+use Rattle.tsd_base.specs.Digits.{is_number}
 use Rattle.tsd_base.specs.Names.{name_of}
 use Rattle.tsd_base.specs.Tags.{is_same}
 use Rattle.tsd_hooks.specs.declared.name_patterns.Patterns.{Patterns}
@@ -18,16 +20,25 @@ pub record Batch : Type 0 where
   pub query : List ℕ
   pub ms : Bool
 
--- what `stdio` is asked: of which kinds names that have no id are given one, and how these must begin
-pub record Stdio : Type 0 where
+-- of which kinds names that have no id are given one, and how these must begin
+pub record NameOptions : Type 0 where
   pub auto_metric : Bool
   pub auto_tag_key : Bool
   pub auto_tag_value : Bool
   pub patterns : Patterns
 
+-- what `serve` is asked: the port, how many daemons, workers of each and regions of data points there are, and which names are given ids
+pub record Serve : Type 0 where
+  pub port : ℕ
+  pub daemons : ℕ
+  pub workers : ℕ
+  pub regions : ℕ
+  pub names : NameOptions
+
 pub data Asked : Type 0 where
   BatchAsked : Batch → Asked
-  StdioAsked : Stdio → Asked
+  StdioAsked : NameOptions → Asked
+  ServeAsked : Serve → Asked
 
 -- a range ends at its start or behind it
 abbrev pub range_between : Option ℕ → Option ℕ → Option (ℕ × ℕ)
@@ -66,21 +77,48 @@ is_pattern pattern = option_map_or is_name pattern true
 abbrev pub are_names : Patterns → Bool
 are_names patterns = is_pattern patterns.metric && (is_pattern patterns.tag_key && is_pattern patterns.tag_value)
 
-abbrev pub stdio_with : List Row → Patterns → Stdio
-stdio_with rows patterns = record {
+abbrev pub names_with : List Row → Patterns → NameOptions
+names_with rows patterns = record {
   auto_metric = is_given (codes "auto-metric") rows;
   auto_tag_key = not (is_given (codes "no-auto-tagk") rows);
   auto_tag_value = not (is_given (codes "no-auto-tagv") rows);
   patterns = patterns;
 }
 
-abbrev pub stdio_in : List Row → Option Stdio
-stdio_in rows = if are_names (patterns_in rows) then Some (stdio_with rows (patterns_in rows)) else None
+abbrev pub names_in : List Row → Option NameOptions
+names_in rows = if are_names (patterns_in rows) then Some (names_with rows (patterns_in rows)) else None
+
+abbrev pub within : ℕ → ℕ → ℕ → Option ℕ
+within least most n = if nat_le least n && nat_le n most then Some n else None
+
+-- in digits, of any length
+abbrev pub number_within : ℕ → ℕ → Text → Option ℕ
+number_within least most text = if is_number text then within least most (digits_value 10 text) else None
+
+abbrev pub port_in : List Row → Option ℕ
+port_in rows = option_and_then (number_within 0 65535) (first_of (codes "port") rows)
+
+-- from 1 to a most, and a usual number where none is told
+abbrev pub count_of : ℕ → ℕ → Option Text → Option ℕ
+count_of most usual (Some text) = number_within 1 most text
+count_of most usual None = Some usual
+
+abbrev pub serve_with : Option ℕ → Option ℕ → Option ℕ → Option ℕ → Option NameOptions → Option Serve
+serve_with (Some port) (Some daemons) (Some workers) (Some regions) (Some names) = Some (record { port = port; daemons = daemons; workers = workers; regions = regions; names = names })
+serve_with _ _ _ _ _ = None
+
+-- 1 to 8 daemons, and 1 where nothing is said, 1 to 16 workers of each, and 4, and 1 to 16 regions, and 4
+abbrev pub serve_in : List Row → Option Serve
+serve_in rows =
+    serve_with (port_in rows) (count_of 8 1 (first_of (codes "daemons") rows)) (count_of 16 4 (first_of (codes "workers") rows)) (count_of 16 4 (first_of (codes "regions") rows)) (names_in rows)
 
 -- of a command's name and what its words are
 abbrev pub asked_by : Text → List Row → Option Asked
 asked_by name rows =
-    if is_same name (codes "batch") then option_map BatchAsked (batch_in rows) else if is_same name (codes "stdio") then option_map StdioAsked (stdio_in rows) else None
+    if is_same name (codes "batch") then option_map BatchAsked (batch_in rows)
+    else if is_same name (codes "stdio") then option_map StdioAsked (names_in rows)
+    else if is_same name (codes "serve") then option_map ServeAsked (serve_in rows)
+    else None
 
 abbrev pub asked_in : Option (Text × List Row) → Option Asked
 asked_in None = None

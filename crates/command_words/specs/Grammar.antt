@@ -20,14 +20,26 @@ valued id = record (new_rule id) { long = Some id; action = Some Set }
 abbrev pub batch_grammar : Shape
 batch_grammar = (with_rule (with_rule (with_rule (with_rule (new_app (codes "batch")) (word (codes "start"))) (word (codes "end"))) (word (codes "query"))) (flag (codes "ms"))).top
 
--- stdio [--auto-metric] [--no-auto-tagk] [--no-auto-tagv]
-abbrev pub auto_grammar : App
-auto_grammar = with_rule (with_rule (with_rule (new_app (codes "stdio")) (flag (codes "auto-metric"))) (flag (codes "no-auto-tagk"))) (flag (codes "no-auto-tagv"))
+-- [--auto-metric] [--no-auto-tagk] [--no-auto-tagv]
+abbrev pub with_auto : App → App
+with_auto app = with_rule (with_rule (with_rule app (flag (codes "auto-metric"))) (flag (codes "no-auto-tagk"))) (flag (codes "no-auto-tagv"))
 
--- and then [--allow-metric P] [--allow-tagk P] [--allow-tagv P]
+-- [--allow-metric P] [--allow-tagk P] [--allow-tagv P]
+abbrev pub with_patterns : App → App
+with_patterns app = with_rule (with_rule (with_rule app (valued (codes "allow-metric"))) (valued (codes "allow-tagk"))) (valued (codes "allow-tagv"))
+
+-- stdio, and both
 abbrev pub stdio_grammar : Shape
-stdio_grammar = (with_rule (with_rule (with_rule auto_grammar (valued (codes "allow-metric"))) (valued (codes "allow-tagk"))) (valued (codes "allow-tagv"))).top
+stdio_grammar = (with_patterns (with_auto (new_app (codes "stdio")))).top
+
+-- serve PORT [--daemons N] [--workers N] [--regions N]
+abbrev pub with_sizes : App
+with_sizes = with_rule (with_rule (with_rule (with_rule (new_app (codes "serve")) (word (codes "port"))) (valued (codes "daemons"))) (valued (codes "workers"))) (valued (codes "regions"))
+
+-- and then both
+abbrev pub serve_grammar : Shape
+serve_grammar = (with_patterns (with_auto with_sizes)).top
 
 -- the words begin with a command, the program's name isn't among them
 abbrev pub grammar : App
-grammar = with_subcommand (with_subcommand (on_top (λ s. record s { no_binary_name = true }) (new_app (codes "tsd"))) batch_grammar) stdio_grammar
+grammar = with_subcommand (with_subcommand (with_subcommand (on_top (λ s. record s { no_binary_name = true }) (new_app (codes "tsd"))) batch_grammar) stdio_grammar) serve_grammar

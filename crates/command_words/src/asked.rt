@@ -19,13 +19,24 @@ pub struct PatternTexts<'a> {
     pub tag_value: Option<&'a [u8]>,
 }
 
-/// What `stdio` is asked: of which kinds names that have no id are given one, and how these must begin.
+/// Of which kinds names that have no id are given one, and how these must begin.
 #[derive(Clone, Copy, Drop)]
-pub struct Stdio<'a> {
+pub struct NameOptions<'a> {
     pub auto_metric: bool,
     pub auto_tag_key: bool,
     pub auto_tag_value: bool,
     pub patterns: PatternTexts<'a>,
+}
+
+/// What `serve` is asked: the port to listen on, or 0 for one that the system chooses, how many daemons there are, how many
+/// workers each has, in how many regions data points stand, and which names are given ids.
+#[derive(Clone, Copy, Drop)]
+pub struct Serve<'a> {
+    pub port: u16,
+    pub daemons: u32,
+    pub workers: u32,
+    pub regions: u32,
+    pub names: NameOptions<'a>,
 }
 
 /// What words ask for.
@@ -34,5 +45,7 @@ pub enum Asked<'a> {
     /// The answer of a query over points.
     Batch { batch: Batch<'a> },
     /// One connection, over the input and the output.
-    Stdio { stdio: Stdio<'a> },
+    Stdio { names: NameOptions<'a> },
+    /// Connections on a port.
+    Serve { serve: Serve<'a> },
 }

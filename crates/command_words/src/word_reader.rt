@@ -4,16 +4,32 @@ ghost use Rattle.tsd_base.specs.declared.times.TheConstants.{LAST_TIME};
 ghost use Rattle.clap.specs.Matches.{found_of};
 ghost use Rattle.clap.specs.Walk.{first_of, rows_of};
 ghost use Rattle.clap.specs.Simple.{subcommand_rows_of};
-ghost use Rattle.command_words.specs.CommandWords.{are_names, asked_by, asked_in, asked_of, batch_from, batch_in, is_given, is_name, is_pattern, patterns_in, stdio_in, stdio_with};
-ghost use Rattle.command_words.specs.PlainAsked.{InRange, batch_of, plain_pattern, plain_patterns, plain_stdio, stdio_of, what_asked};
+ghost use Rattle.command_words.specs.CommandWords.{are_names, asked_by, asked_in, asked_of, batch_from, batch_in, count_of, is_given, is_name, is_pattern, names_in, names_with, number_within, patterns_in, port_in, serve_in, within};
+ghost use Rattle.command_words.specs.PlainAsked.{InRange, IsFleet, batch_of, names_of, plain_names, plain_pattern, plain_patterns, serve_of, what_asked};
 
-use crate::asked::{Asked, Batch, PatternTexts, Stdio};
+use crate::asked::{Asked, Batch, NameOptions, PatternTexts, Serve};
 use crate::grammar::grammar;
 use clap::ArgMatches;
 use clap::error::ErrorKind;
 use query_times::query_times::read_fixed_time;
 use std::alloc::{AllocError, Global};
+use tsd_base::digits::read_digits;
 use tsd_base::names::{Name, NameFault};
+
+// How many daemons a fleet has at most, and where nothing is said.
+const MOST_DAEMONS: u32 = 8;
+
+const USUAL_DAEMONS: u32 = 1;
+
+// How many workers a daemon has at most, and where nothing is said.
+const MOST_WORKERS: u32 = 16;
+
+const USUAL_WORKERS: u32 = 4;
+
+// In how many regions data points stand at most, and where nothing is said.
+const MOST_REGIONS: u32 = 16;
+
+const USUAL_REGIONS: u32 = 4;
 
 /// Reads the words of a command, without the program's name. None where they are none, also where they ask for help or
 /// for a version. It fails only for want of memory.
@@ -21,7 +37,9 @@ use tsd_base::names::{Name, NameFault};
 /// `batch START END M` may have the option `--ms`, with START and END times as `read_fixed_time` reads them, and END not
 /// below START. An END in seconds is that second's first millisecond. `stdio` may have the options `--auto-metric`,
 /// `--no-auto-tagk` and `--no-auto-tagv`, and with a value `--allow-metric P`, `--allow-tagk P` and `--allow-tagv P`, where P
-/// is the bytes of a name as `Name::read` reads it. An option is given at most once, and `clap` says where it may stand.
+/// is the bytes of a name as `Name::read` reads it. `serve PORT` may have these too, and `--daemons N`, `--workers N` and
+/// `--regions N`, with a port from 0 to 65535, 1 to 8 daemons, 1 to 16 workers of each and 1 to 16 regions, in digits alone.
+/// An option is given at most once, and `clap` says where it may stand.
 pub fn read_words<'a>(alloc: Global, words: &'a [String]) -> Result<Option<Asked<'a>>, AllocError>
     ensures asked { IfOk result (λ found. what_asked found ≡ asked_of (map string_bytes words.entry.now)) }
     ensures range { IfOk result (λ found. IfSome found InRange) }
@@ -57,8 +75,12 @@ fn asked_by<'a>(alloc: Global, name: &[u8], words: &ArgMatches<'a>) -> Option<As
         return Some(Asked::Batch { batch });
     }
     if name == b"stdio".as_slice() {
-        let stdio = stdio_in(alloc, words)?;
-        return Some(Asked::Stdio { stdio });
+        let names = names_in(alloc, words)?;
+        return Some(Asked::Stdio { names });
+    }
+    if name == b"serve".as_slice() {
+        let serve = serve_in(alloc, words)?;
+        return Some(Asked::Serve { serve });
     }
     None
 }
@@ -75,15 +97,68 @@ fn batch_in<'a>(words: &ArgMatches<'a>) -> Option<Batch<'a>>
     read_batch(start, end, query, ms)
 }
 
-/// What `stdio` is asked.
-fn stdio_in<'a>(alloc: Global, words: &ArgMatches<'a>) -> Option<Stdio<'a>>
-    ensures { stdio_of result ≡ stdio_in (rows_of (found_of words.now)) }
+/// What `serve` is asked.
+fn serve_in<'a>(alloc: Global, words: &ArgMatches<'a>) -> Option<Serve<'a>>
+    ensures asked { serve_of result ≡ serve_in (rows_of (found_of words.now)) }
+    ensures range { IfSome result IsFleet }
+{
+    let port = port_in(words)?;
+    let daemons = count_of(MOST_DAEMONS, USUAL_DAEMONS, text(words, "daemons"))?;
+    let workers = count_of(MOST_WORKERS, USUAL_WORKERS, text(words, "workers"))?;
+    let regions = count_of(MOST_REGIONS, USUAL_REGIONS, text(words, "regions"))?;
+    let names = names_in(alloc, words)?;
+    Some(Serve {
+        port,
+        daemons,
+        workers,
+        regions,
+        names,
+    })
+}
+
+/// The port.
+fn port_in(words: &ArgMatches<'_>) -> Option<u16>
+    ensures { result ≡ port_in (rows_of (found_of words.now)) }
+{
+    let port = number_within(0, 65535, text(words, "port")?)?;
+    Some(port as u16)
+}
+
+/// A number from 1 to the most, or the usual one where none is told.
+fn count_of(most: u32, usual: u32, text: Option<&[u8]>) -> Option<u32>
+    requires usual { 1 ≤ usual }
+    requires most { usual ≤ most }
+    ensures count { result ≡ count_of most usual (plain_pattern text.entry) }
+    ensures range { IfSome result (λ count. (1 ≤ count) × (count ≤ most)) }
+{
+    match text {
+        Some(text) => number_within(1, most, text),
+        None => Some(usual),
+    }
+}
+
+/// A number in digits alone, of any length, from the least to the most.
+#[tactic(auto, using(crate::proofs::ReadLemmas::within_min))]
+fn number_within(least: u32, most: u32, text: &[u8]) -> Option<u32>
+    ensures number { result ≡ number_within least most text.now }
+    ensures range { IfSome result (λ n. (least ≤ n) × (n ≤ most)) }
+{
+    let n = read_digits(text)?;
+    if n < u64::from(least) || u64::from(most) < n {
+        return None;
+    }
+    Some(n as u32)
+}
+
+/// Which names are given ids.
+fn names_in<'a>(alloc: Global, words: &ArgMatches<'a>) -> Option<NameOptions<'a>>
+    ensures { names_of result ≡ names_in (rows_of (found_of words.now)) }
 {
     let patterns = patterns_in(words);
     if !are_names(alloc, &patterns) {
         return None;
     }
-    Some(stdio_with(words, patterns))
+    Some(names_with(words, patterns))
 }
 
 /// The values of the options with which new names must begin.
@@ -129,14 +204,14 @@ fn is_name(alloc: Global, bytes: &[u8]) -> bool
     }
 }
 
-/// What `stdio` is asked, with these patterns.
-fn stdio_with<'a>(words: &ArgMatches<'_>, patterns: PatternTexts<'a>) -> Stdio<'a>
-    ensures { plain_stdio result ≡ stdio_with (rows_of (found_of words.now)) (plain_patterns patterns.entry) }
+/// Which names are given ids, with these patterns.
+fn names_with<'a>(words: &ArgMatches<'_>, patterns: PatternTexts<'a>) -> NameOptions<'a>
+    ensures { plain_names result ≡ names_with (rows_of (found_of words.now)) (plain_patterns patterns.entry) }
 {
     let auto_metric = is_given(words, "auto-metric");
     let no_tag_key = is_given(words, "no-auto-tagk");
     let no_tag_value = is_given(words, "no-auto-tagv");
-    Stdio {
+    NameOptions {
         auto_metric,
         auto_tag_key: !no_tag_key,
         auto_tag_value: !no_tag_value,

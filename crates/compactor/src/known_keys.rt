@@ -1,8 +1,8 @@
 //! Keys that are found by a hash.
-ghost use Rattle.std.specs.Prelude.{◌≡◌, [], Contains, IsTrue};
+ghost use Rattle.std.specs.Prelude.{◌≡◌, [], Contains, IfSome, IsTrue};
 ghost use Rattle.compactor.specs.Queues.{AreAmong, AreAmongOr};
 
-use guess_table::Guesses;
+use guess_table::{Guesses, hash_bytes};
 use qual_codec::Bytes;
 use std::alloc::Global;
 use std::marker::Model;
@@ -36,14 +36,18 @@ impl KnownKeys {
         }
     }
 
-    /// Whether the key of this base and these bytes, which have this hash, is found.
+    /// Where the key of this base and these bytes is, where it is found: there where it is thought to be next, or by a hash of the
+    /// bytes.
     #[inline]
-    pub fn finds(&self, hash: u64, base: u32, bytes: &[u8]) -> bool
-        ensures { IsTrue result → Contains self.now (base, bytes.now) }
+    pub fn find(&self, next: Option<u32>, base: u32, bytes: &Bytes) -> Option<u32>
+        ensures { IfSome result (λ _. Contains self.now (base, bytes.now)) }
     {
-        match self.guesses.guess(hash) {
-            Some(at) => is_at(&self.list, at, base, bytes),
-            None => false,
+        match confirm(&self.list, next, base, bytes) {
+            Some(at) => Some(at),
+            None => {
+                let guess = self.guesses.guess(hash_bytes(bytes.list()));
+                confirm(&self.list, guess, base, bytes)
+            }
         }
     }
 
@@ -82,9 +86,22 @@ impl KnownKeys {
     }
 }
 
+// The place that is guessed, where its key is of this base and these bytes.
+#[inline]
+fn confirm(list: &[(u32, Bytes)], guess: Option<u32>, base: u32, bytes: &Bytes) -> Option<u32>
+    ensures { IfSome result (λ _. Contains list.now (base, bytes.now)) }
+{
+    let at = guess?;
+    if is_at(list, at, base, bytes) {
+        Some(at)
+    } else {
+        None
+    }
+}
+
 // Whether the key at this place is of this base and these bytes.
 #[inline]
-fn is_at(list: &[(u32, Bytes)], at: u32, base: u32, bytes: &[u8]) -> bool
+fn is_at(list: &[(u32, Bytes)], at: u32, base: u32, bytes: &Bytes) -> bool
     ensures { IsTrue result → Contains list.now (base, bytes.now) }
 {
     let Some(key) = list.get(at as usize) else {
@@ -93,5 +110,5 @@ fn is_at(list: &[(u32, Bytes)], at: u32, base: u32, bytes: &[u8]) -> bool
     if key.0 != base {
         return false;
     }
-    key.1.list() == bytes
+    key.1 == *bytes
 }

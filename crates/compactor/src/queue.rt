@@ -9,7 +9,7 @@ ghost use Rattle.compactor.specs.Drains.{IsNextBelow, NoneBelow};
 use crate::known_keys::KnownKeys;
 use cell_model::answers::Stored;
 use cell_model::row::Row;
-use guess_table::hash_bytes;
+use guess_table::{Round, hash_bytes};
 use qual_codec::Bytes;
 use row_key::Table;
 use std::alloc::{AllocError, Global};
@@ -24,6 +24,8 @@ pub struct Queue {
     rows: BTreeSet<(u32, Bytes), Global>,
     // Some of `rows`, found by a hash: most that are added are there already.
     known: KnownKeys,
+    // Where rows come round in the order in which they are known.
+    round: Round,
     alloc: Global,
 }
 
@@ -48,6 +50,7 @@ impl Queue {
         Queue {
             rows: BTreeSet::new(alloc),
             known: KnownKeys::make(alloc),
+            round: Round::make(),
             alloc,
         }
     }
@@ -60,11 +63,11 @@ impl Queue {
         ensures rising { AreQueued self.new }
         ensures err { OnErr result (self.new ≡ self.old) }
     {
-        let bytes = row.bytes.list();
-        let hash = hash_bytes(bytes);
-        if self.known.finds(hash, base, bytes) {
+        if let Some(at) = self.known.find(self.round.guess(), base, &row.bytes) {
+            self.round.came(at);
             return Ok(false);
         }
+        let hash = hash_bytes(row.bytes.list());
         let key = (base, row.bytes.again(self.alloc)?);
         self.insert(hash, key)
     }

@@ -2,7 +2,5 @@
 #![tactic(auto)]
 
 mod fused;
-#[cfg(test)]
-mod tests;
 
 pub use fused::Fused;

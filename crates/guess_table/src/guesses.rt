@@ -49,8 +49,8 @@ impl<T: Copy> Guesses<T> {
         None
     }
 
-    /// Remembers what is where this hash is. Earlier guesses of other hashes go on to the next slots of the bucket, as far as one
-    /// that has nothing, and the last goes.
+    /// Remembers what is where this hash is, in the place of an earlier guess of it, or else in an empty slot of its bucket, or in
+    /// the place of another guess: so where a bucket has more than it can hold, some of its guesses stay however often all are asked.
     #[inline]
     pub fn keep(&mut self, hash: u64, what: T) {
         self.put(Guess {
@@ -59,20 +59,19 @@ impl<T: Copy> Guesses<T> {
         });
     }
 
-    #[inline]
     fn put(&mut self, guess: Guess<T>) {
-        let mut moved = guess;
         let slot = self.slot(guess.bits);
         for at in 0..BUCKET {
             let Some(place) = self.slots.get_mut(slot ^ at) else {
                 return;
             };
-            let before = *place;
-            *place = moved;
-            if before.bits == guess.bits || before.bits == 0 {
+            if place.bits == guess.bits || place.bits == 0 {
+                *place = guess;
                 return;
             }
-            moved = before;
+        }
+        if let Some(place) = self.slots.get_mut(slot) {
+            *place = guess;
         }
     }
 

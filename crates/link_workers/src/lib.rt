@@ -7,6 +7,4 @@ pub mod link_ends;
 pub mod link_service;
 pub mod link_work;
 mod staff;
-#[cfg(test)]
-mod tests;
 pub mod worker_loop;

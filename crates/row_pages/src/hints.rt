@@ -1,7 +1,7 @@
 //! Guesses where rows are.
 
 use crate::page::Place;
-use guess_table::Guesses;
+use guess_table::{Guesses, Trail};
 use std::alloc::Global;
 
 // Where a row may be: its page, and its own place in the page.
@@ -15,6 +15,9 @@ struct Hint {
 #[derive(Drop)]
 pub struct Hints {
     guesses: Guesses<Hint>,
+    last: Place,
+    // Which place may be asked for next.
+    trail: Trail<Place>,
 }
 
 impl Hints {
@@ -22,7 +25,28 @@ impl Hints {
     pub fn make(alloc: Global) -> Hints {
         Hints {
             guesses: Guesses::make(alloc),
+            last: Place { page: 0, row: 0 },
+            trail: Trail::make(alloc),
         }
+    }
+
+    /// Where a row was found last.
+    #[inline]
+    pub fn last(&self) -> Place {
+        self.last
+    }
+
+    /// Where the row may be that comes behind the last one.
+    #[inline]
+    pub fn next(&self) -> Option<Place> {
+        self.trail.guess()
+    }
+
+    /// Remembers where a row was found that wasn't the last one.
+    #[inline]
+    pub fn came(&mut self, place: Place) {
+        self.last = place;
+        self.trail.came(place);
     }
 
     /// Where a row of this hash may be.

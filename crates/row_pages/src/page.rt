@@ -14,7 +14,7 @@ pub struct Page {
 }
 
 /// The place of a row: that of its page, and its own in the page.
-#[derive(Clone, Copy, Drop)]
+#[derive(Clone, Copy, Drop, PartialEq, Eq)]
 pub struct Place {
     pub page: usize,
     pub row: usize,

@@ -5,7 +5,9 @@ ghost use Rattle.list_lemmas.specs.BytesOrder.{bytes_cmp};
 ghost use Rattle.row_pages.specs.Pages.{rows_in, ArePages};
 ghost use Rattle.row_pages.specs.PagePlaces.{IsPageOf, IsRowAt, IsRowGap, IsRowStart, IsAt};
 
+use crate::hints::Hints;
 use crate::page::{Page, Place};
+use guess_table::hash_bytes;
 use packed_cells::row_cells::RowCells;
 use qual_codec::Bytes;
 
@@ -70,6 +72,45 @@ pub fn place_by(pages: &[Page], guess: Option<Place>, row: &Bytes) -> Option<Pla
         }
     }
     place_of(pages, row)
+}
+
+/// Where a row is, if it is there, which is remembered. The place where a row was found last is tried first, and then the one that
+/// came behind it before, since a row is often asked for again, and rows often come in the same order again.
+#[inline]
+pub fn found_place(pages: &[Page], hints: &mut Hints, row: &Bytes) -> Option<Place>
+    requires { ArePages pages.now }
+    ensures found { IfSome result (λ place. IsAt row.now pages.now place.page place.row) }
+    ensures absent { IfNone result (find bytes_cmp row.now (rows_in pages.now) ≡ None) }
+{
+    let last = hints.last();
+    if is_at(pages, last, row) {
+        return Some(last);
+    }
+    if let Some(next) = hints.next() {
+        if is_at(pages, next, row) {
+            hints.came(next);
+            return Some(next);
+        }
+    }
+    search_place(pages, hints, row)
+}
+
+/// Where a row is, if it is there, by its hash or by a search.
+fn search_place(pages: &[Page], hints: &mut Hints, row: &Bytes) -> Option<Place>
+    requires { ArePages pages.now }
+    ensures found { IfSome result (λ place. IsAt row.now pages.now place.page place.row) }
+    ensures absent { IfNone result (find bytes_cmp row.now (rows_in pages.now) ≡ None) }
+{
+    let hash = hash_bytes(row.list());
+    let guess = hints.guess(hash);
+    match place_by(pages, guess, row) {
+        Some(place) => {
+            hints.correct(hash, guess, place);
+            hints.came(place);
+            Some(place)
+        }
+        None => None,
+    }
 }
 
 // Whether this is the place of the row.

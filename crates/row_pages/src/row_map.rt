@@ -9,7 +9,7 @@ ghost use Rattle.row_pages.specs.LentRows.{LendsCells};
 use crate::hints::Hints;
 use crate::page::Page;
 use crate::page_edits::{put_row, take_out};
-use crate::page_places::place_by;
+use crate::page_places::{found_place, place_by};
 use crate::row_walk::{RowWalk, walk_below, walk_from};
 use guess_table::hash_bytes;
 use packed_cells::row_cells::RowCells;
@@ -79,11 +79,8 @@ impl RowPages {
         ensures* writes_back { sem 𝓛 (LendsCells self.entry row.now result) }
         ensures value { option_copied_mut result ≡ get self.old row.now }
     {
-        let hash = hash_bytes(row.list());
-        let guess = self.hints.guess(hash);
-        match place_by(&self.pages, guess, row) {
+        match found_place(&self.pages, &mut self.hints, row) {
             Some(place) => {
-                self.hints.correct(hash, guess, place);
                 let page = &mut self.pages[place.page];
                 let found = &mut page.rows[place.row];
                 Some(&mut found.1)

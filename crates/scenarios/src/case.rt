@@ -6,6 +6,8 @@ use case_blocks::report::Report;
 use case_readers::readers::read;
 use case_readers::text::Bad;
 use std::alloc::Global;
+use std::sync::Wait;
+use std::thread::Threads;
 use store_cases::store_case;
 
 /// Does a line that stands alone.
@@ -17,7 +19,8 @@ fn read_alone(alloc: Global, line: &Line, report: &mut Report) -> Result<(), Bad
 }
 
 /// Does the lines of a case: whole runs, where there is one, or else calls over a store.
-fn do_case(
+fn do_case<T: Threads + Wait + Sync>(
+    rt: &T,
     alloc: Global,
     setup: &[Line],
     lines: &[Line],
@@ -29,7 +32,7 @@ fn do_case(
         .any(|line| line.verb.as_str().starts_with("run"))
     {
         let all = joined(alloc, setup, lines)?;
-        run_cases::case(alloc, all.as_slice(), report)?;
+        run_cases::case(rt, alloc, all.as_slice(), report)?;
         report.end_case(head)
     } else {
         store_case::case(alloc, setup, lines, head, report)
@@ -38,7 +41,8 @@ fn do_case(
 
 /// Does a block: `wrong` says that the cases from here on are to differ, `setup` begins lines that stand before those of each later
 /// case, `case` begins a case, and else each line is one.
-fn do_block(
+fn do_block<T: Threads + Wait + Sync>(
+    rt: &T,
     alloc: Global,
     setup: &mut Block,
     block: Block,
@@ -50,7 +54,7 @@ fn do_block(
     match head.verb.as_str() {
         "wrong" => report.expect_wrong(),
         "setup" => *setup = block,
-        "case" => do_case(alloc, setup.as_slice(), block.as_slice(), head, report)?,
+        "case" => do_case(rt, alloc, setup.as_slice(), block.as_slice(), head, report)?,
         _ => {
             for line in block.as_slice() {
                 read_alone(alloc, line, report)?;
@@ -61,7 +65,12 @@ fn do_block(
 }
 
 /// Does the cases of a file, and reports what differs.
-pub fn do_file(alloc: Global, file: &str, text: &str) -> Result<Report, Bad> {
+pub fn do_file<T: Threads + Wait + Sync>(
+    rt: &T,
+    alloc: Global,
+    file: &str,
+    text: &str,
+) -> Result<Report, Bad> {
     let mut report = Report::of(alloc, file)?;
     let mut setup = Vec::new(alloc);
     let mut block = Vec::new(alloc);
@@ -69,11 +78,11 @@ pub fn do_file(alloc: Global, file: &str, text: &str) -> Result<Report, Bad> {
         let line = line.trim();
         if line.is_empty() {
             let whole = std::mem::replace(&mut block, Vec::new(alloc));
-            do_block(alloc, &mut setup, whole, &mut report)?;
+            do_block(rt, alloc, &mut setup, whole, &mut report)?;
         } else {
             add(alloc, &mut block, at.saturating_add(1), line)?;
         }
     }
-    do_block(alloc, &mut setup, block, &mut report)?;
+    do_block(rt, alloc, &mut setup, block, &mut report)?;
     Ok(report)
 }

@@ -2,12 +2,15 @@
 #![tactic(auto)]
 
 mod case;
+mod mem_links;
 mod run_cases;
 
 use crate::case::do_file;
 use anyhow::{Context, Result, anyhow};
 use case_readers::text::Bad;
 use std::process::ExitCode;
+use std::sync::Wait;
+use std::thread::Threads;
 use std::{env, fs};
 
 /// How many cases there were, and how many of them weren't as wanted.
@@ -26,9 +29,13 @@ fn told(file: &str, bad: Bad) -> anyhow::Error {
 }
 
 /// Does the cases of a file, and prints what differs.
-fn check_file(rt: &HostRuntime, file: &str) -> Result<Count> {
+fn check_file<T: Threads + Wait + Sync>(
+    rt: &HostRuntime,
+    threads: &T,
+    file: &str,
+) -> Result<Count> {
     let text = fs::read_to_string(rt, file).context(format_args!("reading {file}"))?;
-    let report = match do_file(rt.alloc(), file, text.as_str()) {
+    let report = match do_file(threads, rt.alloc(), file, text.as_str()) {
         Ok(report) => report,
         Err(bad) => return Err(told(file, bad)),
     };
@@ -47,7 +54,7 @@ fn main(rt: HostRuntime) -> Result<ExitCode> {
     let mut cases = 0u64;
     let mut failed = 0u64;
     for file in env::args(&rt)?.skip(1) {
-        let count = check_file(&rt, file.as_str())?;
+        let count = check_file(&rt, &rt, file.as_str())?;
         cases = cases.saturating_add(count.cases);
         failed = failed.saturating_add(count.failed);
     }

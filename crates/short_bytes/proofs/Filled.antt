@@ -1,13 +1,16 @@
 -- Lists that are filled up with zeros are ordered as the filled lists, and then as their lengths.
-use Rattle.std.proofs.Common.{◌≡◌, ℕ, suc, ◌+◌, ◌-◌, ◌≤◌, List, [], ◌∷◌, ◌++◌, length, take, drop, replicate, refl, sym, ap, ◌∙◌, arith, length-append}
+use Rattle.std.proofs.Common.{◌≡◌, ◌≢◌, ℕ, false, suc, ◌+◌, ◌-◌, ◌≤◌, List, [], ◌∷◌, ◌++◌, length, take, drop, replicate, refl, sym, ap, ◌∙◌, arith, length-append}
 use Rattle.std.proofs.lemmas.List.{length-replicate, length-take, take-append-drop}
 use Rattle.std.proofs.lemmas.Cmp.{ranked, tied_itself, nat_list_cmp_total}
 use Rattle.std.specs.Cmp.{nat_cmp_is}
-use Rattle.std.specs.Ordering.{nat_cmp, ordering_then}
+use Rattle.std.specs.Cmp.Lexicographic.{pointwise, texts_ties}
+use Rattle.std.specs.Prelude.{nat_eq}
+use Rattle.std.specs.Ordering.{is_eq, nat_cmp, ordering_then}
 use Rattle.std.specs.declared.cmp.Ordering.{Ordering}
 use Rattle.std.specs.declared.cmp.Ordering.TheVariants.{Less, Equal, Greater}
 use Rattle.list_lemmas.specs.BytesOrder.{bytes_cmp}
 use Rattle.list_lemmas.proofs.OrderedBytes.{then_assoc}
+use Rattle.short_bytes.proofs.Words.{then_equal}
 
 suc_cmp : (m n : ℕ) → nat_cmp (suc m) (suc n) ≡ nat_cmp m n
 suc_cmp m n = at (nat_cmp m n) refl
@@ -67,3 +70,39 @@ short_order m n xs ys lx ly lm ln zx zy =
     let wy : ys ≡ take n ys ++ replicate (30 - n) 0 = sym (take-append-drop n ys) ∙ ap (λ (l : List ℕ). take n ys ++ l) zy in
     (λ i. ordering_then (bytes_cmp (wx i) (wy i)) (nat_cmp (sym tx i) (sym ty i)))
     ∙ filled (take m xs) (take n ys) (30 - m) (30 - n) (omega (arith, tx, ty, lm, ln))
+
+-- ---- whether the bytes that count are the same
+
+then_differs : (a b : Ordering) → is_eq b ≡ false → false ≡ is_eq (ordering_then a b)
+then_differs Less b e = refl
+then_differs Equal b e = sym e
+then_differs Greater b e = refl
+
+unequal : (m n : ℕ) → m ≢ n → is_eq (nat_cmp m n) ≡ false
+unequal m n differs = at (nat_cmp m n) refl
+  where
+    at : (r : Ordering) → r ≡ nat_cmp m n → is_eq r ≡ false
+    at Less h = refl
+    at Equal h = absurd (differs (ranked m n Equal h))
+    at Greater h = refl
+
+-- as many of two blocks count: they are the same where the blocks are
+pub short_same : (m n : ℕ) (xs ys : List ℕ) → length xs ≡ 30 → length ys ≡ 30 → m ≤ 30 → n ≤ 30
+    → drop m xs ≡ replicate (30 - m) 0 → drop n ys ≡ replicate (30 - n) 0 → m ≡ n
+    → pointwise nat_eq xs ys ≡ pointwise nat_eq (take m xs) (take n ys)
+short_same m n xs ys lx ly lm ln zx zy same =
+    let tie : nat_cmp m n ≡ Equal = sym (nat_cmp_is m n Equal (omega (arith, same))) in
+    texts_ties xs ys
+    ∙ ap is_eq (sym (then_equal (bytes_cmp xs ys)))
+    ∙ ap (λ o. is_eq (ordering_then (bytes_cmp xs ys) o)) (sym tie)
+    ∙ ap is_eq (short_order m n xs ys lx ly lm ln zx zy)
+    ∙ sym (texts_ties (take m xs) (take n ys))
+
+-- not as many count: they aren't the same
+pub short_differs : (m n : ℕ) (xs ys : List ℕ) → length xs ≡ 30 → length ys ≡ 30 → m ≤ 30 → n ≤ 30
+    → drop m xs ≡ replicate (30 - m) 0 → drop n ys ≡ replicate (30 - n) 0 → m ≢ n
+    → false ≡ pointwise nat_eq (take m xs) (take n ys)
+short_differs m n xs ys lx ly lm ln zx zy differs =
+    then_differs (bytes_cmp xs ys) (nat_cmp m n) (unequal m n differs)
+    ∙ ap is_eq (short_order m n xs ys lx ly lm ln zx zy)
+    ∙ sym (texts_ties (take m xs) (take n ys))

@@ -79,7 +79,10 @@ pub(crate) fn same_filled(len: u8, block: &[u8; 30], other_len: u8, other_block:
     requires { IsFilled len block.now × IsFilled other_len other_block.now }
     ensures { result ≡ pointwise nat_eq (take len block.now) (take other_len other_block.now) }
 {
-    order_filled(len, block, other_len, other_block).is_eq()
+    if len != other_len {
+        return false;
+    }
+    *block == *other_block
 }
 
 /// The order of two lists of any length.

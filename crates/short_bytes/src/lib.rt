@@ -5,5 +5,3 @@ mod blocks;
 pub mod comparison;
 mod fills;
 pub mod short;
-#[cfg(test)]
-mod tests;

@@ -1,13 +1,12 @@
-//! Two workers over one site, each in a thread of its own.
-ghost use Rattle.std.specs.Prelude.{◌≡◌, IfSome};
+//! Workers over one site, two or four, each a caller of its own in a thread of its own.
+ghost use Rattle.std.specs.Prelude.{◌≡◌, [], ◌∷◌, ◌++◌, IfSome};
 ghost use Rattle.cell_model.specs.Deeds.{Extends};
-ghost use Rattle.cell_model.specs.Seen.{InEach};
 ghost use Rattle.cell_model.specs.Sound.{IsBase};
-ghost use Rattle.step_count.specs.CounterRule.{store_in};
+ghost use Rattle.step_count.specs.CounterRule.{AreDifferent, store_in};
 ghost use Rattle.point_put.specs.Admissions.{admission};
-ghost use Rattle.cell_store.specs.CallerViews.{IsCaller, seen_of};
+ghost use Rattle.cell_store.specs.CallerViews.{IsCaller, numbers_of, seen_of};
 ghost use Rattle.step_count.specs.Tokens.{counter_of_pass, view_of_pass};
-ghost use Rattle.site_fleet.specs.FleetAnswers.{HaveTold, Stand, WereAsked};
+ghost use Rattle.site_fleet.specs.FleetAnswers.{HaveTold, Stand};
 
 use crate::put_worker::{Answer, Worked, work};
 use cell_region::Regions;
@@ -30,7 +29,8 @@ pub struct FleetDone {
 }
 
 /// Two workers over these regions put their points, each in a thread of its own. Over one lawful history that begins with the store of the
-/// regions each was answered as it was, and what is left is the store after it. None is want of memory.
+/// regions each was answered as it was, by the entries of a caller that is its own alone, and what is left is the store after it. None is
+/// want of memory.
 pub fn two_workers<G: Gate + Drop + Send + Sync, T: Threads + Wait + Sync>(
     rt: &T,
     alloc: Global,
@@ -42,7 +42,7 @@ pub fn two_workers<G: Gate + Drop + Send + Sync, T: Threads + Wait + Sync>(
     second: &[Point],
 ) -> Option<FleetDone>
     requires { IsBase regions.content }
-    ensures { IfSome result (λ d. Stand regions.content d.regions.content (WereAsked (admission config.now rule.now.patterns) first.now d.first.items) (WereAsked (admission config.now rule.now.patterns) second.now d.second.items)) }
+    ensures { IfSome result (λ d. Stand (admission config.now rule.now.patterns) regions.content d.regions.content ((first.now, d.first.items) ∷ (second.now, d.second.items) ∷ [])) }
 {
     let Ok(parts) = SiteParts::make(alloc, regions, gate) else {
         return None;
@@ -62,7 +62,7 @@ fn over<J: StepNames + Send + Sync, G: Gate + Drop + Send + Sync, T: Threads + W
 ) -> Option<FleetDone>
     requires counter { parts.counter ≡ J.counter }
     requires name { parts.name ≡ J.name }
-    ensures { IfSome result (λ d. Stand (store_in parts.name) d.regions.content (WereAsked (admission config.now rule.now.patterns) first.now d.first.items) (WereAsked (admission config.now rule.now.patterns) second.now d.second.items)) }
+    ensures { IfSome result (λ d. Stand (admission config.now rule.now.patterns) (store_in parts.name) d.regions.content ((first.now, d.first.items) ∷ (second.now, d.second.items) ∷ [])) }
 {
     let site = parts.named::<J>();
     let (pass, first, second) = both(rt, alloc, &site, rule, config, first, second)?;
@@ -83,18 +83,15 @@ fn both<J: StepNames + Send + Sync, G: Gate + Drop + Send + Sync, T: Threads + W
     first: &[Point],
     second: &[Point],
 ) -> Option<(Pass, Vec<Answer>, Vec<Answer>)>
-    ensures counter { IfSome result (λ r. counter_of_pass r.0 ≡ J.counter) }
-    ensures caller { IfSome result (λ r. IsCaller J.name (view_of_pass r.0)) }
-    ensures first { IfSome result (λ r. InEach (seen_of (view_of_pass r.0)) (WereAsked (admission config.now rule.now.patterns) first.now r.1.items)) }
-    ensures second { IfSome result (λ r. InEach (seen_of (view_of_pass r.0)) (WereAsked (admission config.now rule.now.patterns) second.now r.2.items)) }
+    ensures { IfSome result (λ r. HaveTold J.counter J.name (admission config.now rule.now.patterns) ((first.now, r.1.items) ∷ (second.now, r.2.items) ∷ []) r.0) }
 {
     let (one, two) = join(
         rt,
         || -> Option<Worked>
-            ensures { IfSome result (λ w. (counter_of_pass w.pass ≡ J.counter) × IsCaller J.name (view_of_pass w.pass) × InEach (seen_of (view_of_pass w.pass)) (WereAsked (admission config.entry.now rule.entry.now.patterns) first.entry.now w.answers.items)) }
+            ensures { IfSome result (λ w. HaveTold J.counter J.name (admission config.entry.now rule.entry.now.patterns) ((first.entry.now, w.answers.items) ∷ []) w.pass) }
         { work(rt, alloc, site, rule, config, first) },
         || -> Option<Worked>
-            ensures { IfSome result (λ w. (counter_of_pass w.pass ≡ J.counter) × IsCaller J.name (view_of_pass w.pass) × InEach (seen_of (view_of_pass w.pass)) (WereAsked (admission config.entry.now rule.entry.now.patterns) second.entry.now w.answers.items)) }
+            ensures { IfSome result (λ w. HaveTold J.counter J.name (admission config.entry.now rule.entry.now.patterns) ((second.entry.now, w.answers.items) ∷ []) w.pass) }
         { work(rt, alloc, site, rule, config, second) },
     );
     let one = one?;
@@ -133,7 +130,7 @@ pub fn four_workers<G: Gate + Drop + Send + Sync, T: Threads + Wait + Sync>(
     lists: &FourLists,
 ) -> Option<FourDone>
     requires { IsBase regions.content }
-    ensures { IfSome result (λ d. Stand regions.content d.regions.content (λ h. WereAsked (admission config.now rule.now.patterns) lists.now.first.items d.first.items h × WereAsked (admission config.now rule.now.patterns) lists.now.second.items d.second.items h) (λ h. WereAsked (admission config.now rule.now.patterns) lists.now.third.items d.third.items h × WereAsked (admission config.now rule.now.patterns) lists.now.fourth.items d.fourth.items h)) }
+    ensures { IfSome result (λ d. Stand (admission config.now rule.now.patterns) regions.content d.regions.content ((lists.now.first.items, d.first.items) ∷ (lists.now.second.items, d.second.items) ∷ (lists.now.third.items, d.third.items) ∷ (lists.now.fourth.items, d.fourth.items) ∷ [])) }
 {
     let Ok(parts) = SiteParts::make(alloc, regions, gate) else {
         return None;
@@ -152,7 +149,7 @@ fn over_four<J: StepNames + Send + Sync, G: Gate + Drop + Send + Sync, T: Thread
 ) -> Option<FourDone>
     requires counter { parts.counter ≡ J.counter }
     requires name { parts.name ≡ J.name }
-    ensures { IfSome result (λ d. Stand (store_in parts.name) d.regions.content (λ h. WereAsked (admission config.now rule.now.patterns) lists.now.first.items d.first.items h × WereAsked (admission config.now rule.now.patterns) lists.now.second.items d.second.items h) (λ h. WereAsked (admission config.now rule.now.patterns) lists.now.third.items d.third.items h × WereAsked (admission config.now rule.now.patterns) lists.now.fourth.items d.fourth.items h)) }
+    ensures { IfSome result (λ d. Stand (admission config.now rule.now.patterns) (store_in parts.name) d.regions.content ((lists.now.first.items, d.first.items) ∷ (lists.now.second.items, d.second.items) ∷ (lists.now.third.items, d.third.items) ∷ (lists.now.fourth.items, d.fourth.items) ∷ [])) }
 {
     let site = parts.named::<J>();
     let (one, two) = four(rt, alloc, &site, rule, config, lists)?;
@@ -183,6 +180,8 @@ fn absorbed<J: StepNames, G: Gate + Drop, T: Wait>(
     ensures caller { IsCaller J.name (view_of_pass result) }
     ensures first { Extends (seen_of (view_of_pass first)) (seen_of (view_of_pass result)) }
     ensures second { Extends (seen_of (view_of_pass second)) (seen_of (view_of_pass result)) }
+    ensures numbers { numbers_of (seen_of (view_of_pass result)) ≡ numbers_of (seen_of (view_of_pass first)) ++ numbers_of (seen_of (view_of_pass second)) }
+    ensures different { AreDifferent (numbers_of (seen_of (view_of_pass result))) }
 {
     let mut rows = SitePass::of(site, rt, first);
     rows.absorb(SitePass::of(site, rt, second));
@@ -203,15 +202,15 @@ fn four<J: StepNames + Send + Sync, G: Gate + Drop + Send + Sync, T: Threads + W
         (Pass, Vec<Answer>, Vec<Answer>),
     ),
 >
-    ensures one { IfSome result (λ r. HaveTold J.counter J.name (admission config.now rule.now.patterns) lists.now.first.items lists.now.second.items r.0.0 r.0.1.items r.0.2.items) }
-    ensures two { IfSome result (λ r. HaveTold J.counter J.name (admission config.now rule.now.patterns) lists.now.third.items lists.now.fourth.items r.1.0 r.1.1.items r.1.2.items) }
+    ensures one { IfSome result (λ r. HaveTold J.counter J.name (admission config.now rule.now.patterns) ((lists.now.first.items, r.0.1.items) ∷ (lists.now.second.items, r.0.2.items) ∷ []) r.0.0) }
+    ensures two { IfSome result (λ r. HaveTold J.counter J.name (admission config.now rule.now.patterns) ((lists.now.third.items, r.1.1.items) ∷ (lists.now.fourth.items, r.1.2.items) ∷ []) r.1.0) }
 {
     let (one, two) = join(
         rt,
         || -> Option<(Pass, Vec<Answer>, Vec<Answer>)>
-            ensures { IfSome result (λ r. HaveTold J.counter J.name (admission config.entry.now rule.entry.now.patterns) lists.entry.now.first.items lists.entry.now.second.items r.0 r.1.items r.2.items) }
+            ensures { IfSome result (λ r. HaveTold J.counter J.name (admission config.entry.now rule.entry.now.patterns) ((lists.entry.now.first.items, r.1.items) ∷ (lists.entry.now.second.items, r.2.items) ∷ []) r.0) }
         {
-            pair(
+            both(
                 rt,
                 alloc,
                 site,
@@ -222,9 +221,9 @@ fn four<J: StepNames + Send + Sync, G: Gate + Drop + Send + Sync, T: Threads + W
             )
         },
         || -> Option<(Pass, Vec<Answer>, Vec<Answer>)>
-            ensures { IfSome result (λ r. HaveTold J.counter J.name (admission config.entry.now rule.entry.now.patterns) lists.entry.now.third.items lists.entry.now.fourth.items r.0 r.1.items r.2.items) }
+            ensures { IfSome result (λ r. HaveTold J.counter J.name (admission config.entry.now rule.entry.now.patterns) ((lists.entry.now.third.items, r.1.items) ∷ (lists.entry.now.fourth.items, r.2.items) ∷ []) r.0) }
         {
-            pair(
+            both(
                 rt,
                 alloc,
                 site,
@@ -238,20 +237,4 @@ fn four<J: StepNames + Send + Sync, G: Gate + Drop + Send + Sync, T: Threads + W
     let one = one?;
     let two = two?;
     Some((one, two))
-}
-
-// Two callers, as one fact.
-fn pair<J: StepNames + Send + Sync, G: Gate + Drop + Send + Sync, T: Threads + Wait + Sync>(
-    rt: &T,
-    alloc: Global,
-    site: &Site<J, G>,
-    rule: &UidRule,
-    config: &Config,
-    first: &[Point],
-    second: &[Point],
-) -> Option<(Pass, Vec<Answer>, Vec<Answer>)>
-    ensures { IfSome result (λ r. HaveTold J.counter J.name (admission config.now rule.now.patterns) first.now second.now r.0 r.1.items r.2.items) }
-{
-    let (pass, first, second) = both(rt, alloc, site, rule, config, first, second)?;
-    Some((pass, first, second))
 }

@@ -1,10 +1,8 @@
 //! One worker, which puts points.
-ghost use Rattle.std.specs.Prelude.{◌≡◌, IfOk, IfSome};
+ghost use Rattle.std.specs.Prelude.{[], ◌∷◌, IfOk, IfSome};
 ghost use Rattle.cell_model.specs.Seen.{InEach};
 ghost use Rattle.point_put.specs.Admissions.{admission};
-ghost use Rattle.step_count.specs.Tokens.{counter_of_pass, view_of_pass};
-ghost use Rattle.cell_store.specs.CallerViews.{IsCaller, seen_of};
-ghost use Rattle.site_fleet.specs.FleetAnswers.{WereAsked};
+ghost use Rattle.site_fleet.specs.FleetAnswers.{AskedInTurn, HaveTold};
 
 use cell_model::answers::Stored;
 use cell_model::rows::Rows;
@@ -40,9 +38,7 @@ pub(crate) fn work<J: StepNames, G: Gate + Drop, T: Wait>(
     config: &Config,
     points: &[Point],
 ) -> Option<Worked>
-    ensures counter { IfSome result (λ w. counter_of_pass w.pass ≡ J.counter) }
-    ensures caller { IfSome result (λ w. IsCaller J.name (view_of_pass w.pass)) }
-    ensures asked { IfSome result (λ w. InEach (seen_of (view_of_pass w.pass)) (WereAsked (admission config.now rule.now.patterns) points.now w.answers.items)) }
+    ensures { IfSome result (λ w. HaveTold J.counter J.name (admission config.now rule.now.patterns) ((points.now, w.answers.items) ∷ []) w.pass) }
 {
     let pass = site.open_pass(rt).ok()?;
     let mut names = Uids::over(alloc, pass, KEPT_PAIRS).ok()?;
@@ -61,7 +57,7 @@ fn put_all<R: Rows + Drop>(
     config: &Config,
     points: &[Point],
 ) -> Result<Vec<Answer>, AllocError>
-    ensures { IfOk result (λ answers. InEach (R.seen names.new) (WereAsked (admission config.now rule.now.patterns) points.now answers.items)) }
+    ensures { IfOk result (λ answers. InEach (R.seen names.new) (λ h. AskedInTurn (admission config.now rule.now.patterns) h (R.seen names.new).caller points.now answers.items (R.seen names.new).length)) }
 {
     let mut answers = Vec::with_capacity(alloc, points.len())?;
     for point in points {

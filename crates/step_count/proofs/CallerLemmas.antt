@@ -3,5 +3,9 @@
 pub use Rattle.step_count.proofs.FittingHistories.{picked_each, picked_has, one_or_none}
 -- what fits a view that has learnt a greater length fits it as it was
 pub use Rattle.step_count.proofs.FittingHistories.{fits_shorter}
+-- no two of these numbers are one, where some are of a pass and some of another that it absorbed
+pub use Rattle.step_count.proofs.CallerNumbers.{none_different, one_different, different_among}
+-- an entry leaves the numbers of logs as they are
+pub use Rattle.step_count.proofs.LogLists.{numbers_extended}
 -- a store's own entries tell it, so that the history over a named store begins with that store
 pub use Rattle.step_count.proofs.FirstLicences.{store_told}

@@ -14,17 +14,18 @@ use Rattle.cell_model.specs.History.History.{Base}
 use Rattle.cell_model.proofs.CallerLemmas.{places_total, exact_places}
 use Rattle.step_count.specs.declared.view.Named.{Named}
 use Rattle.step_count.specs.declared.view.View.{View}
-use Rattle.step_count.specs.CounterRule.{Log, store_in, region_count, Fits, Within, Holder, licences_in, callers_in, Kept}
+use Rattle.step_count.specs.CounterRule.{Log, store_in, region_count, Fits, Within, HasEachOnce, Holder, licences_in, callers_in, words_of, Kept}
 use Rattle.step_count.specs.ViewSteps.{without_licence, licence_alone, HasLicence}
 use Rattle.step_count.specs.FirstViews.{named, unused, holding, first_of, unused_licences}
 use Rattle.step_count.proofs.LogLists.{unused_empty, in_unused, without_first, only_first}
+use Rattle.step_count.proofs.CallerNumbers.{none_different}
 
 -- the store that its entries tell
 pub store_told : (s : Store) → from_entries (entries s) ≡ s
 store_told s = same_map places_total exact_places _ _ (λ q. get-from_entries places_total (entries s) q ∙ sym (get-entries s q))
 
 -- the rule at the start
-pub starts : (n : Named) → IsBase (store_in n) → Kept n record { words = 0 ∷ []; homes = []; views = first_of n ∷ [] }
+pub starts : (n : Named) → IsBase (store_in n) → Kept n record { words = words_of 0; homes = []; views = first_of n ∷ [] }
 starts n base = record {
   history = Base (store_in n);
   word = refl;
@@ -34,6 +35,7 @@ starts n base = record {
   licences = λ q lt. (0, record { view = first_of n; log = []; at = refl; has = in_unused 0 (region_count n) q (omega arith) (omega (arith, lt)) });
   one_licence = λ c i j hi hj. first licences_in c i hi ∙ sym (first licences_in c j hj);
   one_caller = λ c i j hi hj. first callers_in c i hi ∙ sym (first callers_in c j hj);
+  once = λ i v e. only_once i v e;
   known = λ place one le. absurd (omega (arith, one, le));
 }
   where
@@ -48,11 +50,15 @@ starts n base = record {
     only_within zero v e = subst Within (some-injective _ _ e) (λ p c. absurd (not_in p c))
     only_within (suc i) v e = absurd (some-ne-none v (sym e))
 
+    only_once : (i : ℕ) (v : View) → get_elem? (first_of n ∷ []) i ≡ some v → HasEachOnce v
+    only_once zero v e = subst HasEachOnce (some-injective _ _ e) none_different
+    only_once (suc i) v e = absurd (some-ne-none v (sym e))
+
     first : (f : View → List Log) (c i : ℕ) → Holder f (first_of n ∷ []) c i → i ≡ 0
     first f c zero h = refl
     first f c (suc i) h = absurd (some-ne-none h.view (sym h.at))
 
-pub starts_named : (s : Store) (D : ℕ) (n : Named) → n ≡ named s D → IsBase s → Kept n record { words = 0 ∷ []; homes = []; views = first_of n ∷ [] }
+pub starts_named : (s : Store) (D : ℕ) (n : Named) → n ≡ named s D → IsBase s → Kept n record { words = words_of 0; homes = []; views = first_of n ∷ [] }
 starts_named s D n is base = starts n (subst IsBase (sym (ap store_in is ∙ store_told s)) base)
 
 -- the next licence leaves the first seat

@@ -1,4 +1,5 @@
 mod LogLists
+mod CallerNumbers
 mod FittingHistories
 mod Holders
 mod WordSteps

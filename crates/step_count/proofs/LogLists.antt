@@ -6,7 +6,7 @@ use native.Mathlib.Decide.{ℕ_discrete}
 use Rattle.list_lemmas.proofs.ListMembers.{here, there, split, not_in}
 use Rattle.cell_model.specs.declared.events.Entry.{Entry}
 use Rattle.cell_model.specs.declared.events.Placed.{Placed}
-use Rattle.step_count.specs.CounterRule.{Log}
+use Rattle.step_count.specs.CounterRule.{Log, numbers_in}
 use Rattle.step_count.specs.ViewSteps.{extended, without, only}
 use Rattle.step_count.specs.FirstViews.{unused}
 
@@ -40,6 +40,11 @@ extended_more test p (l ∷ ls) c log has = at (split l (c, log) ls has) (extend
         let grown = l.1 ++ cond (test l.0 p.entry) (p ∷ []) [] in
         (grown, subst (λ k. Contains (extended test p (l ∷ ls)) (k, grown)) (ap (λ (x : Log). x.0) e) (here (l.0, grown) (extended test p ls)))
     at (inr i) go = let w = go i in (w.0, there (l.0, l.1 ++ cond (test l.0 p.entry) (p ∷ []) []) (c, w.0) (extended test p ls) w.1)
+
+-- with the same numbers
+pub numbers_extended : (test : ℕ → Entry → Bool) (p : Placed) (ls : List Log) → numbers_in (extended test p ls) ≡ numbers_in ls
+numbers_extended test p [] = refl
+numbers_extended test p (l ∷ ls) = ap (λ (ns : List ℕ). l.0 ∷ ns) (numbers_extended test p ls)
 
 -- what is left without a number, and what is of it alone
 eq_of : (a b : ℕ) → (a == b) ≡ true → a ≡ b

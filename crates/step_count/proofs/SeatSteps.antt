@@ -15,15 +15,16 @@ use Rattle.cell_model.specs.declared.events.Placed.{Placed}
 use Rattle.cell_model.specs.Deeds.{placed}
 use Rattle.step_count.specs.declared.view.Named.{Named}
 use Rattle.step_count.specs.declared.view.View.{View}
-use Rattle.step_count.specs.CounterRule.{Log, Fits, Within, Holder, IsHeld, NoTwoHold, IsKnown, licences_in, callers_in, Kept}
+use Rattle.step_count.specs.CounterRule.{Log, Fits, Within, HasEachOnce, Holder, IsHeld, NoTwoHold, IsKnown, licences_in, callers_in, Kept}
 use Rattle.step_count.specs.ViewSteps.{Seated, blank, newcomer, Sits, noted, first_named, met, only, without_licence, licence_alone, HasLicence}
 use Rattle.step_count.proofs.LogLists.{in_without, in_only, to_without, to_only}
+use Rattle.step_count.proofs.CallerNumbers.{none_different, different_both}
 use Rattle.step_count.proofs.Holders.{CounterState, held_set, one_set, still_held, longer_held, within_list}
 
 -- a new seat that has nothing
-sitting : (n : Named) (s : CounterState) (r : Kept n s) (w : View) → Fits n r.history w → Within w → ((c : ℕ) (log : List Placed) → Contains w.callers (c, log) → ⊥) → ((c : ℕ) (log : List Placed) → Contains w.licences (c, log) → ⊥)
+sitting : (n : Named) (s : CounterState) (r : Kept n s) (w : View) → Fits n r.history w → Within w → HasEachOnce w → ((c : ℕ) (log : List Placed) → Contains w.callers (c, log) → ⊥) → ((c : ℕ) (log : List Placed) → Contains w.licences (c, log) → ⊥)
     → Kept n record { words = s.words; homes = s.homes; views = s.views ++ w ∷ [] }
-sitting n s r w mine within off off' = record {
+sitting n s r w mine within once off off' = record {
   history = r.history;
   word = r.word;
   over = r.over;
@@ -32,6 +33,7 @@ sitting n s r w mine within off off' = record {
   licences = λ q lt. longer_held licences_in s.views w q (r.licences q lt);
   one_licence = λ c i j hi hj. r.one_licence c i j (old licences_in off' c i hi) (old licences_in off' c j hj);
   one_caller = λ c i j hi hj. r.one_caller c i j (old callers_in off c i hi) (old callers_in off c j hj);
+  once = λ j u e. ⊎_elim (λ t. r.once j u t) (λ t. subst HasEachOnce t once) (at_snoc s.views w u j e);
   known = λ place one le. let t = r.known place one le in record { seat = t.seat; view = t.view; entry = t.entry; at = at_longer s.views (w ∷ []) t.seat t.view t.at; has = t.has };
 }
   where
@@ -48,7 +50,7 @@ sits n slots me named s r _ _ = (
     seen = λ p c. absurd (not_in p c);
     callers = λ c log a. absurd (not_in (c, log) a);
     regions = λ c log a. absurd (not_in (c, log) a);
-  }) (λ p c. absurd (not_in p c)) (λ c log a. not_in (c, log) a) (λ c log a. not_in (c, log) a),
+  }) (λ p c. absurd (not_in p c)) none_different (λ c log a. not_in (c, log) a) (λ c log a. not_in (c, log) a),
   refl,
 )
 
@@ -63,7 +65,7 @@ notes n id v s r at =
       seen = f.seen;
       callers = λ c log a. absurd (not_in (c, log) a);
       regions = λ c log a. absurd (not_in (c, log) a);
-    }) (r.within id v at) (λ c log a. not_in (c, log) a) (λ c log a. not_in (c, log) a))
+    }) (r.within id v at) none_different (λ c log a. not_in (c, log) a) (λ c log a. not_in (c, log) a))
 
 -- a licence leaves
 pub gives : (n : Named) (id : ℕ) (v : View) (r : ℕ) → HasLicence r v → Splits (Kept n) id v (without_licence r v) (licence_alone r v)
@@ -82,6 +84,10 @@ gives n id v r has s k at = record {
   licences = λ q lt. held q (k.licences q lt);
   one_licence = one;
   one_caller = λ c i j hi hj. one_set callers_in s.views id v (without_licence r v) at (λ c log a. (log, a)) k.one_caller c i j (old c i hi) (old c j hj);
+  once = λ j u e. ⊎_elim
+      (λ t. ⊎_elim (λ (p : (j ≡ id) × (without_licence r v ≡ u)). subst HasEachOnce p.1 (k.once id v at)) (λ p. k.once j u p.1) (at_set s.views id j (without_licence r v) u t))
+      (λ t. subst HasEachOnce t none_different)
+      (at_snoc (set s.views id (without_licence r v)) (licence_alone r v) u j e);
   known = λ place one le. again place (k.known place one le);
 }
   where
@@ -170,6 +176,10 @@ joins n id v other w s r at apart there' = record {
   licences = λ q lt. held q (r.licences q lt);
   one_licence = one licences_in (λ c log a. a) (λ c log a. not_in (c, log) a) r.one_licence;
   one_caller = one callers_in (λ c log a. a) (λ c log a. not_in (c, log) a) r.one_caller;
+  once = λ j u e. ⊎_elim
+      (λ (p : (j ≡ other) × (blank ≡ u)). subst HasEachOnce p.1 none_different)
+      (λ p. ⊎_elim (λ (q : (j ≡ id) × (met v w ≡ u)). subst HasEachOnce q.1 both_once) (λ q. r.once j u q.1) (at_set s.views id j (met v w) u p.1))
+      (at_set (set s.views id (met v w)) other j blank u e);
   known = λ place one_le le. again place (r.known place one_le le);
 }
   where
@@ -200,6 +210,12 @@ joins n id v other w s r at apart there' = record {
       | inl i ↦ let a = r.within id v at p i in omega (arith, a)
       | inr i ↦ let a = r.within other w there_w p i in omega (arith, a)
     ]
+
+    -- a caller of both views would be held by two seats
+    both_once : HasEachOnce (met v w)
+    both_once = different_both v.callers w.callers
+        (λ c log log' mine theirs. apart (r.one_caller c other id (record { view = w; log = log'; at = there_w; has = theirs }) (record { view = v; log = log; at = at; has = mine })))
+        (r.once id v at) (r.once other w there_w)
 
     both : Fits n r.history (met v w)
     both = record {

@@ -16,11 +16,13 @@ use Rattle.cell_model.specs.History.{History, len, entry_at}
 use Rattle.cell_model.specs.History.History.{Then}
 use Rattle.cell_model.specs.Deeds.{placed}
 use Rattle.cell_laws.proofs.CallerLemmas.{bounded, entry_at-last, entry_at-more}
+use Rattle.step_count.specs.declared.counter_rule.TheConstants.{COUNT}
 use Rattle.step_count.specs.declared.view.Named.{Named}
 use Rattle.step_count.specs.declared.view.View.{View}
-use Rattle.step_count.specs.CounterRule.{Log, opening, by_caller, in_region, IsOver, IsLog, Fits, Within, Holder, NoTwoHold, IsKnown, licences_in, callers_in, Kept}
+use Rattle.step_count.specs.CounterRule.{Log, opening, by_caller, in_region, IsOver, IsLog, Fits, Within, HasEachOnce, AreDifferent, Holder, NoTwoHold, IsKnown, licences_in, callers_in, words_of, Kept}
 use Rattle.step_count.specs.ViewSteps.{Seated, learned, regions_in, added, opened, Lives, MayAdd, Learns, Adds, Opens}
-use Rattle.step_count.proofs.LogLists.{extended_less, extended_more}
+use Rattle.step_count.proofs.LogLists.{extended_less, extended_more, numbers_extended}
+use Rattle.step_count.proofs.CallerNumbers.{different_more}
 use Rattle.step_count.proofs.FittingHistories.{bool_false, picked_same, none_yet, fits_learned, fits_others, fits_added, within_added, other_region, may_lawful}
 use Rattle.step_count.proofs.CounterTurns.{HasWaited, may_later}
 use Rattle.step_count.proofs.Holders.{CounterState, held_set, one_set, still_held, within_list}
@@ -28,19 +30,20 @@ use Rattle.step_count.proofs.Holders.{CounterState, held_set, one_set, still_hel
 -- the rule after one view has changed, over a history that may be longer
 moved : (n : Named) (s : CounterState) (r : Kept n s) (id : ℕ) (v w : View) → get_elem? s.views id ≡ some v → (log : History) → IsOver n log
     → ((j : ℕ) (u : View) → j ≢ id → get_elem? s.views j ≡ some u → Fits n log u) → Fits n log w → Within w
-    → ((q : ℕ) (log : List Placed) → Contains v.licences (q, log) → (log' : List Placed) × Contains w.licences (q, log')) → NoTwoHold licences_in (set s.views id w) → NoTwoHold callers_in (set s.views id w)
+    → ((q : ℕ) (log : List Placed) → Contains v.licences (q, log) → (log' : List Placed) × Contains w.licences (q, log')) → NoTwoHold licences_in (set s.views id w) → NoTwoHold callers_in (set s.views id w) → HasEachOnce w
     → ((p : Placed) → Contains v.seen p → Contains w.seen p)
     → ((place : ℕ) → place ≤ len log → (place ≤ len r.history) ⊎ ((e : Entry) × Contains w.seen (placed place e)))
-    → (k : ℕ) → k ≡ len log → (c : List (ℕ × Unit {0})) → Kept n (stepped s 0 k id c w keeps)
-moved n s r id v w at log over others mine within kept lic call more new k is c = record {
+    → (k : ℕ) → k ≡ len log → (c : List (ℕ × Unit {0})) → Kept n (stepped s COUNT k id c w keeps)
+moved n s r id v w at log over others mine within kept lic call once more new k is c = record {
   history = log;
-  word = ap (λ ws. set ws 0 k) r.word ∙ ap (λ m. m ∷ []) is;
+  word = ap (λ ws. set ws COUNT k) r.word ∙ ap words_of is;
   over = over;
   fits = λ j u e. ⊎_elim (λ t. subst (Fits n log) t.1 mine) (λ t. others j u t.0 t.1) (at_set s.views id j w u e);
   within = λ j u e. ⊎_elim (λ t. subst Within t.1 within) (λ t. r.within j u t.1) (at_set s.views id j w u e);
   licences = λ q lt. still_held licences_in s.views id v w at q (kept q) (r.licences q lt);
   one_licence = lic;
   one_caller = call;
+  once = λ j u e. ⊎_elim (λ t. subst HasEachOnce t.1 once) (λ t. r.once j u t.1) (at_set s.views id j w u e);
   known = λ place one le. ⊎_elim (λ below. again place (r.known place one below)) (λ t. record { seat = id; view = w; entry = t.0; at = at_id; has = t.1 }) (new place le);
 }
   where
@@ -52,16 +55,16 @@ moved n s r id v w at log over others mine within kept lic call more new k is c 
         (λ same. record { seat = id; view = w; entry = t.entry; at = at_id; has = more (placed place t.entry) (subst (λ (u : View). Contains u.seen (placed place t.entry)) (some-injective t.view v (sym t.at ∙ ap (get_elem? s.views) same ∙ at)) t.has) })
         (λ apart. record { seat = t.seat; view = t.view; entry = t.entry; at = set_else s.views id t.seat w apart ∙ t.at; has = t.has })
 
-word_is : (n : Named) (s : CounterState) (r : Kept n s) → slice_index s.words 0 ≡ len r.history
-word_is n s r = ap (λ ws. slice_index ws 0) r.word
+word_is : (n : Named) (s : CounterState) (r : Kept n s) → slice_index s.words COUNT ≡ len r.history
+word_is n s r = ap (λ ws. slice_index ws COUNT) r.word
 
-learns_kept : (n : Named) (s : CounterState) (r : Kept n s) (id : ℕ) (v : View) → get_elem? s.views id ≡ some v → (k : ℕ) → k ≡ len r.history → (c : List (ℕ × Unit {0})) → Kept n (stepped s 0 k id c (learned v k) keeps)
+learns_kept : (n : Named) (s : CounterState) (r : Kept n s) (id : ℕ) (v : View) → get_elem? s.views id ≡ some v → (k : ℕ) → k ≡ len r.history → (c : List (ℕ × Unit {0})) → Kept n (stepped s COUNT k id c (learned v k) keeps)
 learns_kept n s r id v at k is c =
     let w = learned v k in
     moved n s r id v w at r.history r.over (λ j u _ e. r.fits j u e)
     (subst (λ m. Fits n r.history (learned v m)) (sym is) (fits_learned n r.history v (r.fits id v at)))
     (λ p has. let a = r.within id v at p has in let l = (r.fits id v at).long in omega (arith, a, l, is))
-    (λ q log a. (log, a)) (one_set licences_in s.views id v w at (λ c log a. (log, a)) r.one_licence) (one_set callers_in s.views id v w at (λ c log a. (log, a)) r.one_caller)
+    (λ q log a. (log, a)) (one_set licences_in s.views id v w at (λ c log a. (log, a)) r.one_licence) (one_set callers_in s.views id v w at (λ c log a. (log, a)) r.one_caller) (r.once id v at)
     (λ p was. was) (λ place le. inl le) k is c
 
 learned_lives : (n : Named) (s : CounterState) (r : Kept n s) (id : ℕ) (v : View) → get_elem? s.views id ≡ some v → (k : ℕ) → k ≡ len r.history → Lives (learned v k)
@@ -72,18 +75,22 @@ learned_lives n s r id v at k is = record {
   fits = subst (λ m. Fits n r.history (learned v m)) (sym is) (fits_learned n r.history v (r.fits id v at));
   within = λ p has. let a = r.within id v at p has in let l = (r.fits id v at).long in omega (arith, a, l, is);
   whole = sym is;
+  once = r.once id v at;
 }
 
 -- the length is learnt
-pub learns : (n : Named) (slots id : ℕ) (me : Seated) → Allows (Kept n) slots id me 0 (λ k. k) (Learns (step slots 0 0 0 mathlib.Core.Option.none) me)
+pub learns : (n : Named) (slots id : ℕ) (me : Seated) → Allows (Kept n) slots id me COUNT (λ k. k) (Learns (step slots COUNT 0 0 mathlib.Core.Option.none) me)
 learns n slots id me s r _ at _ =
-    let k : ℕ = slice_index s.words 0 in
+    let k : ℕ = slice_index s.words COUNT in
     let is : k ≡ len r.history = word_is n s r in
     let le : me.0.length ≤ k = let a = (r.fits id me.0 at).long in omega (arith, is, a) in
     (learned me.0 k, keeps, tt, learns_kept n s r id me.0 at k is me.1, (refl, le, learned_lives n s r id me.0 at k is))
 
+once_added : (v : View) (place : ℕ) (e : Entry) → HasEachOnce v → HasEachOnce (added v place e)
+once_added v place e once = subst AreDifferent (sym (numbers_extended by_caller (placed place e) v.callers)) once
+
 adds_kept : (n : Named) (s : CounterState) (r : Kept n s) (id : ℕ) (v : View) (e : Entry) → get_elem? s.views id ≡ some v → MayAdd v e
-    → (k : ℕ) → k ≡ len r.history → (c : List (ℕ × Unit {0})) → Kept n (stepped s 0 (k + 1) id c (added v (k + 1) e) keeps)
+    → (k : ℕ) → k ≡ len r.history → (c : List (ℕ × Unit {0})) → Kept n (stepped s COUNT (k + 1) id c (added v (k + 1) e) keeps)
 adds_kept n s r id v e at may k is c =
     let w = added v (k + 1) e in
     let f = r.fits id v at in
@@ -102,6 +109,7 @@ adds_kept n s r id v e at may k is c =
     (extended_more (in_region (regions_in v.named)) (placed (k + 1) e) v.licences)
     (one_set licences_in s.views id v w at (extended_less (in_region (regions_in v.named)) (placed (k + 1) e) v.licences) r.one_licence)
     (one_set callers_in s.views id v w at (extended_less by_caller (placed (k + 1) e) v.callers) r.one_caller)
+    (once_added v (k + 1) e (r.once id v at))
     (λ p was. there (placed (k + 1) e) p v.seen was)
     (λ place le. dite (ℕ_discrete place (k + 1))
     (λ last. inr (e, subst (λ m. Contains (placed (k + 1) e ∷ v.seen) (placed m e)) (sym last) (here (placed (k + 1) e) v.seen)))
@@ -110,9 +118,9 @@ adds_kept n s r id v e at may k is c =
 
 -- an entry is added
 pub adds : (n : Named) (slots id : ℕ) (me : Seated) (e : Entry) (old : ℕ) → MayAdd me.0 e
-    → Allows (Kept n) slots id me 0 (λ k. either (eqb k old) (old + 1) k) (Adds e (step slots 0 old (old + 1) mathlib.Core.Option.none) me)
+    → Allows (Kept n) slots id me COUNT (λ k. either (eqb k old) (old + 1) k) (Adds e (step slots COUNT old (old + 1) mathlib.Core.Option.none) me)
 adds n slots id me e old may s r _ at _ =
-    let k : ℕ = slice_index s.words 0 in
+    let k : ℕ = slice_index s.words COUNT in
     let f = r.fits id me.0 at in
     let is : k ≡ len r.history = word_is n s r in
     let le : me.0.length ≤ k = let a = f.long in omega (arith, is, a) in
@@ -122,8 +130,8 @@ adds n slots id me e old may s r _ at _ =
       added me.0 (k + 1) e,
       keeps,
       tt,
-      subst (λ m. Kept n (stepped s 0 m id me.1 (added me.0 (k + 1) e) keeps)) (sym (ap (λ b. either b (old + 1) k) (eq-eqb k old hit)))
-          (subst (λ m. Kept n (stepped s 0 (m + 1) id me.1 (added me.0 (k + 1) e) keeps)) hit (adds_kept n s r id me.0 e at may k is me.1)),
+      subst (λ m. Kept n (stepped s COUNT m id me.1 (added me.0 (k + 1) e) keeps)) (sym (ap (λ b. either b (old + 1) k) (eq-eqb k old hit)))
+          (subst (λ m. Kept n (stepped s COUNT (m + 1) id me.1 (added me.0 (k + 1) e) keeps)) hit (adds_kept n s r id me.0 e at may k is me.1)),
       (
         le,
         record {
@@ -133,6 +141,7 @@ adds n slots id me e old may s r _ at _ =
           fits = subst (λ m. Fits n (Then r.history e) (added me.0 (m + 1) e)) (sym is) (fits_added n r.history e me.0 (may.named ∙ ap Some name) f);
           within = within_added me.0 (k + 1) e (omega (arith, le)) (r.within id me.0 at);
           whole = ap (λ m. m + 1) (sym is);
+          once = once_added me.0 (k + 1) e (r.once id me.0 at);
         },
         (λ _. refl),
         λ ne. absurd (ne hit),
@@ -142,12 +151,12 @@ adds n slots id me e old may s r _ at _ =
       learned me.0 k,
       keeps,
       tt,
-      subst (λ m. Kept n (stepped s 0 m id me.1 (learned me.0 k) keeps)) (sym (ap (λ b. either b (old + 1) k) (ne_eqb k old miss))) (learns_kept n s r id me.0 at k is me.1),
+      subst (λ m. Kept n (stepped s COUNT m id me.1 (learned me.0 k) keeps)) (sym (ap (λ b. either b (old + 1) k) (ne_eqb k old miss))) (learns_kept n s r id me.0 at k is me.1),
       (le, learned_lives n s r id me.0 at k is, (λ hit. absurd (miss hit)), λ _. refl),
     ))
 
 pub adds_later : (n : Named) (slots id : ℕ) (me : Seated) (v : View) (e : Entry) (old : ℕ) → HasWaited v me.0 → MayAdd v e
-    → Allows (Kept n) slots id me 0 (λ k. either (eqb k old) (old + 1) k) (Adds e (step slots 0 old (old + 1) mathlib.Core.Option.none) me)
+    → Allows (Kept n) slots id me COUNT (λ k. either (eqb k old) (old + 1) k) (Adds e (step slots COUNT old (old + 1) mathlib.Core.Option.none) me)
 adds_later n slots id me v e old was may = adds n slots id me e old (may_later v me.0 e was may)
 
 -- a caller opens
@@ -189,14 +198,21 @@ opening_fits n h v over f =
           each = λ q i. there (placed (len h + 1) (opening (len h + 1))) q v.seen (l.each q i);
         }
 
+-- no caller of a view has a number above the history's length
+caller_within : (n : Named) (s : CounterState) (r : Kept n s) (c j : ℕ) (u : View) → get_elem? s.views j ≡ some u → (log : List Placed) → Contains u.callers (c, log) → c ≤ len r.history
+caller_within n s r c j u is_u log a = bounded r.history c (opening c) ((r.fits j u is_u).callers c log a).opened
+
+once_opened : (n : Named) (s : CounterState) (r : Kept n s) (id : ℕ) (v : View) → get_elem? s.views id ≡ some v → (k : ℕ) → k ≡ len r.history → HasEachOnce (opened v (k + 1))
+once_opened n s r id v at k is = different_more (k + 1) v.callers (λ log a. let low = caller_within n s r (k + 1) id v at log a in omega (arith, low, is)) (r.once id v at)
+
 opens_kept : (n : Named) (s : CounterState) (r : Kept n s) (id : ℕ) (v : View) → get_elem? s.views id ≡ some v
-    → (k : ℕ) → k ≡ len r.history → (c : List (ℕ × Unit {0})) → Kept n (stepped s 0 (k + 1) id c (opened v (k + 1)) keeps)
+    → (k : ℕ) → k ≡ len r.history → (c : List (ℕ × Unit {0})) → Kept n (stepped s COUNT (k + 1) id c (opened v (k + 1)) keeps)
 opens_kept n s r id v at k is c =
     let w = opened v (k + 1) in
     let f = r.fits id v at in
     moved n s r id v w at (Then r.history (opening (len r.history + 1))) (opening_over n r.history r.over)
     (λ j u apart is_u. fits_others n r.history (opening (len r.history + 1)) u
-    (λ c log a. bool_false (nat_eq (len r.history + 1) c) (λ t. let same = nat_eq_is (len r.history + 1) c t in let l = low c j u is_u log a in omega (arith, same, l)))
+    (λ c log a. bool_false (nat_eq (len r.history + 1) c) (λ t. let same = nat_eq_is (len r.history + 1) c t in let l = caller_within n s r c j u is_u log a in omega (arith, same, l)))
     (λ m log a. refl)
     (r.fits j u is_u))
     (subst (λ m. Fits n (Then r.history (opening (len r.history + 1))) (opened v (m + 1))) (sym is) (opening_fits n r.history v r.over f))
@@ -207,17 +223,15 @@ opens_kept n s r id v at k is c =
     (λ q log a. (log, a))
     (one_set licences_in s.views id v w at (λ c log a. (log, a)) r.one_licence)
     fresh
+    (once_opened n s r id v at k is)
     (λ p was. there (placed (k + 1) (opening (k + 1))) p v.seen was)
     (λ place le. dite (ℕ_discrete place (k + 1))
     (λ last. inr (opening (k + 1), subst (λ m. Contains (placed (k + 1) (opening (k + 1)) ∷ v.seen) (placed m (opening (k + 1)))) (sym last) (here (placed (k + 1) (opening (k + 1))) v.seen)))
     (λ below. inl (omega (arith, below, le, is))))
     (k + 1) (ap (λ m. m + 1) is) c
   where
-    low : (c j : ℕ) (u : View) → get_elem? s.views j ≡ some u → (log : List Placed) → Contains u.callers (c, log) → c ≤ len r.history
-    low c j u is_u log a = bounded r.history c (opening c) ((r.fits j u is_u).callers c log a).opened
-
     held_low : (c i : ℕ) → Holder callers_in s.views c i → c ≤ len r.history
-    held_low c i h = low c i h.view h.at h.log h.has
+    held_low c i h = caller_within n s r c i h.view h.at h.log h.has
 
     parts : (c : ℕ) → ((log : List Placed) × Contains ((k + 1, placed (k + 1) (opening (k + 1)) ∷ []) ∷ v.callers) (c, log)) → (c ≡ k + 1) ⊎ ((log : List Placed) × Contains v.callers (c, log))
     parts c t = elim (split (k + 1, placed (k + 1) (opening (k + 1)) ∷ []) (c, t.0) v.callers t.1) [ inl e ↦ inl (ap (λ (x : Log). x.0) (sym e)) | inr i ↦ inr (t.0, i) ]
@@ -240,9 +254,9 @@ opens_kept n s r id v at k is c =
         (held_set callers_in s.views id (opened v (k + 1)) c j hj))
         (held_set callers_in s.views id (opened v (k + 1)) c i hi)
 
-pub opens : (n : Named) (slots id : ℕ) (me : Seated) (old : ℕ) → Allows (Kept n) slots id me 0 (λ k. either (eqb k old) (old + 1) k) (Opens (step slots 0 old (old + 1) mathlib.Core.Option.none) me)
+pub opens : (n : Named) (slots id : ℕ) (me : Seated) (old : ℕ) → Allows (Kept n) slots id me COUNT (λ k. either (eqb k old) (old + 1) k) (Opens (step slots COUNT old (old + 1) mathlib.Core.Option.none) me)
 opens n slots id me old s r _ at _ =
-    let k : ℕ = slice_index s.words 0 in
+    let k : ℕ = slice_index s.words COUNT in
     let f = r.fits id me.0 at in
     let is : k ≡ len r.history = word_is n s r in
     let le : me.0.length ≤ k = let a = f.long in omega (arith, is, a) in
@@ -251,8 +265,8 @@ opens n slots id me old s r _ at _ =
       opened me.0 (k + 1),
       keeps,
       tt,
-      subst (λ m. Kept n (stepped s 0 m id me.1 (opened me.0 (k + 1)) keeps)) (sym (ap (λ b. either b (old + 1) k) (eq-eqb k old hit)))
-          (subst (λ m. Kept n (stepped s 0 (m + 1) id me.1 (opened me.0 (k + 1)) keeps)) hit (opens_kept n s r id me.0 at k is me.1)),
+      subst (λ m. Kept n (stepped s COUNT m id me.1 (opened me.0 (k + 1)) keeps)) (sym (ap (λ b. either b (old + 1) k) (eq-eqb k old hit)))
+          (subst (λ m. Kept n (stepped s COUNT (m + 1) id me.1 (opened me.0 (k + 1)) keeps)) hit (opens_kept n s r id me.0 at k is me.1)),
       (
         le,
         record {
@@ -265,6 +279,7 @@ opens n slots id me old s r _ at _ =
             | inr was ↦ let a = r.within id me.0 at p was in omega (arith, a, le)
           ];
           whole = ap (λ m. m + 1) (sym is);
+          once = once_opened n s r id me.0 at k is;
         },
         (λ _. refl),
         λ ne. absurd (ne hit),
@@ -274,6 +289,6 @@ opens n slots id me old s r _ at _ =
       learned me.0 k,
       keeps,
       tt,
-      subst (λ m. Kept n (stepped s 0 m id me.1 (learned me.0 k) keeps)) (sym (ap (λ b. either b (old + 1) k) (ne_eqb k old miss))) (learns_kept n s r id me.0 at k is me.1),
+      subst (λ m. Kept n (stepped s COUNT m id me.1 (learned me.0 k) keeps)) (sym (ap (λ b. either b (old + 1) k) (ne_eqb k old miss))) (learns_kept n s r id me.0 at k is me.1),
       (le, learned_lives n s r id me.0 at k is, (λ hit. absurd (miss hit)), λ _. refl),
     ))

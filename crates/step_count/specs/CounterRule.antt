@@ -1,5 +1,5 @@
 -- What a history has of a view, and the rule of the counter: one history, which all views tell together.
-use Rattle.std.specs.Prelude.{◌≡◌, ℕ, ◌+◌, ◌<◌, ◌≤◌, Bool, nat_eq, List, [], ◌∷◌, Contains, Some}
+use Rattle.std.specs.Prelude.{◌≡◌, ◌≢◌, ℕ, ◌+◌, ◌-◌, ◌<◌, ◌≤◌, Bool, nat_eq, List, [], ◌∷◌, ◌++◌, map, replicate, AllPairs, Contains, Some}
 use Rattle.std.specs.FinMap.{from_entries}
 use mathlib.Core.Option.{some}
 use lib.ListN.{get_elem?}
@@ -13,6 +13,7 @@ use Rattle.cell_model.specs.Store.{Store}
 use Rattle.cell_model.specs.History.{History, base_of, len, entry_at}
 use Rattle.cell_model.specs.Lawful.{IsLawful}
 use Rattle.cell_parts.specs.StoreParts.{is_mine, is_in, picked}
+use Rattle.step_count.specs.declared.counter_rule.TheConstants.{COUNT, WORDS}
 use Rattle.step_count.specs.declared.view.Named.{Named}
 use Rattle.step_count.specs.declared.view.View.{View}
 
@@ -59,6 +60,21 @@ pub record Fits (n : Named) (h : History) (v : View) : Type 0 where
   pub callers : (caller : ℕ) (log : List Placed) → Contains v.callers (caller, log) → IsLog h v.seen caller log
   pub regions : (region : ℕ) (log : List Placed) → Contains v.licences (region, log) → picked (in_region n.data_regions region) h ≡ log
 
+-- the numbers of logs; no number stands twice
+abbrev pub numbers_in : List Log → List ℕ
+numbers_in logs = map (λ (l : Log). l.0) logs
+
+abbrev pub AreDifferent : List ℕ → Type 0
+AreDifferent numbers = AllPairs (λ a b. a ≢ b) numbers
+
+-- no two callers of the view are one
+abbrev pub HasEachOnce : View → Type 0
+HasEachOnce v = AreDifferent (numbers_in v.callers)
+
+-- the words of the counter at this length: the word that counts, in the middle of others that stay 0
+abbrev pub words_of : ℕ → List ℕ
+words_of length = replicate COUNT 0 ++ length ∷ replicate (WORDS - (COUNT + 1)) 0
+
 -- nothing is seen past the seen length
 abbrev pub Within : View → Type 0
 Within v = (p : Placed) → Contains v.seen p → p.place ≤ v.length
@@ -102,13 +118,14 @@ pub record Kept (n : Named) (s : State (Unit {0}) View) : Type 0 where
   pub history : History
   pub fits : InEachView s.views (Fits n history)
   pub known : (place : ℕ) → 1 ≤ place → place ≤ len history → IsKnown s.views place
-  -- The word is its length; no view's length is above that, and no view has seen an entry past its own length.
-  pub word : s.words ≡ len history ∷ []
+  -- The counter's word is its length; no view's length is above that, and no view has seen an entry past its own length.
+  pub word : s.words ≡ words_of (len history)
   pub within : InEachView s.views Within
   -- It begins with the named store, and is lawful: each entry's caller has opened before.
   pub over : IsOver n history
   -- The licence of each region is in exactly one view, which has all entries of that region.
   pub licences : (region : ℕ) → region < region_count n → IsHeld licences_in s.views region
   pub one_licence : NoTwoHold licences_in s.views
-  -- Each caller's number is the place of its opening, and is in no other view than the one that has all its entries.
+  -- Each caller's number is the place of its opening, and is in no other view than the one that has all its entries, and there once.
   pub one_caller : NoTwoHold callers_in s.views
+  pub once : InEachView s.views HasEachOnce

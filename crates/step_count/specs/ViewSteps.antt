@@ -11,7 +11,7 @@ use Rattle.cell_model.specs.Deeds.{placed}
 use Rattle.cell_parts.specs.StoreParts.{is_in, part, StaysWithin, replayed}
 use Rattle.step_count.specs.declared.view.Named.{Named}
 use Rattle.step_count.specs.declared.view.View.{View}
-use Rattle.step_count.specs.CounterRule.{Log, store_in, opening, by_caller, in_region, IsOver, Fits, Within}
+use Rattle.step_count.specs.CounterRule.{Log, store_in, opening, by_caller, in_region, IsOver, Fits, Within, HasEachOnce}
 
 -- a seat that is spent, and that of a newcomer, who is told the store
 abbrev pub blank : View
@@ -92,7 +92,7 @@ licence_alone region v = record { named = v.named; length = v.length; seen = v.s
 abbrev pub HasLicence : ℕ → View → Type 0
 HasLicence region v = (log : List Placed) × Contains v.licences (region, log)
 
--- a lawful history of exactly the seen length fits
+-- a lawful history of exactly the seen length fits, and no two callers of the view are one
 pub record Lives (v : View) : Type 0 where
   pub name : Named
   pub history : History
@@ -100,6 +100,7 @@ pub record Lives (v : View) : Type 0 where
   pub fits : Fits name history v
   pub within : Within v
   pub whole : len history ≡ v.length
+  pub once : HasEachOnce v
 
 -- The entry may be added: it is by a caller of the view, it looks at one region and the view has its licence, its reply is the machine's over the licence's
 -- entries, and in each lawful history that fits it is allowed.

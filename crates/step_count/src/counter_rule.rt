@@ -154,7 +154,14 @@ impl Join<View> for Both {
     ghost spent = { blank };
 }
 
-/// The word with its seats.
+/// How many words the counter has.
+pub(crate) const WORDS: usize = 32;
+
+/// Which of them counts. The others are never written: they keep all else off its cache line and off the one that is fetched with it, so that
+/// who reads something else doesn't wait for those who count. Seats are split and joined at the first word.
+pub(crate) const COUNT: usize = 16;
+
+/// The words with their seats.
 pub(crate) type Counter = Table<(), View, Origin, CounterRule, Global>;
 
 /// What each token has of the counter.

@@ -2,13 +2,14 @@
 ghost use Rattle.std.specs.Prelude.{◌≡◌, ℕ, ◌+◌, ◌-◌, ◌<◌, ◌≤◌, [], Some, IfOk, All, map};
 ghost use Rattle.std.specs.Arc.{arc_value};
 ghost use Rattle.row_key.specs.declared.regions.TheConstants.{NAME_REGIONS, MOST_DATA_REGIONS};
+ghost use Rattle.step_count.specs.declared.counter_rule.TheConstants.{WORDS};
 ghost use Rattle.cell_model.specs.Sound.{IsBase};
 ghost use Rattle.step_count.specs.FirstViews.{holding, named, unused_licences};
 ghost use Rattle.step_count.specs.ViewSteps.{HasLicence, Lives, MayAdd, added, learned, licence_alone, met, newcomer, noted, opened, without_licence};
 
 use crate::counter_rule::{
-    Add, Base, Both, Chosen, Copied, Counter, Entry, Learn, Leaves, Names, NoRule, Open, Sit,
-    TokenSeat,
+    Add, Base, Both, COUNT, Chosen, Copied, Counter, Entry, Learn, Leaves, Names, NoRule, Open,
+    Sit, TokenSeat, WORDS,
 };
 use crate::view::Named;
 use atomic_table::Table;
@@ -20,7 +21,7 @@ use std::sync::{Arc, Wait};
 #[derive(Drop)]
 pub struct Steps {
     counter: Arc<Counter, Global>,
-    ghost one_word: { (arc_value counter).shared.table_id.words ≡ 1 },
+    ghost words: { (arc_value counter).shared.table_id.words ≡ WORDS },
 }
 
 /// A caller's token: with it the caller learns the history's length and makes its entries.
@@ -28,7 +29,9 @@ pub struct Steps {
 pub struct Pass {
     counter: Arc<Counter, Global>,
     seat: TokenSeat,
-    ghost one_word: { (arc_value counter).shared.table_id.words ≡ 1 },
+    // The place of the entry that it added last: the word, where nobody has added one since.
+    last: u64,
+    ghost words: { (arc_value counter).shared.table_id.words ≡ WORDS },
     ghost seated: { seat.table_id ≡ (arc_value counter).shared.table_id },
     ghost empty: { seat.me.1 ≡ [] },
 }
@@ -80,20 +83,27 @@ impl Steps {
         naming
             .shared
             .store::<Names<B>>(&mut origin, 0, u64::from(regions));
-        let (counter, seat) = Counter::of_words(alloc, &[0], &origin)?;
+        let (counter, seat) = Counter::of_words(alloc, &[0; WORDS], &origin)?;
         let counter = Arc::new(alloc, counter)?;
         let steps = Steps {
             counter: Arc::try_clone(&counter)?,
         };
-        Ok((steps, Pass { counter, seat }))
+        Ok((
+            steps,
+            Pass {
+                counter,
+                seat,
+                last: 0,
+            },
+        ))
     }
 }
 
 impl Pass {
     ghost use Rattle.step_count.specs.Tokens.{counter_of_steps, counter_of_pass, counter_of_licence, counter_of_note, name_of_steps, view_of_pass, view_of_licence, view_of_note};
 
-    /// A new caller. It makes one entry, its opening, whose place is the caller's number. It fails only for want of memory, and doesn't
-    /// return where the word stays.
+    /// A new caller. It makes one entry, its opening, whose place is the caller's number, and nobody else's. It fails only for want of
+    /// memory, and doesn't return where the word stays.
     pub fn open_on<T: Wait>(rt: &T, steps: &Steps) -> Result<Pass, AllocError>
         ensures counter { IfOk result (λ pass. counter_of_pass pass ≡ counter_of_steps steps.now) }
         ensures view { IfOk result (λ pass. (number : ℕ) × (view_of_pass pass ≡ opened (newcomer (Some (name_of_steps steps.now))) number)) }
@@ -101,7 +111,11 @@ impl Pass {
     {
         let counter = Arc::try_clone(&steps.counter)?;
         let (_found, seat) = counter.shared.load_new_seat::<Sit>(0);
-        let mut pass = Pass { counter, seat };
+        let mut pass = Pass {
+            counter,
+            seat,
+            last: 0,
+        };
         pass.open(rt);
         Ok(pass)
     }
@@ -121,7 +135,7 @@ impl Pass {
                 let found = self
                     .counter
                     .shared
-                    .compare_exchange::<Open>(&mut self.seat, 0, seen, seen + 1);
+                    .compare_exchange::<Open>(&mut self.seat, COUNT, seen, seen + 1);
                 if found == seen {
                     return;
                 }
@@ -131,14 +145,14 @@ impl Pass {
         unreachable!()
     }
 
-    /// The history's length at this moment.
+    /// The history's length at this moment. What the pass has then learnt tells too that no two of the callers that it is are one.
     pub fn learn(&mut self) -> u64
         ensures counter { counter_of_pass self.new ≡ counter_of_pass self.old }
         ensures view { view_of_pass self.new ≡ learned (view_of_pass self.old) result }
         ensures up { (view_of_pass self.old).length ≤ result }
         ensures live { Lives (view_of_pass self.new) }
     {
-        self.counter.shared.load::<Learn>(&mut self.seat, 0)
+        self.counter.shared.load::<Learn>(&mut self.seat, COUNT)
     }
 
     /// What this pass has seen, for another.
@@ -162,13 +176,18 @@ impl Pass {
         self.counter.shared.join_seat::<Both>(&mut self.seat, seat);
     }
 
-    /// Takes another's place: the pass has seen all that either had, and has the other's number too. It goes on under its own.
+    /// Takes another's place: the pass has seen all that either had, and has the other's numbers too, of which none was its own. It goes on
+    /// under its own number.
     pub fn absorb(&mut self, other: Pass)
         requires { counter_of_pass other ≡ counter_of_pass self.old }
         ensures counter { counter_of_pass self.new ≡ counter_of_pass self.old }
         ensures view { view_of_pass self.new ≡ met (view_of_pass self.old) (view_of_pass other) }
     {
-        let Pass { counter: _, seat } = other;
+        let Pass {
+            counter: _,
+            seat,
+            last: _,
+        } = other;
         self.counter.shared.join_seat::<Both>(&mut self.seat, seat);
     }
 
@@ -229,7 +248,7 @@ impl Pass {
         ensures up { (view_of_pass self.old).length + 1 ≤ result }
         ensures live { Lives (view_of_pass self.new) }
     {
-        let mut seen = self.learn();
+        let mut seen = self.last;
         for _ in rt.forever() {
             if seen == u64::MAX {
                 seen = self.learn();
@@ -237,8 +256,9 @@ impl Pass {
                 let found = self
                     .counter
                     .shared
-                    .compare_exchange::<Add<E>>(&mut self.seat, 0, seen, seen + 1);
+                    .compare_exchange::<Add<E>>(&mut self.seat, COUNT, seen, seen + 1);
                 if found == seen {
+                    self.last = seen + 1;
                     return seen + 1;
                 }
                 seen = found;

@@ -1,5 +1,5 @@
 //! Decimal digits.
-ghost use Rattle.std.specs.Prelude.{◌≡◌, ◌^◌, ◌-◌, min, MatchOption, true, false};
+ghost use Rattle.std.specs.Prelude.{◌≡◌, ◌≤◌, ◌^◌, ◌*◌, ◌+◌, ◌-◌, min, MatchOption, true, false};
 ghost use Rattle.std.specs.Str.Parse.{digits_value};
 ghost use Rattle.tsd_base.specs.Digits.{is_number};
 
@@ -16,7 +16,20 @@ pub fn read_digits(text: &[u8]) -> Option<u64>
         if !b.is_ascii_digit() {
             return None;
         }
-        n = n.saturating_mul(10).saturating_add(u64::from(*b - b'0'));
+        n = with_digit(n, *b - b'0');
     }
     Some(n)
+}
+
+/// The number with one more digit behind it; at most the last `u64`.
+#[inline]
+fn with_digit(n: u64, digit: u8) -> u64
+    requires { digit ≤ 9 }
+    ensures { result ≡ min (n * 10 + digit) (2 ^ 64 - 1) }
+{
+    if n < 1_000_000_000_000_000_000 {
+        n * 10 + u64::from(digit)
+    } else {
+        n.saturating_mul(10).saturating_add(u64::from(digit))
+    }
 }

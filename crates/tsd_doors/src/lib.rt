@@ -6,5 +6,3 @@ pub mod mem_doors;
 pub mod mem_ends;
 pub mod tcp_doors;
 pub mod tcp_ends;
-#[cfg(test)]
-mod tests;

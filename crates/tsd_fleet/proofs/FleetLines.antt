@@ -166,11 +166,11 @@ empty_tally tally ids rows cells = record {
 }
 
 -- the site's history is one in which all was served
-pub fleet_serves : (T U : Type 0) (c : Admission) (moments : Option (List ℕ)) (s : Seen) (name given : Named) (d : DividedStore) (back back' : Option (List Shut)) (faults faults' : ℕ) (ends : List Served) (tally : Tally)
-    → given ≡ name → EndsAt name s d → Gathered T U c moments s back back' faults faults' ends → IsTally d.content tally → FleetServes T U c moments (store_in given) back back' faults faults' ends tally
-fleet_serves T U c moments s name given d back back' faults faults' ends tally same e g t = record {
+pub fleet_serves : (T U : Type 0) (c : Admission) (moments : Option (List ℕ)) (s : Seen) (numbers : List ℕ) (name given : Named) (d : DividedStore) (back back' : Option (List Shut)) (faults faults' : ℕ) (ends : List Served) (tally : Tally)
+    → given ≡ name → EndsAt name s d → Gathered T U c moments s numbers back back' faults faults' ends → IsTally d.content tally → FleetServes T U c moments (store_in given) back back' faults faults' ends tally
+fleet_serves T U c moments s numbers name given d back back' faults faults' ends tally same e g t = record {
   store = d.content;
-  stands = stands T U c moments s (store_in given) d.content back back' faults faults' ends e.history e.lawful e.fits (e.base_is ∙ sym (ap store_in same)) e.store_is g;
+  stands = stands T U c moments s numbers (store_in given) d.content back back' faults faults' ends e.history e.lawful e.fits (e.base_is ∙ sym (ap store_in same)) e.store_is g;
   tally_is = t;
 }
 

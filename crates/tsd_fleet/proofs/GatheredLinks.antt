@@ -1,13 +1,15 @@
 -- Connections that are given back worker by worker.
-use Rattle.std.proofs.Common.{◌≡◌, ℕ, ◌+◌, ◌-◌, ◌^◌, ◌≤◌, Bool, true, false, ◌&&◌, List, [], ◌∷◌, ◌++◌, length, ◌⊎◌, inl, inr, refl, sym, subst, ap, ◌∙◌, append_assoc, append-nil, length-append, arith}
+use Rattle.std.proofs.Common.{◌≡◌, ◌≢◌, ℕ, ◌+◌, ◌-◌, ◌^◌, ◌≤◌, Bool, true, false, ◌&&◌, List, [], ◌∷◌, ◌++◌, length, ◌⊎◌, inl, inr, ⊎_elim, refl, sym, subst, ap, ◌∙◌, append_assoc, append-nil, length-append, arith}
 use Rattle.std.specs.List.{sum_by}
-use Rattle.std.specs.Prelude.{Option, None, Some, Result, Ok, Err, IfOk, OnErr, is_ok, min, filter, All, map}
+use Rattle.std.specs.Prelude.{Option, None, Some, Result, Ok, Err, IfOk, OnErr, is_ok, min, filter, All, Contains, map}
 use Rattle.std.proofs.lemmas.Bool.{true≢false}
-use Rattle.std.proofs.lemmas.List.Elements.{All-head, All-nil, All-push, All-tail, filter-append}
+use Rattle.std.proofs.lemmas.List.Elements.{All-head, All-nil, All-push, All-tail, Contains-append_cases, Contains-append_left, Contains-append_right, filter-append}
 use Rattle.std.proofs.lemmas.List.Sums.{sum_by-cons, sum_by_push}
 use Rattle.std.proofs.lemmas.Grind.{flat_map-append}
 use mathlib.Core.List.{map-append, map-map}
 use lib.ListN.{length-map}
+use Rattle.list_lemmas.proofs.ListMembers.{here, there, not_in, pairs_in, pairs_tail, split}
+use Rattle.list_lemmas.proofs.ListParts.{pairs_front, pairs_push}
 use Rattle.tsd_io.specs.Causes.{Rose, joined}
 use Rattle.tsd_doors.specs.Links.{Counts, Shut}
 use Rattle.link_workers.specs.declared.accept_loop.AcceptEnd.{AcceptEnd}
@@ -19,10 +21,13 @@ use Rattle.cell_model.specs.History.{History, base_of, store_after}
 use Rattle.cell_model.specs.Lawful.{IsLawful}
 use Rattle.cell_model.specs.Seen.{Seen, Fits}
 use Rattle.cell_model.specs.Deeds.{Extends}
+use Rattle.step_count.specs.CounterRule.{AreDifferent}
+use Rattle.step_count.proofs.CallerLemmas.{none_different, one_different, different_among}
+use Rattle.cell_store.specs.CallerViews.{numbers_of}
 use Rattle.point_put.specs.Admissions.{Admission}
 use Rattle.tsd_daemon.specs.declared.served.Served.{Served}
 use Rattle.tsd_fleet.specs.ServedLinks.{ServedInTurn, ServedLink, WorkerServed, clock_fault_count, is_clock_fault}
-use Rattle.tsd_fleet.specs.FleetStands.{CallerLinks, FleetStands, Gathered, GivenBack, SiteCounts, TakenBack, links_of}
+use Rattle.tsd_fleet.specs.FleetStands.{CallerLinks, callers_of, FleetStands, Gathered, GivenBack, SiteCounts, TakenBack, links_of}
 
 -- a list that is told, and then more
 ends_more : (a b c : Option (List Shut)) (xs ys : List Shut) → AllEnd a b xs → AllEnd b c ys → AllEnd a c (xs ++ ys)
@@ -42,19 +47,51 @@ count_joined xs ys =
 links_more : (callers : List CallerLinks) (k : CallerLinks) → links_of (callers ++ k ∷ []) ≡ links_of callers ++ k.links
 links_more callers k = flat_map-append (λ (k : CallerLinks). k.links) callers (k ∷ []) ∙ ap (λ l. links_of callers ++ l) (append-nil k.links)
 
+-- a caller has none of these numbers, and they with its own are among those
+pub record IsNew (numbers all : List ℕ) (caller : ℕ) : Type 0 where
+  pub different : AreDifferent (numbers ++ caller ∷ [])
+  pub among : (number : ℕ) → Contains (numbers ++ caller ∷ []) number → Contains all number
+
+-- a caller that was absorbed is new among those that were
+pub absorbed_new : (s s' w : Seen) → numbers_of s' ≡ numbers_of s ++ numbers_of w → AreDifferent (numbers_of s') → IsNew s.absorbed s'.absorbed w.caller
+absorbed_new s s' w are different = record {
+  different = pairs_front (λ a b. a ≢ b) (s.absorbed ++ w.caller ∷ []) w.absorbed (subst AreDifferent parts (pairs_tail (λ a b. a ≢ b) s'.caller s'.absorbed different));
+  among = λ number has. subst (λ (l : List ℕ). Contains l number) (sym parts) (Contains-append_left (s.absorbed ++ w.caller ∷ []) w.absorbed number has);
+}
+  where
+    behind : s'.absorbed ≡ s.absorbed ++ w.caller ∷ w.absorbed
+    behind = cc
+
+    parts : s'.absorbed ≡ (s.absorbed ++ w.caller ∷ []) ++ w.absorbed
+    parts = behind ∙ sym (append_assoc s.absorbed (w.caller ∷ []) w.absorbed)
+
+-- and the caller itself among those that it absorbed
+pub own_new : (own s : Seen) → own.caller ≡ s.caller → AreDifferent (numbers_of s) → IsNew s.absorbed (numbers_of s) own.caller
+own_new own s same different = record {
+  different = pairs_push (λ a b. a ≢ b) s.absorbed own.caller (pairs_tail (λ a b. a ≢ b) s.caller s.absorbed different) (λ number has is. pairs_in (λ a b. a ≢ b) s.caller number s.absorbed different has (sym (is ∙ same)));
+  among = λ number has. ⊎_elim
+      (λ i. there s.caller number s.absorbed i)
+      (λ i. ⊎_elim (λ (is : own.caller ≡ number). subst (Contains (numbers_of s)) (sym same ∙ is) (here s.caller s.absorbed)) (λ none. absurd (not_in number none)) (split own.caller number [] i))
+      (Contains-append_cases s.absorbed (own.caller ∷ []) number has);
+}
+
 -- nothing was given back yet
-pub none_gathered : (T U : Type 0) (c : Admission) (moments : Option (List ℕ)) (s : Seen) (back : Option (List Shut)) (faults : ℕ) (ends : List Served) → ends ≡ [] → Gathered T U c moments s back back faults faults ends
-none_gathered T U c moments s back faults ends none = record {
+pub none_gathered : (T U : Type 0) (c : Admission) (moments : Option (List ℕ)) (s : Seen) (numbers : List ℕ) (back : Option (List Shut)) (faults : ℕ) (ends : List Served) → ends ≡ [] → Gathered T U c moments s numbers back back faults faults ends
+none_gathered T U c moments s numbers back faults ends none = record {
   callers = [];
+  different = none_different;
+  among = λ number has. absurd (not_in number has);
   served = λ h law fits. All-nil (λ (k : CallerLinks). ServedInTurn T U c moments h k.caller k.links k.last);
   given = record { doors = none_end back; ends_are = none; clock_faults = omega arith };
 }
 
 -- more was seen, and the clock's count rose
-pub gathered_later : (T U : Type 0) (c : Admission) (moments : Option (List ℕ)) (s s' : Seen) (back back' : Option (List Shut)) (faults n n' : ℕ) (ends : List Served) → Extends s s' → n ≤ n' → Gathered T U c moments s back back' faults n ends
-    → Gathered T U c moments s' back back' faults n' ends
-gathered_later T U c moments s s' back back' faults n n' ends later le g = record {
+pub gathered_later : (T U : Type 0) (c : Admission) (moments : Option (List ℕ)) (s s' : Seen) (numbers numbers' : List ℕ) (back back' : Option (List Shut)) (faults n n' : ℕ) (ends : List Served)
+    → ((number : ℕ) → Contains numbers number → Contains numbers' number) → Extends s s' → n ≤ n' → Gathered T U c moments s numbers back back' faults n ends → Gathered T U c moments s' numbers' back back' faults n' ends
+gathered_later T U c moments s s' numbers numbers' back back' faults n n' ends more_numbers later le g = record {
   callers = g.callers;
+  different = g.different;
+  among = λ number has. more_numbers number (g.among number has);
   served = λ h law fits. g.served h law (later.fits h fits);
   given = record { doors = g.given.doors; ends_are = g.given.ends_are; clock_faults = more g.given.clock_faults };
 }
@@ -63,11 +100,13 @@ gathered_later T U c moments s s' back back' faults n n' ends later le g = recor
     more few = omega (arith, few, le)
 
 -- the connections that a worker served were given back
-pub gathered_more : {K : Type 0} (shown : K → Shut) (T U : Type 0) (c : Admission) (moments : Option (List ℕ)) (by : Admission) (s s' w : Seen) (now : Option (List ℕ)) (back b b' : Option (List Shut)) (faults n n' twin : ℕ)
-    (ends ends' : List Served) (served : List (K × Served)) → Extends s s' → Extends w s' → n' ≡ joined n twin → WorkerServed T U c moments by w now twin (map (λ one. (shown one.0, one.1)) served)
-    → AllEnd b b' (map (λ one. shown one.0) served) → ends' ≡ ends ++ map (λ one. one.1) served → Gathered T U c moments s back b faults n ends → Gathered T U c moments s' back b' faults n' ends'
-gathered_more {K = K} shown T U c moments by s s' w now back b b' faults n n' twin ends ends' served mine theirs rose ws backs are g = record {
+pub gathered_more : {K : Type 0} (shown : K → Shut) (T U : Type 0) (c : Admission) (moments : Option (List ℕ)) (by : Admission) (s s' w : Seen) (numbers numbers' : List ℕ) (now : Option (List ℕ)) (back b b' : Option (List Shut)) (faults n n' twin : ℕ)
+    (ends ends' : List Served) (served : List (K × Served)) → IsNew numbers numbers' w.caller → Extends s s' → Extends w s' → n' ≡ joined n twin → WorkerServed T U c moments by w now twin (map (λ one. (shown one.0, one.1)) served)
+    → AllEnd b b' (map (λ one. shown one.0) served) → ends' ≡ ends ++ map (λ one. one.1) served → Gathered T U c moments s numbers back b faults n ends → Gathered T U c moments s' numbers' back b' faults n' ends'
+gathered_more {K = K} shown T U c moments by s s' w numbers numbers' now back b b' faults n n' twin ends ends' served new mine theirs rose ws backs are g = record {
   callers = g.callers ++ one ∷ [];
+  different = subst AreDifferent (sym numbers_are) (different_among numbers (w.caller ∷ []) (callers_of g.callers) (w.caller ∷ []) new.different g.different (one_different w.caller) g.among (λ number has. has));
+  among = λ number has. new.among number (more_in number (subst (λ (l : List ℕ). Contains l number) numbers_are has));
   served = λ h law fits. All-push (λ (k : CallerLinks). ServedInTurn T U c moments h k.caller k.links k.last) g.callers one (g.served h law (mine.fits h fits)) (ws.served h law (theirs.fits h fits));
   given = subst (GivenBack back b' faults n' ends') (sym (links_more g.callers one)) (record {
     doors = subst (AllEnd back b') (ap (λ l. map (λ (l : ServedLink). l.0) (links_of g.callers) ++ l) (sym (map-map (λ (l : ServedLink). l.0) pair served)) ∙ sym (map-append (λ (l : ServedLink). l.0) (links_of g.callers) links))
@@ -87,6 +126,12 @@ gathered_more {K = K} shown T U c moments by s s' w now back b b' faults n n' tw
     one : CallerLinks
     one = record { caller = w.caller; last = w.length; links = links }
 
+    numbers_are : callers_of (g.callers ++ one ∷ []) ≡ callers_of g.callers ++ w.caller ∷ []
+    numbers_are = map-append (λ (k : CallerLinks). k.caller) g.callers (one ∷ [])
+
+    more_in : (number : ℕ) → Contains (callers_of g.callers ++ w.caller ∷ []) number → Contains (numbers ++ w.caller ∷ []) number
+    more_in number has = ⊎_elim (λ i. Contains-append_left numbers (w.caller ∷ []) number (g.among number i)) (λ i. Contains-append_right numbers (w.caller ∷ []) number i) (Contains-append_cases (callers_of g.callers) (w.caller ∷ []) number has)
+
     counts : (all k j : ℕ) → all ≡ k + j → min (faults + k) (2 ^ 64 - 1) ≤ n → min j (2 ^ 64 - 1) ≤ twin → min (faults + all) (2 ^ 64 - 1) ≤ n'
     counts all k j is few within = omega (arith, is, few, within, rose)
 
@@ -99,27 +144,30 @@ none_back T U c moments h base back faults ends law base_is store_is none = reco
   base_is = base_is;
   store_is = store_is;
   callers = [];
+  different = none_different;
   served = All-nil (λ (k : CallerLinks). ServedInTurn T U c moments h k.caller k.links k.last);
   given = record { doors = none_end back; ends_are = none; clock_faults = omega arith };
 }
 
 -- a worker's connections were given back, or for want of memory none of them was
-pub gathered_either : {K X E : Type 0} (Q : Type 0) (shown : K → Shut) (T U : Type 0) (c : Admission) (moments : Option (List ℕ)) (by : Admission) (s s' w : Seen) (now : Option (List ℕ)) (back b b' : Option (List Shut)) (faults n n' twin : ℕ)
-    (ends ends' : List Served) (served : List (K × Served)) (r : Result X E) → Extends s s' → Extends w s' → n' ≡ joined n twin → n ≤ n' → WorkerServed T U c moments by w now twin (map (λ one. (shown one.0, one.1)) served)
-    → IfOk r (λ _. AllEnd b b' (map (λ one. shown one.0) served)) → IfOk r (λ _. ends' ≡ ends ++ map (λ one. one.1) served) → OnErr r ((b' ≡ b) × Q × (ends' ≡ ends)) → Gathered T U c moments s back b faults n ends → Gathered T U c moments s' back b' faults n' ends'
-gathered_either Q shown T U c moments by s s' w now back b b' faults n n' twin ends ends' served (Ok x) mine theirs rose later ws backs are none g = gathered_more shown T U c moments by s s' w now back b b' faults n n' twin ends ends' served mine theirs rose ws backs are g
-gathered_either Q shown T U c moments by s s' w now back b b' faults n n' twin ends ends' served (Err e) mine theirs rose later ws backs are none g =
-    subst (λ (o : Option (List Shut)). Gathered T U c moments s' back o faults n' ends') (sym none.0) (subst (Gathered T U c moments s' back b faults n') (sym none.2) (gathered_later T U c moments s s' back b faults n n' ends mine later g))
+pub gathered_either : {K X E : Type 0} (Q : Type 0) (shown : K → Shut) (T U : Type 0) (c : Admission) (moments : Option (List ℕ)) (by : Admission) (s s' w : Seen) (numbers numbers' : List ℕ) (now : Option (List ℕ)) (back b b' : Option (List Shut)) (faults n n' twin : ℕ)
+    (ends ends' : List Served) (served : List (K × Served)) (r : Result X E) → IsNew numbers numbers' w.caller → Extends s s' → Extends w s' → n' ≡ joined n twin → n ≤ n' → WorkerServed T U c moments by w now twin (map (λ one. (shown one.0, one.1)) served)
+    → IfOk r (λ _. AllEnd b b' (map (λ one. shown one.0) served)) → IfOk r (λ _. ends' ≡ ends ++ map (λ one. one.1) served) → OnErr r ((b' ≡ b) × Q × (ends' ≡ ends)) → Gathered T U c moments s numbers back b faults n ends → Gathered T U c moments s' numbers' back b' faults n' ends'
+gathered_either Q shown T U c moments by s s' w numbers numbers' now back b b' faults n n' twin ends ends' served (Ok x) new mine theirs rose later ws backs are none g = gathered_more shown T U c moments by s s' w numbers numbers' now back b b' faults n n' twin ends ends' served new mine theirs rose ws backs are g
+gathered_either Q shown T U c moments by s s' w numbers numbers' now back b b' faults n n' twin ends ends' served (Err e) new mine theirs rose later ws backs are none g =
+    subst (λ (o : Option (List Shut)). Gathered T U c moments s' numbers' back o faults n' ends') (sym none.0) (subst (Gathered T U c moments s' numbers' back b faults n') (sym none.2)
+    (gathered_later T U c moments s s' numbers numbers' back b faults n n' ends (λ number has. new.among number (Contains-append_left numbers (w.caller ∷ []) number has)) mine later g))
 
 -- the site's own history is one that fits
-pub stands : (T U : Type 0) (c : Admission) (moments : Option (List ℕ)) (s : Seen) (base store : Store) (back back' : Option (List Shut)) (faults faults' : ℕ) (ends : List Served) (h : History) → IsLawful h → Fits s h → base_of h ≡ base → store ≡ store_after h
-    → Gathered T U c moments s back back' faults faults' ends → FleetStands T U c moments base store back back' faults faults' ends
-stands T U c moments s base store back back' faults faults' ends h law fits base_is store_is g = record {
+pub stands : (T U : Type 0) (c : Admission) (moments : Option (List ℕ)) (s : Seen) (numbers : List ℕ) (base store : Store) (back back' : Option (List Shut)) (faults faults' : ℕ) (ends : List Served) (h : History) → IsLawful h → Fits s h → base_of h ≡ base → store ≡ store_after h
+    → Gathered T U c moments s numbers back back' faults faults' ends → FleetStands T U c moments base store back back' faults faults' ends
+stands T U c moments s numbers base store back back' faults faults' ends h law fits base_is store_is g = record {
   history = h;
   lawful = law;
   base_is = base_is;
   store_is = store_is;
   callers = g.callers;
+  different = g.different;
   served = g.served h law fits;
   given = g.given;
 }

@@ -1,5 +1,5 @@
 -- What workers over one site served, as a fact of the site's one history, and what their connections were given back as.
-use Rattle.std.specs.Prelude.{◌≡◌, Bool, true, ℕ, ◌+◌, ◌-◌, ◌^◌, ◌≤◌, min, All, List, map, flat_map, Option}
+use Rattle.std.specs.Prelude.{◌≡◌, Bool, true, ℕ, ◌+◌, ◌-◌, ◌^◌, ◌≤◌, min, All, Contains, List, map, flat_map, Option}
 use Rattle.tsd_doors.specs.Links.{Counts, Shut, accepted}
 use Rattle.link_workers.specs.declared.accept_loop.AcceptEnd.{AcceptEnd}
 use Rattle.link_workers.specs.Accepting.{lost_by}
@@ -8,6 +8,7 @@ use Rattle.cell_model.specs.Store.{Store}
 use Rattle.cell_model.specs.History.{History, base_of, store_after}
 use Rattle.cell_model.specs.Lawful.{IsLawful}
 use Rattle.cell_model.specs.Seen.{Seen, InEach}
+use Rattle.step_count.specs.CounterRule.{AreDifferent}
 use Rattle.point_put.specs.Admissions.{Admission}
 use Rattle.tsd_daemon.specs.declared.served.Served.{Served}
 use Rattle.tsd_fleet.specs.ServedLinks.{ServedInTurn, ServedLink, clock_fault_count}
@@ -22,6 +23,10 @@ pub record CallerLinks : Type 0 where
 abbrev pub AllInTurn : Type 0 → Type 0 → Admission → Option (List ℕ) → History → List CallerLinks → Type 0
 AllInTurn inlets_tell outlets_tell c moments h callers = All (λ (k : CallerLinks). ServedInTurn inlets_tell outlets_tell c moments h k.caller k.links k.last) callers
 
+-- the number of each caller
+abbrev pub callers_of : List CallerLinks → List ℕ
+callers_of callers = map (λ (k : CallerLinks). k.caller) callers
+
 -- all connections, caller by caller
 abbrev pub links_of : List CallerLinks → List ServedLink
 links_of callers = flat_map (λ (k : CallerLinks). k.links) callers
@@ -33,9 +38,11 @@ pub record GivenBack (back back' : Option (List Shut)) (faults faults' : ℕ) (e
   pub ends_are : ends ≡ map (λ (l : ServedLink). l.1) links
   pub clock_faults : min (faults + clock_fault_count links) (2 ^ 64 - 1) ≤ faults'
 
--- in each lawful history that fits what was seen, these connections were served, each by one of some callers
-pub record Gathered (inlets_tell outlets_tell : Type 0) (c : Admission) (moments : Option (List ℕ)) (s : Seen) (back back' : Option (List Shut)) (faults faults' : ℕ) (ends : List Served) : Type 0 where
+-- In each lawful history that fits what was seen, these connections were served, each by one of some callers, of which no two are one. Their numbers are among these.
+pub record Gathered (inlets_tell outlets_tell : Type 0) (c : Admission) (moments : Option (List ℕ)) (s : Seen) (numbers : List ℕ) (back back' : Option (List Shut)) (faults faults' : ℕ) (ends : List Served) : Type 0 where
   pub callers : List CallerLinks
+  pub different : AreDifferent (callers_of callers)
+  pub among : (number : ℕ) → Contains (callers_of callers) number → Contains numbers number
   pub served : InEach s (λ h. AllInTurn inlets_tell outlets_tell c moments h callers)
   pub given : GivenBack back back' faults faults' ends (links_of callers)
 
@@ -54,12 +61,14 @@ pub record SiteCounts (end : AcceptEnd) (links ends : ℕ) (before now : Counts)
   pub returned : now.returned ≡ before.returned + ends
   pub all : lost_by end ≡ 0 → accepted now ≡ accepted before + ends
 
--- Over one lawful history over the base these connections were served, each by one of some callers, and this is the store after it.
+-- Over one lawful history over the base these connections were served, each by one of some callers, of which no two are one, and this is the store after it. So no two
+-- connections share a place of the history, whoever served them.
 pub record FleetStands (inlets_tell outlets_tell : Type 0) (c : Admission) (moments : Option (List ℕ)) (base store : Store) (back back' : Option (List Shut)) (faults faults' : ℕ) (ends : List Served) : Type 0 where
   pub history : History
   pub lawful : IsLawful history
   pub base_is : base_of history ≡ base
   pub store_is : store ≡ store_after history
   pub callers : List CallerLinks
+  pub different : AreDifferent (callers_of callers)
   pub served : AllInTurn inlets_tell outlets_tell c moments history callers
   pub given : GivenBack back back' faults faults' ends (links_of callers)

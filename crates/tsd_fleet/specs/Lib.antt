@@ -1,3 +1,4 @@
 pub mod ServedLinks
 pub mod FleetStands
 pub mod FleetServes
+pub mod DueRows

@@ -7,6 +7,7 @@ ghost use Rattle.tsd_daemon.specs.ServedConns.{ConnCauses, Passes, ServesBytes};
 ghost use Rattle.tsd_fleet.specs.ServedLinks.{AllTell, WorkerServed};
 
 use crate::conn_terms::ConnTerms;
+use crate::row_compactor::RowsTo;
 use crate::unstopped_rows::UnstoppedRows;
 use cell_model::rows::Rows;
 use compactor::queue::Queue;
@@ -23,12 +24,22 @@ use uid_table::uids::Uids;
 
 /// A worker: rows of one caller, with the ids of names, and what else connections are served with.
 #[derive(Drop)]
-pub struct ConnWorker<'a, J: ConnTerms, R: Rows + Drop, C: Clock + Drop, B: Bell + Drop> {
+pub struct ConnWorker<
+    'a,
+    J: ConnTerms,
+    R: Rows + Drop,
+    C: Clock + Drop,
+    B: Bell + Drop,
+    S: RowsTo + Drop,
+> {
     /// The rows.
     pub(crate) names: Uids<R>,
 
-    /// Rows of points that were accepted and are to be compacted.
+    /// Rows of points that were accepted on the connection in hand and are to be compacted.
     pub(crate) queue: Queue,
+
+    /// Where they go after the connection.
+    pub(crate) rows_to: S,
 
     /// A twin of the fleet's clock.
     pub(crate) clock: C,
@@ -55,9 +66,10 @@ impl<
     R: UnstoppedRows + Drop,
     C: Clock + Drop,
     B: Bell + Drop,
+    S: RowsTo + Drop,
     I: Source,
     O: Sink,
-> LinkWork<I, O> for ConnWorker<'a, J, R, C, B> {
+> LinkWork<I, O> for ConnWorker<'a, J, R, C, B, S> {
     type End = Served;
 
     ghost served = { λ work links. WorkerServed (AllTell I.taken) (AllTell O.held) J.admission J.moments
@@ -75,6 +87,7 @@ impl<
             &mut self.clock,
             &mut self.queue,
         );
+        self.rows_to.send(self.alloc, &mut self.queue);
         if end == Served::Die {
             self.bell.ring();
         }

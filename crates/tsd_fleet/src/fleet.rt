@@ -10,7 +10,7 @@ ghost use Rattle.tsd_fleet.specs.FleetServes.{BeginsToListen, CountsLinks, Fleet
 use crate::conn_terms::ConnTerms;
 use crate::fleet_end::{FleetEnd, fleet_end};
 use crate::listening::listen;
-use crate::site_service::serve_site;
+use crate::site_threads::serve_site;
 use cell_model::{Body, Listing, Tally};
 use cell_region::Regions;
 use cell_store::{Gate, SiteParts, StepNames};
@@ -108,6 +108,12 @@ pub fn serve<
     ensures reason { HasFleetReason result.end result.ends.items (D.waiting doors.old) (D.waiting doors.new) (H.stops halt) (H.stops result.halt)
         (D.faults doors.old) (D.faults doors.new) (K.faults output.old) (K.faults output.new) }
     ensures listens { HasListened result.end (K.held output.old) (K.held output.new) (D.counts doors.new) }
+
+    // No count falls.
+    ensures stops_later { H.stops halt ≤ H.stops result.halt }
+    ensures clock_later { C.faults clock.old ≤ C.faults clock.new }
+    ensures doors_later { D.faults doors.old ≤ D.faults doors.new }
+    ensures writes_later { K.faults output.old ≤ K.faults output.new }
 {
     let mut halt = halt;
     match serve_listening(
@@ -172,6 +178,10 @@ fn serve_listening<
     ensures listens { IfOk result (λ s. Listens (K.held output.old) (K.held output.new) (D.counts doors.new)) }
     ensures begins { BeginsToListen (K.held output.old) (K.held output.new) (D.counts doors.new) }
     ensures failed { IfErr result (λ end. IsListenFault end (D.faults doors.old) (D.faults doors.new) (K.faults output.old) (K.faults output.new)) }
+    ensures stops_later { H.stops halt.old ≤ H.stops halt.new }
+    ensures clock_later { C.faults clock.old ≤ C.faults clock.new }
+    ensures doors_later { D.faults doors.old ≤ D.faults doors.new }
+    ensures writes_later { K.faults output.old ≤ K.faults output.new }
     ensures back { OnErr result (D.back doors.new ≡ D.back doors.old) }
     ensures returned { OnErr result ((D.counts doors.new).returned ≡ (D.counts doors.old).returned) }
     ensures out { OnErr result ((D.counts doors.new).out ≡ (D.counts doors.old).out) }
@@ -220,6 +230,9 @@ fn serve_regions<
     ensures port { IfOk result (λ s. (D.counts doors.new).port ≡ (D.counts doors.old).port) }
     ensures reason { IfOk result (λ s. (writes writes_now : ℕ) → HasFleetReason s.end s.ends.items (D.waiting doors.old) (D.waiting doors.new) (H.stops halt.old) (H.stops halt.new)
         (D.faults doors.old) (D.faults doors.new) writes writes_now) }
+    ensures stops_later { H.stops halt.old ≤ H.stops halt.new }
+    ensures clock_later { C.faults clock.old ≤ C.faults clock.new }
+    ensures doors_later { D.faults doors.old ≤ D.faults doors.new }
     ensures doors { OnErr result (doors.new ≡ doors.old) }
     ensures clock { OnErr result (clock.new ≡ clock.old) }
 {
@@ -258,6 +271,9 @@ fn serve_parts<
     ensures port { IfOk result (λ s. (D.counts doors.new).port ≡ (D.counts doors.old).port) }
     ensures reason { IfOk result (λ s. (writes writes_now : ℕ) → HasFleetReason s.end s.ends.items (D.waiting doors.old) (D.waiting doors.new) (H.stops halt.old) (H.stops halt.new)
         (D.faults doors.old) (D.faults doors.new) writes writes_now) }
+    ensures stops_later { H.stops halt.old ≤ H.stops halt.new }
+    ensures clock_later { C.faults clock.old ≤ C.faults clock.new }
+    ensures doors_later { D.faults doors.old ≤ D.faults doors.new }
     ensures doors { OnErr result (doors.new ≡ doors.old) }
     ensures clock { OnErr result (clock.new ≡ clock.old) }
 {

@@ -24,6 +24,7 @@ pub(crate) fn listen<D: Doors, K: Sink>(
     ensures back { D.back doors.new ≡ D.back doors.old }
     ensures failed { IfErr result (λ end. IsListenFault end (D.faults doors.old) (D.faults doors.new) (K.faults output.old) (K.faults output.new)) }
     ensures later { D.faults doors.old ≤ D.faults doors.new }
+    ensures writes_later { K.faults output.old ≤ K.faults output.new }
 {
     let Ok(bound) = doors.bind(port) else {
         return Err(FleetEnd::DoorFault);

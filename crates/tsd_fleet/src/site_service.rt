@@ -1,8 +1,8 @@
 //! The connections of the doors, served by workers over one site.
-ghost use Rattle.std.specs.Prelude.{◌≡◌, ◌⊎◌, ◌<◌, ◌≤◌, ◌+◌, true, [], All, IfOk, OnErr, length, map};
+ghost use Rattle.std.specs.Prelude.{◌≡◌, ◌⊎◌, ◌<◌, ◌≤◌, ◌+◌, true, [], All, IfOk, OnErr, length, map, vec_len};
 ghost use Rattle.std.specs.List.{sum_by};
 ghost use Rattle.step_count.specs.Tokens.{counter_of_pass, view_of_pass};
-ghost use Rattle.cell_store.specs.CallerViews.{IsCaller, seen_of};
+ghost use Rattle.cell_store.specs.CallerViews.{IsCaller, numbers_of, seen_of};
 ghost use Rattle.link_workers.specs.Accepting.{HasReason, links_between};
 ghost use Rattle.link_workers.specs.Returns.{AccountsFor};
 ghost use Rattle.point_put.specs.Admissions.{admission};
@@ -12,16 +12,20 @@ ghost use Rattle.tsd_fleet.specs.FleetStands.{Gathered, SiteCounts, TakenBack};
 use crate::conn_terms::ConnTerms;
 use crate::conn_worker::ConnWorker;
 use crate::fleet::Fleet;
+use crate::row_compactor::{RowsTo, ToCompactor};
 use crate::unstopped_rows::UnstoppedRows;
 use crate::worker_return::take_all_back;
 use crate::worker_seats::{make_worker, make_workers};
 use cell_store::{Gate, Site, SitePass, StepNames};
+use compactor::queue::Queue;
+use crossbeam_channel::Sender;
 use link_workers::accept_loop::{AcceptEnd, Accepted};
 use link_workers::link_ends::{LinkEnds, give_back};
 use link_workers::link_service::serve_links;
 use point_put::Config;
 use std::alloc::{AllocError, Global};
 use std::marker::Model;
+use std::mem::replace;
 use std::sync::Wait;
 use std::thread::Threads;
 use step_count::Pass;
@@ -48,10 +52,11 @@ pub(crate) struct SiteServed {
 }
 
 /// Accepts connections, and has each served by one of the workers or by the caller, each of whom is a caller of the site. All are given
-/// back to the doors, or where the end is `OutOfMemory` some.
+/// back to the doors, or where the end is `OutOfMemory` some. The rows of their points are sent to these, one for each queue, which are
+/// dropped at the end.
 ///
 /// Err, for want of memory, says that nothing was done.
-pub(crate) fn serve_site<
+pub(crate) fn serve_connections<
     J: StepNames + ConnTerms + Send + Sync,
     G: Gate + Drop + Send + Sync,
     T: Threads + Wait + Sync,
@@ -68,7 +73,9 @@ pub(crate) fn serve_site<
     clock: &mut C,
     halt: &mut H,
     doors: &mut D,
+    rows_to: &mut Vec<Sender<Queue>>,
 ) -> Result<SiteServed, AllocError>
+    requires rows_to { vec_len rows_to.old ≡ fleet.now.daemons }
     requires daemons { 1 ≤ fleet.now.daemons }
     requires most_daemons { fleet.now.daemons ≤ 8 }
     requires most_workers { fleet.now.workers ≤ 16 }
@@ -76,19 +83,23 @@ pub(crate) fn serve_site<
     requires moments { C.moments clock.old ≡ J.moments }
     ensures counter { IfOk result (λ s. counter_of_pass s.pass ≡ J.counter) }
     ensures caller { IfOk result (λ s. IsCaller J.name (view_of_pass s.pass)) }
-    ensures gathered { IfOk result (λ s. Gathered (AllTell D.Inlet.taken) (AllTell D.Outlet.held) J.admission J.moments (seen_of (view_of_pass s.pass))
+    ensures gathered { IfOk result (λ s. Gathered (AllTell D.Inlet.taken) (AllTell D.Outlet.held) J.admission J.moments (seen_of (view_of_pass s.pass)) (numbers_of (seen_of (view_of_pass s.pass)))
         (D.back doors.old) (D.back doors.new) (C.faults clock.old) (C.faults clock.new) s.ends.items) }
     ensures counts { IfOk result (λ s. SiteCounts s.end s.links (length s.ends.items) (D.counts doors.old) (D.counts doors.new)) }
     ensures reason { IfOk result (λ s. HasReason s.end (D.waiting doors.old) (D.waiting doors.new) (H.stops halt.old) (H.stops halt.new) (D.faults doors.old) (D.faults doors.new)) }
+    ensures stops_later { H.stops halt.old ≤ H.stops halt.new }
+    ensures clock_later { C.faults clock.old ≤ C.faults clock.new }
+    ensures doors_later { D.faults doors.old ≤ D.faults doors.new }
     ensures doors { OnErr result (doors.new ≡ doors.old) }
     ensures clock { OnErr result (clock.new ≡ clock.old) }
     ensures halt { OnErr result (halt.new ≡ halt.old) }
 {
-    let work = make_worker(rt, alloc, site, rule, config, clock, doors)?;
+    let rows_to = replace(rows_to, Vec::new(alloc));
+    let work = make_worker(rt, alloc, site, rule, config, clock, doors, &rows_to[0])?;
     let mut own = LinkEnds::make(alloc, work);
     let count = fleet.daemons * fleet.workers;
-    let mut workers = make_workers(rt, alloc, site, rule, config, clock, doors, count)?;
-    let accepted = serve_rows::<J, SitePass<'_, J, G, T>, T, C, H, D>(
+    let mut workers = make_workers(rt, alloc, site, rule, config, clock, doors, &rows_to, count)?;
+    let accepted = serve_rows::<J, SitePass<'_, J, G, T>, ToCompactor<'_, T>, T, C, H, D>(
         rt,
         alloc,
         fleet.daemons as usize,
@@ -111,6 +122,7 @@ fn serve_rows<
     'a,
     J: ConnTerms + Send,
     R: UnstoppedRows + Drop + Send,
+    S: RowsTo + Drop + Send,
     T: Threads + Wait + Sync,
     C: Clock + Send + Drop,
     H: Halt,
@@ -121,8 +133,8 @@ fn serve_rows<
     queue_count: usize,
     doors: &mut D,
     halt: &mut H,
-    workers: &mut Vec<LinkEnds<ConnWorker<'a, J, R, C, D::Bell>, D::Kept, Served>>,
-    own: &mut LinkEnds<ConnWorker<'a, J, R, C, D::Bell>, D::Kept, Served>,
+    workers: &mut Vec<LinkEnds<ConnWorker<'a, J, R, C, D::Bell, S>, D::Kept, Served>>,
+    own: &mut LinkEnds<ConnWorker<'a, J, R, C, D::Bell, S>, D::Kept, Served>,
 ) -> Accepted
     requires some { 0 < queue_count }
     requires idle { All (λ worker. worker.ends.items ≡ []) workers.old.items }
@@ -142,6 +154,8 @@ fn serve_rows<
     ensures links { result.links ≡ links_between (D.counts doors.old) (D.counts doors.new) }
     ensures back { D.back doors.new ≡ D.back doors.old }
     ensures reason { HasReason result.end (D.waiting doors.old) (D.waiting doors.new) (H.stops halt.old) (H.stops halt.new) (D.faults doors.old) (D.faults doors.new) }
+    ensures stops { H.stops halt.old ≤ H.stops halt.new }
+    ensures faults { D.faults doors.old ≤ D.faults doors.new }
 {
     serve_links(rt, alloc, queue_count, doors, halt, workers, own)
 }
@@ -168,8 +182,18 @@ fn gather<'a, J: StepNames + ConnTerms, G: Gate + Drop, T: Wait, C: Clock + Drop
     alloc: Global,
     clock: &mut C,
     doors: &mut D,
-    workers: Vec<LinkEnds<ConnWorker<'a, J, SitePass<'a, J, G, T>, C, D::Bell>, D::Kept, Served>>,
-    own: LinkEnds<ConnWorker<'a, J, SitePass<'a, J, G, T>, C, D::Bell>, D::Kept, Served>,
+    workers: Vec<
+        LinkEnds<
+            ConnWorker<'a, J, SitePass<'a, J, G, T>, C, D::Bell, ToCompactor<'a, T>>,
+            D::Kept,
+            Served,
+        >,
+    >,
+    own: LinkEnds<
+        ConnWorker<'a, J, SitePass<'a, J, G, T>, C, D::Bell, ToCompactor<'a, T>>,
+        D::Kept,
+        Served,
+    >,
 ) -> HandedBack
     requires served { All (λ worker. WorkerServed (AllTell D.Inlet.taken) (AllTell D.Outlet.held) J.admission J.moments
         (admission worker.work.config worker.work.rule.now.patterns) worker.work.names (C.moments worker.work.clock) (C.faults worker.work.clock)
@@ -180,23 +204,19 @@ fn gather<'a, J: StepNames + ConnTerms, G: Gate + Drop, T: Wait, C: Clock + Drop
     requires few { sum_by (λ worker. length worker.ends.items) workers.items + length own.ends.items ≤ (D.counts doors.old).out }
     ensures counter { counter_of_pass result.pass ≡ J.counter }
     ensures caller { IsCaller J.name (view_of_pass result.pass) }
-    ensures gathered { Gathered (AllTell D.Inlet.taken) (AllTell D.Outlet.held) J.admission J.moments (seen_of (view_of_pass result.pass))
+    ensures gathered { Gathered (AllTell D.Inlet.taken) (AllTell D.Outlet.held) J.admission J.moments (seen_of (view_of_pass result.pass)) (numbers_of (seen_of (view_of_pass result.pass)))
         (D.back doors.old) (D.back doors.new) (C.faults clock.old) (C.faults clock.new) result.ends.items }
     ensures returned { TakenBack result.all (sum_by (λ worker. length worker.ends.items) workers.entry.items + length own.entry.ends.items) 0 (length result.ends.items)
         (D.counts doors.old) (D.counts doors.new) }
+    ensures clock_later { C.faults clock.old ≤ C.faults clock.new }
     ensures faults { D.faults doors.new ≡ D.faults doors.old }
     ensures waiting { D.waiting doors.new ≡ D.waiting doors.old }
 {
     let LinkEnds { work, ends: served } = own;
     let ConnWorker {
         names,
-        queue: _,
         clock: twin,
-        bell: _,
-        config: _,
-        rule: _,
-        alloc: _,
-        terms: _,
+        ..
     } = work;
     let mut pass = names.part();
     let mut ends = Vec::new(alloc);

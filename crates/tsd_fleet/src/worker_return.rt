@@ -1,15 +1,18 @@
 //! What workers hand back when they have ended.
-ghost use Rattle.std.specs.Prelude.{◌≡◌, ◌≤◌, ℕ, All, List, Option, length, map};
+ghost use Rattle.std.specs.Prelude.{◌≡◌, ◌≤◌, ◌++◌, ℕ, All, List, Option, length, map};
 ghost use Rattle.std.specs.List.{sum_by};
 ghost use Rattle.tsd_io.specs.Causes.{joined};
 ghost use Rattle.tsd_doors.specs.Links.{Shut};
 ghost use Rattle.cell_model.specs.Deeds.{Extends};
+ghost use Rattle.step_count.specs.CounterRule.{AreDifferent};
+ghost use Rattle.cell_store.specs.CallerViews.{numbers_of};
 ghost use Rattle.point_put.specs.Admissions.{admission};
 ghost use Rattle.tsd_fleet.specs.ServedLinks.{AllTell, WorkerServed};
 ghost use Rattle.tsd_fleet.specs.FleetStands.{Gathered, TakenBack};
 
 use crate::conn_terms::ConnTerms;
 use crate::conn_worker::ConnWorker;
+use crate::row_compactor::ToCompactor;
 use cell_store::{Gate, SitePass, StepNames};
 use link_workers::link_ends::{LinkEnds, give_back};
 use std::marker::Model;
@@ -33,20 +36,26 @@ pub(crate) fn take_back<
     clock: &mut C,
     doors: &mut D,
     ends: &mut Vec<Served>,
-    worker: LinkEnds<ConnWorker<'a, J, SitePass<'a, J, G, T>, C, D::Bell>, D::Kept, Served>,
+    worker: LinkEnds<
+        ConnWorker<'a, J, SitePass<'a, J, G, T>, C, D::Bell, ToCompactor<'a, T>>,
+        D::Kept,
+        Served,
+    >,
 ) -> bool
     requires served { WorkerServed (AllTell D.Inlet.taken) (AllTell D.Outlet.held) J.admission J.moments
         (admission worker.work.config worker.work.rule.now.patterns) worker.work.names (C.moments worker.work.clock) (C.faults worker.work.clock)
         (map (λ one. (D.shown one.0, one.1)) worker.ends.items) }
     requires few { length worker.ends.items ≤ (D.counts doors.old).out }
     ensures gathered { (back : Option (List Shut)) (faults : ℕ)
-        → Gathered (AllTell D.Inlet.taken) (AllTell D.Outlet.held) J.admission J.moments own.old back (D.back doors.old) faults (C.faults clock.old) ends.old.items
-        → Gathered (AllTell D.Inlet.taken) (AllTell D.Outlet.held) J.admission J.moments own.new back (D.back doors.new) faults (C.faults clock.new) ends.new.items }
+        → Gathered (AllTell D.Inlet.taken) (AllTell D.Outlet.held) J.admission J.moments own.old own.old.absorbed back (D.back doors.old) faults (C.faults clock.old) ends.old.items
+        → Gathered (AllTell D.Inlet.taken) (AllTell D.Outlet.held) J.admission J.moments own.new own.new.absorbed back (D.back doors.new) faults (C.faults clock.new) ends.new.items }
     ensures later { Extends own.old own.new }
+    ensures caller { own.new.caller ≡ own.old.caller }
     ensures returned { TakenBack result (length worker.entry.ends.items) (length ends.old.items) (length ends.new.items) (D.counts doors.old) (D.counts doors.new) }
     ensures faults { D.faults doors.new ≡ D.faults doors.old }
     ensures waiting { D.waiting doors.new ≡ D.waiting doors.old }
     ensures moments { C.moments clock.new ≡ C.moments clock.old }
+    ensures clock_later { C.faults clock.old ≤ C.faults clock.new }
 {
     let LinkEnds { work, ends: served } = worker;
     absorb_worker(own, clock, work);
@@ -66,20 +75,28 @@ pub(crate) fn take_all_back<
     clock: &mut C,
     doors: &mut D,
     ends: &mut Vec<Served>,
-    workers: Vec<LinkEnds<ConnWorker<'a, J, SitePass<'a, J, G, T>, C, D::Bell>, D::Kept, Served>>,
+    workers: Vec<
+        LinkEnds<
+            ConnWorker<'a, J, SitePass<'a, J, G, T>, C, D::Bell, ToCompactor<'a, T>>,
+            D::Kept,
+            Served,
+        >,
+    >,
 ) -> bool
     requires served { All (λ worker. WorkerServed (AllTell D.Inlet.taken) (AllTell D.Outlet.held) J.admission J.moments
         (admission worker.work.config worker.work.rule.now.patterns) worker.work.names (C.moments worker.work.clock) (C.faults worker.work.clock)
         (map (λ one. (D.shown one.0, one.1)) worker.ends.items)) workers.items }
     requires few { sum_by (λ worker. length worker.ends.items) workers.items ≤ (D.counts doors.old).out }
     ensures gathered { (back : Option (List Shut)) (faults : ℕ)
-        → Gathered (AllTell D.Inlet.taken) (AllTell D.Outlet.held) J.admission J.moments own.old back (D.back doors.old) faults (C.faults clock.old) ends.old.items
-        → Gathered (AllTell D.Inlet.taken) (AllTell D.Outlet.held) J.admission J.moments own.new back (D.back doors.new) faults (C.faults clock.new) ends.new.items }
+        → Gathered (AllTell D.Inlet.taken) (AllTell D.Outlet.held) J.admission J.moments own.old own.old.absorbed back (D.back doors.old) faults (C.faults clock.old) ends.old.items
+        → Gathered (AllTell D.Inlet.taken) (AllTell D.Outlet.held) J.admission J.moments own.new own.new.absorbed back (D.back doors.new) faults (C.faults clock.new) ends.new.items }
     ensures later { Extends own.old own.new }
+    ensures caller { own.new.caller ≡ own.old.caller }
     ensures returned { TakenBack result (sum_by (λ worker. length worker.ends.items) workers.entry.items) (length ends.old.items) (length ends.new.items) (D.counts doors.old) (D.counts doors.new) }
     ensures faults { D.faults doors.new ≡ D.faults doors.old }
     ensures waiting { D.waiting doors.new ≡ D.waiting doors.old }
     ensures moments { C.moments clock.new ≡ C.moments clock.old }
+    ensures clock_later { C.faults clock.old ≤ C.faults clock.new }
 {
     let mut all = true;
     for worker in workers {
@@ -99,23 +116,21 @@ fn absorb_worker<
 >(
     own: &mut SitePass<'a, J, G, T>,
     clock: &mut C,
-    work: ConnWorker<'a, J, SitePass<'a, J, G, T>, C, B>,
+    work: ConnWorker<'a, J, SitePass<'a, J, G, T>, C, B, ToCompactor<'a, T>>,
 )
     ensures mine { Extends own.old own.new }
     ensures theirs { Extends work.entry.names own.new }
+    ensures caller { own.new.caller ≡ own.old.caller }
+    ensures numbers { numbers_of own.new ≡ numbers_of own.old ++ numbers_of work.entry.names }
+    ensures different { AreDifferent (numbers_of own.new) }
     ensures moments { C.moments clock.new ≡ C.moments clock.old }
     ensures faults { C.faults clock.new ≡ joined (C.faults clock.old) (C.faults work.entry.clock) }
     ensures later { C.faults clock.old ≤ C.faults clock.new }
 {
     let ConnWorker {
         names,
-        queue: _,
         clock: twin,
-        bell: _,
-        config: _,
-        rule: _,
-        alloc: _,
-        terms: _,
+        ..
     } = work;
     own.absorb(names.part());
     clock.rejoin(twin);

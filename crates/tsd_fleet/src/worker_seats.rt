@@ -1,12 +1,14 @@
 //! Workers that have served no connection yet.
-ghost use Rattle.std.specs.Prelude.{◌≡◌, [], All, IfOk};
+ghost use Rattle.std.specs.Prelude.{◌≡◌, ◌<◌, [], All, IfOk, length};
 ghost use Rattle.point_put.specs.Admissions.{admission};
 ghost use Rattle.tsd_fleet.specs.ServedLinks.{AllTell, WorkerServed};
 
 use crate::conn_terms::ConnTerms;
 use crate::conn_worker::ConnWorker;
+use crate::row_compactor::ToCompactor;
 use cell_store::{Gate, Site, SitePass, StepNames};
 use compactor::queue::Queue;
+use crossbeam_channel::Sender;
 use link_workers::link_ends::LinkEnds;
 use point_put::Config;
 use std::alloc::{AllocError, Global};
@@ -37,7 +39,8 @@ pub(crate) fn make_worker<
     config: &Config,
     clock: &C,
     doors: &D,
-) -> Result<ConnWorker<'a, J, SitePass<'a, J, G, T>, C, D::Bell>, AllocError>
+    rows_to: &'a Sender<Queue>,
+) -> Result<ConnWorker<'a, J, SitePass<'a, J, G, T>, C, D::Bell, ToCompactor<'a, T>>, AllocError>
     requires admission { admission config.now rule.now.patterns ≡ J.admission }
     requires moments { C.moments clock.now ≡ J.moments }
     ensures { IfOk result (λ work. WorkerServed (AllTell D.Inlet.taken) (AllTell D.Outlet.held) J.admission J.moments
@@ -51,6 +54,7 @@ pub(crate) fn make_worker<
     Ok(ConnWorker {
         names,
         queue: Queue::make(alloc),
+        rows_to: ToCompactor { rt, rows_to },
         clock: twin,
         bell: doors.bell(),
         config: *config,
@@ -60,7 +64,7 @@ pub(crate) fn make_worker<
     })
 }
 
-/// So many workers. It fails only for want of memory.
+/// So many workers, whose rows go in turn to these. It fails only for want of memory.
 pub(crate) fn make_workers<
     'a,
     J: StepNames + ConnTerms,
@@ -76,11 +80,19 @@ pub(crate) fn make_workers<
     config: &Config,
     clock: &C,
     doors: &D,
+    rows_to: &'a [Sender<Queue>],
     count: u32,
 ) -> Result<
-    Vec<LinkEnds<ConnWorker<'a, J, SitePass<'a, J, G, T>, C, D::Bell>, D::Kept, Served>>,
+    Vec<
+        LinkEnds<
+            ConnWorker<'a, J, SitePass<'a, J, G, T>, C, D::Bell, ToCompactor<'a, T>>,
+            D::Kept,
+            Served,
+        >,
+    >,
     AllocError,
 >
+    requires some { 0 < length rows_to.now }
     requires admission { admission config.now rule.now.patterns ≡ J.admission }
     requires moments { C.moments clock.now ≡ J.moments }
     ensures idle { IfOk result (λ workers. All (λ worker. worker.ends.items ≡ []) workers.items) }
@@ -88,8 +100,9 @@ pub(crate) fn make_workers<
         (admission worker.work.config worker.work.rule.now.patterns) worker.work.names (C.moments worker.work.clock) (C.faults worker.work.clock) []) workers.items) }
 {
     let mut workers = Vec::with_capacity(alloc, count as usize)?;
-    for _ in 0..count {
-        let work = make_worker(rt, alloc, site, rule, config, clock, doors)?;
+    for number in 0..count {
+        let rows_to = &rows_to[number as usize % rows_to.len()];
+        let work = make_worker(rt, alloc, site, rule, config, clock, doors, rows_to)?;
         workers.push(LinkEnds::make(alloc, work))?;
     }
     Ok(workers)

@@ -7,5 +7,3 @@ pub mod halt;
 pub mod memory;
 pub mod ports;
 pub mod standard;
-#[cfg(test)]
-mod tests;

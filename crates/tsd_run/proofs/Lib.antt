@@ -1,3 +1,4 @@
+mod FleetLemmas
 mod InputEnds
 mod InputLemmas
 mod QueryLemmas

@@ -13,7 +13,7 @@ use Rattle.query_text.specs.declared.queries.QueryFault.TheVariants.{BadM, Unkno
 use Rattle.query_text.specs.declared.queries.Sub.{Sub}
 use Rattle.query_run.specs.declared.fault.AskFault.{AskFault}
 use Rattle.tsd_run.specs.declared.status.Status.{Status}
-use Rattle.tsd_run.specs.declared.status.Status.TheVariants.{Done, Usage, Refused, ReadFault, WriteFault, Memory, Stopped as Halted, SessionFull, ClockFault}
+use Rattle.tsd_run.specs.declared.status.Status.TheVariants.{Done, Usage, Refused, ReadFault, WriteFault, Memory, Stopped as Halted, DoorFault, SessionFull, ClockFault}
 use Rattle.tsd_run.specs.declared.input.BadLine.{BadLine}
 use Rattle.tsd_run.specs.declared.run_fault.RunFault.{RunFault}
 use Rattle.tsd_run.specs.declared.run_fault.RunFault.TheVariants as fault
@@ -41,6 +41,7 @@ IsPrinted ReadFault = ⊥
 IsPrinted WriteFault = ⊥
 IsPrinted Memory = ⊥
 IsPrinted Halted = ⊥
+IsPrinted DoorFault = ⊥
 IsPrinted SessionFull = ⊥
 IsPrinted ClockFault = ⊥
 
@@ -73,6 +74,7 @@ printed_answers command input ended output ReadFault p d e = absurd p
 printed_answers command input ended output WriteFault p d e = absurd p
 printed_answers command input ended output Memory p d e = absurd p
 printed_answers command input ended output Halted p d e = absurd p
+printed_answers command input ended output DoorFault p d e = absurd p
 printed_answers command input ended output SessionFull p d e = absurd p
 printed_answers command input ended output ClockFault p d e = absurd p
 

@@ -1,11 +1,12 @@
--- Runs whose words, or whose rule for new names, had no memory.
-use Rattle.std.proofs.Common.{◌≡◌, ℕ, List, [], false, refl, subst}
+-- Connections that are served as the words say, and runs whose words, or whose rule for new names, had no memory.
+use Rattle.std.proofs.Common.{◌≡◌, ℕ, List, [], false, refl, subst, ap, ◌∙◌}
 use Rattle.std.specs.Prelude.{Option, None, Some}
 use Rattle.std.proofs.KnownBytes.{Appends-nil, Consumes-nil}
-use Rattle.command_words.specs.CommandWords.{Batch, Stdio, Asked}
-use Rattle.command_words.specs.CommandWords.Asked.{BatchAsked, StdioAsked}
+use Rattle.command_words.specs.CommandWords.{Batch, NameOptions, Asked}
+use Rattle.command_words.specs.CommandWords.Asked.{BatchAsked, StdioAsked, ServeAsked}
 use Rattle.tsd_hooks.specs.declared.name_patterns.Patterns.{Patterns}
-use Rattle.point_put.specs.Admissions.{admission}
+use Rattle.point_put.specs.declared.config.Config.{Config}
+use Rattle.point_put.specs.Admissions.{Admission, admission}
 use Rattle.tsd_daemon.specs.declared.served.Served.{Served}
 use Rattle.tsd_daemon.specs.ServedConns.{Passes}
 use Rattle.stdio_job.specs.LoneConnections.{ServesAlone}
@@ -16,10 +17,14 @@ use Rattle.tsd_run.specs.declared.status.Status.TheVariants.{Memory}
 use Rattle.tsd_run.specs.Runs.{HasStatus, Runs, RunsPrinted, ServesStdio, admission_of}
 use Rattle.tsd_run.proofs.RunLemmas.{nothing_taken}
 
--- a connection was served by the patterns that the words say
-pub served_by : (s : Stdio) (patterns : Patterns) (taken taken' left left' held held' moments moments' : Option (List ℕ)) (result : Served) (status : Status) → patterns ≡ s.patterns → HasStatus result status
-    → Passes taken taken' left left' held held' moments moments' (ServesAlone (admission (admission_of s).config patterns) result) → Passes taken taken' left left' held held' moments moments' (ServesStdio s status)
-served_by s patterns taken taken' left left' held held' moments moments' result status is how p = record {
+-- of these kinds and with these patterns names are given ids as the words say
+pub admitted : (s : NameOptions) (config : Config) (patterns : Patterns) → config ≡ (admission_of s).config → patterns ≡ s.patterns → admission config patterns ≡ admission_of s
+admitted s config patterns is same = ap (λ (c : Config). admission c patterns) is ∙ ap (admission (admission_of s).config) same
+
+-- a connection was served as the words say
+pub served_by : (s : NameOptions) (c : Admission) (taken taken' left left' held held' moments moments' : Option (List ℕ)) (result : Served) (status : Status) → c ≡ admission_of s → HasStatus result status
+    → Passes taken taken' left left' held held' moments moments' (ServesAlone c result) → Passes taken taken' left left' held held' moments moments' (ServesStdio s status)
+served_by s c taken taken' left left' held held' moments moments' result status is how p = record {
   input = p.input;
   output = p.output;
   times = p.times;
@@ -27,7 +32,7 @@ served_by s patterns taken taken' left left' held held' moments moments' result 
   leaves = p.leaves;
   gives = p.gives;
   ticks = p.ticks;
-  so = (result, subst (λ (ps : Patterns). ServesAlone (admission (admission_of s).config ps) result p.input p.output p.times) is p.so, how);
+  so = (result, subst (λ (a : Admission). ServesAlone a result p.input p.output p.times) is p.so, how);
 }
 
 module _ (taken left held moments : Option (List ℕ)) where
@@ -35,7 +40,7 @@ module _ (taken left held moments : Option (List ℕ)) where
   unread_printed batch = record { input = []; ended = false; output = []; bytes = nothing_taken taken left batch; gives = Appends-nil held; answers = refl }
 
   -- there was no memory to serve a connection
-  pub unserved : (s : Stdio) (status : Status) → status ≡ Memory → Passes taken taken left left held held moments moments (ServesStdio s status)
+  pub unserved : (s : NameOptions) (status : Status) → status ≡ Memory → Passes taken taken left left held held moments moments (ServesStdio s status)
   unserved s status is = record {
     input = [];
     output = [];
@@ -51,4 +56,5 @@ module _ (taken left held moments : Option (List ℕ)) where
   pub runs_unread : (asked : Option Asked) → Runs asked taken taken left left held held moments moments Memory
   runs_unread (Some (BatchAsked batch)) = (unread_printed (Some batch), refl)
   runs_unread (Some (StdioAsked s)) = unserved s Memory refl
+  runs_unread (Some (ServeAsked s)) = (unread_printed None, refl)
   runs_unread None = (unread_printed None, refl)

@@ -5,3 +5,4 @@ pub mod OutputText
 pub mod BatchQueries
 pub mod Runs
 pub mod Statuses
+pub mod FleetStatuses

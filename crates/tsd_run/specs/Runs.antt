@@ -2,7 +2,7 @@
 use Rattle.std.specs.Prelude.{◌≡◌, ℕ, ◌^◌, ◌<◌, ◌≤◌, ◌⊎◌, Bool, true, false, List, [], ◌++◌, length, Option, None, Some, Result, Ok, Err}
 use Rattle.std.specs.Io.KnownBytes.{Appends, Consumes, IsAtEnd}
 use Rattle.tsd_run.specs.declared.status.Status.{Status}
-use Rattle.tsd_run.specs.declared.status.Status.TheVariants.{Done, Usage, Refused, ReadFault, WriteFault, Memory, Stopped as Halted, SessionFull, ClockFault}
+use Rattle.tsd_run.specs.declared.status.Status.TheVariants.{Done, Usage, Refused, ReadFault, WriteFault, Memory, Stopped as Halted, DoorFault, SessionFull, ClockFault}
 use Rattle.tsd_run.specs.declared.run_fault.RunFault.{RunFault}
 use Rattle.tsd_run.specs.declared.run_fault.RunFault.TheVariants.{Failed, Full, OutOfMemory, Stopped}
 use Rattle.tsd_run.specs.declared.output_text.Printed.{Printed}
@@ -11,8 +11,8 @@ use Rattle.tsd_daemon.specs.declared.served.Served.{Served}
 use Rattle.tsd_daemon.specs.declared.served.Served.TheVariants as served
 use Rattle.tsd_daemon.specs.ServedConns.{Passes}
 use Rattle.stdio_job.specs.LoneConnections.{ServesAlone}
-use Rattle.command_words.specs.CommandWords.{Batch, Stdio, Asked}
-use Rattle.command_words.specs.CommandWords.Asked.{BatchAsked, StdioAsked}
+use Rattle.command_words.specs.CommandWords.{Batch, NameOptions, Asked}
+use Rattle.command_words.specs.CommandWords.Asked.{BatchAsked, StdioAsked, ServeAsked}
 use Rattle.query_text.specs.Subs.{sub_of}
 use Rattle.query_text.specs.declared.queries.Sub.{Sub}
 use Rattle.tsd_run.specs.Inputs.{IsUnrefused}
@@ -77,6 +77,7 @@ Answers command input ended output SessionFull = AsksOn command input × (length
 Answers command input ended output WriteFault = (o : Outcome) × Decides command input ended o × IsFront output o.text
 Answers command input ended output Memory = output ≡ []
 Answers command input ended output Halted = output ≡ []
+Answers command input ended output DoorFault = ⊥
 Answers command input ended output ClockFault = ⊥
 
 -- A run that prints at its end took these bytes and gave those, where source and sink tell them, and its status is right for them.
@@ -102,12 +103,12 @@ HasStatus served.SessionFull status = status ≡ SessionFull
 HasStatus served.OutOfMemory status = status ≡ Memory
 
 -- of which kinds names that have no id are given one, and how these must begin
-abbrev pub admission_of : Stdio → Admission
+abbrev pub admission_of : NameOptions → Admission
 admission_of s = admission (record { auto_metric = s.auto_metric; auto_tag_key = s.auto_tag_key; auto_tag_value = s.auto_tag_value }) s.patterns
 
 -- One connection was served over an empty store that nobody else steps: these bytes were taken and these given, the clock gave these moments, and the
 -- status is that of its end.
-abbrev pub ServesStdio : Stdio → Status → List ℕ → List ℕ → List ℕ → Type 0
+abbrev pub ServesStdio : NameOptions → Status → List ℕ → List ℕ → List ℕ → Type 0
 ServesStdio s status input output times = (result : Served) × ServesAlone (admission_of s) result input output times × HasStatus result status
 
 -- the words ask for a connection
@@ -115,8 +116,9 @@ abbrev pub is_stdio : Option Asked → Bool
 is_stdio (Some (StdioAsked s)) = true
 is_stdio asked = false
 
--- What a run of these words took and gave, the moments that its clock gives before and after, and its status. Words that are no command print the usage line.
+-- What a run of these words took and gave, the moments that its clock gives before and after, and its status. Words that are no command print the usage line, and so do those of a fleet, which waits for others.
 abbrev pub Runs : Option Asked → (taken taken' left left' held held' moments moments' : Option (List ℕ)) → Status → Type 0
 Runs (Some (BatchAsked batch)) taken taken' left left' held held' moments moments' status = RunsPrinted (Some batch) taken taken' left left' held held' status × (moments' ≡ moments)
 Runs (Some (StdioAsked s)) taken taken' left left' held held' moments moments' status = Passes taken taken' left left' held held' moments moments' (ServesStdio s status)
+Runs (Some (ServeAsked s)) taken taken' left left' held held' moments moments' status = RunsPrinted None taken taken' left left' held held' status × (moments' ≡ moments)
 Runs None taken taken' left left' held held' moments moments' status = RunsPrinted None taken taken' left left' held held' status × (moments' ≡ moments)

@@ -1,7 +1,7 @@
 -- The numbers of statuses.
 use Rattle.std.specs.Prelude.{ℕ}
 use Rattle.tsd_run.specs.declared.status.Status.{Status}
-use Rattle.tsd_run.specs.declared.status.Status.TheVariants.{Done, Usage, Refused, ReadFault, WriteFault, Memory, Stopped, SessionFull, ClockFault}
+use Rattle.tsd_run.specs.declared.status.Status.TheVariants.{Done, Usage, Refused, ReadFault, WriteFault, Memory, Stopped, DoorFault, SessionFull, ClockFault}
 
 abbrev pub number_of : Status → ℕ
 number_of Done = 0
@@ -11,5 +11,6 @@ number_of ReadFault = 3
 number_of WriteFault = 4
 number_of Memory = 5
 number_of Stopped = 6
+number_of DoorFault = 7
 number_of SessionFull = 8
 number_of ClockFault = 9

@@ -8,5 +8,6 @@ mod query;
 mod refusal;
 mod reply_line;
 pub mod run;
+pub mod run_alone;
 mod run_fault;
 pub mod status;

@@ -1,11 +1,24 @@
-//! The patterns for new names that words say.
+//! Which names are given ids, as words say.
 ghost use Rattle.std.specs.Prelude.{◌≡◌, IfOk};
-ghost use Rattle.command_words.specs.PlainAsked.{plain_pattern, plain_patterns};
+ghost use Rattle.command_words.specs.PlainAsked.{plain_names, plain_pattern, plain_patterns};
+ghost use Rattle.tsd_run.specs.Runs.{admission_of};
 
-use command_words::PatternTexts;
+use command_words::{NameOptions, PatternTexts};
+use point_put::Config;
 use short_bytes::short::Bytes;
 use std::alloc::{AllocError, Global};
 use tsd_hooks::Patterns;
+
+/// Of which kinds names that have no id are given one.
+pub fn config_of(names: &NameOptions<'_>) -> Config
+    ensures { result ≡ (admission_of (plain_names names.now)).config }
+{
+    Config {
+        auto_metric: names.auto_metric,
+        auto_tag_key: names.auto_tag_key,
+        auto_tag_value: names.auto_tag_value,
+    }
+}
 
 /// Patterns of these texts. It fails only for want of memory.
 pub fn patterns_of(alloc: Global, texts: &PatternTexts<'_>) -> Result<Patterns, AllocError>

@@ -1,171 +1,153 @@
 //! The top call: everything that the program does.
-ghost use Rattle.std.specs.Prelude.{◌≡◌, ◌≢◌, ◌≤◌, true, false, map, string_bytes, Some, IfErr, IfOk, IfSome};
-ghost use Rattle.tsd_base.specs.declared.times.TheConstants.{LAST_TIME};
-ghost use Rattle.query_text.specs.QueryFaultTexts.{query_fault_text};
-ghost use Rattle.tsd_io.specs.Causes.{Rose};
-ghost use Rattle.batch_job.specs.JobAnswers.{CanAsk};
-ghost use Rattle.batch_job.specs.OpenRules.{AllowsAll};
-ghost use Rattle.batch_job.specs.PendingIds.{no_names};
-ghost use Rattle.batch_job.specs.Storing.{IsNaming};
-ghost use Rattle.command_words.specs.CommandWords as plain;
-ghost use Rattle.command_words.specs.CommandWords.{asked_of};
-ghost use Rattle.command_words.specs.PlainAsked.{InRange, batch_of, plain_batch, plain_patterns, plain_stdio, what_asked};
-ghost use Rattle.tsd_daemon.specs.ServedConns.{Passes};
+ghost use Rattle.std.specs.Prelude.{◌≡◌, ◌≢◌, ◌≤◌, true, false, map, string_bytes, IfSome};
 ghost use Rattle.tsd_hooks.specs.AllowedNames.{allowed};
-ghost use Rattle.tsd_run.specs.Outcomes.{refused_line, refused_query as plain_refusal, usage_line};
-ghost use Rattle.tsd_run.specs.OutputText.{outcome_of};
-ghost use Rattle.tsd_run.specs.BatchQueries.{IsQueryOf};
-ghost use Rattle.tsd_run.specs.RunFaults.{RunCause};
-ghost use Rattle.tsd_run.specs.Runs.{HasStatus, Runs, RunsPrinted, ServesStdio, Works, is_stdio};
+ghost use Rattle.tsd_io.specs.Causes.{Rose};
+ghost use Rattle.link_workers.specs.Accepting.{IsNoneLeft};
+ghost use Rattle.tsd_fleet.specs.ServedLinks.{AllTell};
+ghost use Rattle.serve_job.specs.FleetRuns.{has_no_more};
+ghost use Rattle.command_words.specs.CommandWords.{asked_of};
+ghost use Rattle.command_words.specs.PlainAsked.{InRange, IsFleet, plain_patterns, plain_serve, what_asked};
+ghost use Rattle.tsd_run.specs.FleetStatuses.{RunsAny, ServesFleet, asks_clock, is_serve, status_of};
+ghost use Rattle.tsd_run.specs.Runs.{Runs};
 
-use crate::input::{BadLine, read_points};
-use crate::new_names::patterns_of;
-use crate::output_text::Printed;
-use crate::query::read_query;
-use crate::refusal::bad_query;
-use crate::reply_line::printed_answer;
-use crate::run_fault::RunFault;
+use crate::new_names::{config_of, patterns_of};
+use crate::run_alone::{Ended, act, no_memory};
 use crate::status::Status;
-use batch_job::answer::answer;
-use batch_job::pending::Gathered;
-use cell_model::Rows;
-use command_words::{Asked, Batch, Stdio, read_words};
-use lone_store::{empty, halt_of};
-use point_put::Config;
-use query_text::queries::{Query, QueryFault};
+use command_words::{Asked, Serve, read_words};
+use serve_job::{Finished, serve_fleet};
 use std::alloc::{AllocError, Global};
-use stdio_job::{Finished, serve_alone};
-use tsd_base::decimals::write_number;
+use std::sync::Wait;
+use std::thread::Threads;
 use tsd_base::kinds::Kind;
 use tsd_base::names::Name;
-use tsd_daemon::Served;
-use tsd_hooks::{Patterns, UidRule};
+use tsd_doors::doors::Doors;
+use tsd_fleet::{Fleet, FleetEnd};
+use tsd_hooks::UidRule;
 use tsd_io::clock::Clock;
-use tsd_io::give_all::give_all;
 use tsd_io::halt::Halt;
-use tsd_io::ports::{Failed, Sink, Source};
-use uid_table::Uids;
+use tsd_io::ports::{Sink, Source};
 
-/// The line that is printed where the words are no command.
-const USAGE: &[u8] =
-    b"usage: tsd batch START END M | stdio | serve PORT | import | dump | fsck | fix | weave SEED N\n";
-
-/// How a run ended, and its halt.
-#[derive(Drop)]
-pub struct Ended<H> {
-    pub status: Status,
-    pub halt: H,
-}
-
-/// What is to be printed, or why nothing is, and the halt.
-#[derive(Drop)]
-struct Decided<H> {
-    printed: Result<Printed, RunFault>,
-    halt: H,
-}
-
-/// Runs the command that the words ask for, over an input and an output. Each step of its store asks the halt first.
+/// Runs the command that the words ask for, over an input, an output and the doors of connections.
 ///
-/// `batch START END M [--ms]` reads points, one a line, to the end of the input, and prints the answer of the sub query M
-/// from START to END, both included, as one JSON array, with times in seconds, or in milliseconds with `--ms`. START and END
-/// are times as `query_times::query_times::read_fixed_time` reads them. The first thing that is wrong is told: the query,
-/// then the first line that is refused, then too many buckets, a name that no point has, two values of one series at one
-/// time, or a sum outside `i64`.
-///
-/// `stdio [--auto-metric] [--no-auto-tagk] [--no-auto-tagv] [--allow-metric P] [--allow-tagk P] [--allow-tagv P]` serves one
-/// connection over an empty store, whose requests come from the input and whose replies go to the output. A name that has no id
-/// is given one only where it begins with the P of its kind, if there is one.
-///
-/// Words that are no command print the usage line. No command but `stdio` asks the clock.
-pub fn run<S: Source, K: Sink, C: Clock, H: Halt + Drop>(
+/// `serve PORT [--daemons N] [--workers N] [--regions N]` and the options of `stdio` serves the connections of a port over an empty
+/// store. It prints `listening P`, and where no more connections come `links N`, `ids A B C`, `rows R` and `cells C`. Any other words
+/// are those of [`crate::run_alone::run_alone`].
+pub fn run<
+    T: Threads + Wait + Sync,
+    S: Source,
+    K: Sink,
+    C: Clock + Send + Drop,
+    H: Halt + Drop,
+    D: Doors,
+>(
+    rt: &T,
     alloc: Global,
     words: &[String],
     input: &mut S,
     output: &mut K,
     clock: &mut C,
     halt: H,
+    doors: &mut D,
 ) -> Ended<H>
-    // The status, the bytes taken and given, and the moments of the clock.
-    ensures runs { Runs (asked_of (map string_bytes words.now)) (S.taken input.old) (S.taken input.new) (S.left input.old) (S.left input.new) (K.held output.old) (K.held output.new) (C.moments clock.old) (C.moments clock.new) result.status }
+    // A command that waits for nobody, or a fleet.
+    ensures runs { RunsAny (asked_of (map string_bytes words.now))
+        (Runs (asked_of (map string_bytes words.now)) (S.taken input.old) (S.taken input.new) (S.left input.old) (S.left input.new) (K.held output.old) (K.held output.new) (C.moments clock.old) (C.moments clock.new) result.status)
+        (λ s. ServesFleet s (AllTell D.Inlet.taken) (AllTell D.Outlet.held) (C.moments clock.old) (D.back doors.old) (D.back doors.new) (D.counts doors.old) (D.counts doors.new)
+        (C.faults clock.old) (C.faults clock.new) (K.held output.old) (K.held output.new) result.status) }
+    ensures input { is_serve (asked_of (map string_bytes words.now)) ≡ true → input.new ≡ input.old }
+    ensures doors { is_serve (asked_of (map string_bytes words.now)) ≡ false → doors.new ≡ doors.old }
+    ensures clock { asks_clock (asked_of (map string_bytes words.now)) ≡ false → clock.new ≡ clock.old }
 
     // The causes of faults.
     ensures reads_later { S.faults input.old ≤ S.faults input.new }
     ensures writes_later { K.faults output.old ≤ K.faults output.new }
     ensures clock_later { C.faults clock.old ≤ C.faults clock.new }
     ensures stops_later { H.stops halt ≤ H.stops result.halt }
+    ensures doors_later { D.faults doors.old ≤ D.faults doors.new }
     ensures read_fault { result.status ≡ Status.ReadFault → Rose (S.faults input.old) (S.faults input.new) }
     ensures write_fault { result.status ≡ Status.WriteFault → Rose (K.faults output.old) (K.faults output.new) }
     ensures clock_fault { result.status ≡ Status.ClockFault → Rose (C.faults clock.old) (C.faults clock.new) }
     ensures stopped { result.status ≡ Status.Stopped → Rose (H.stops halt) (H.stops result.halt) }
+    ensures door_fault { result.status ≡ Status.DoorFault → Rose (D.faults doors.old) (D.faults doors.new) }
 
-    // No command but `stdio` asks the clock.
-    ensures clock { is_stdio (asked_of (map string_bytes words.now)) ≡ false → clock.new ≡ clock.old }
+    // A fleet is done only where no more connections came.
+    ensures none_left { is_serve (asked_of (map string_bytes words.now)) ≡ true → result.status ≡ Status.Done → IsNoneLeft (D.waiting doors.old) (D.waiting doors.new) }
 {
     match read_words(alloc, words) {
-        Ok(asked) => act(alloc, asked, input, output, clock, halt),
+        Ok(asked) => run_asked(rt, alloc, asked, input, output, clock, halt, doors),
         Err(AllocError) => no_memory(halt),
     }
 }
 
-/// No memory was there for the words: nothing is done.
-fn no_memory<H: Halt + Drop>(halt: H) -> Ended<H>
-    ensures status { result.status ≡ Status.Memory }
-    ensures halt { result.halt ≡ halt }
-{
-    Ended {
-        status: Status::Memory,
-        halt,
-    }
-}
-
 /// Does what words ask for.
-fn act<S: Source, K: Sink, C: Clock, H: Halt + Drop>(
+fn run_asked<
+    T: Threads + Wait + Sync,
+    S: Source,
+    K: Sink,
+    C: Clock + Send + Drop,
+    H: Halt + Drop,
+    D: Doors,
+>(
+    rt: &T,
     alloc: Global,
     asked: Option<Asked<'_>>,
     input: &mut S,
     output: &mut K,
     clock: &mut C,
     halt: H,
+    doors: &mut D,
 ) -> Ended<H>
     requires range { IfSome asked InRange }
-    ensures runs { Runs (what_asked asked.entry) (S.taken input.old) (S.taken input.new) (S.left input.old) (S.left input.new) (K.held output.old) (K.held output.new) (C.moments clock.old) (C.moments clock.new) result.status }
+    ensures runs { RunsAny (what_asked asked.entry)
+        (Runs (what_asked asked.entry) (S.taken input.old) (S.taken input.new) (S.left input.old) (S.left input.new) (K.held output.old) (K.held output.new) (C.moments clock.old) (C.moments clock.new) result.status)
+        (λ s. ServesFleet s (AllTell D.Inlet.taken) (AllTell D.Outlet.held) (C.moments clock.old) (D.back doors.old) (D.back doors.new) (D.counts doors.old) (D.counts doors.new)
+        (C.faults clock.old) (C.faults clock.new) (K.held output.old) (K.held output.new) result.status) }
+    ensures input { is_serve (what_asked asked.entry) ≡ true → input.new ≡ input.old }
+    ensures doors { is_serve (what_asked asked.entry) ≡ false → doors.new ≡ doors.old }
+    ensures clock { asks_clock (what_asked asked.entry) ≡ false → clock.new ≡ clock.old }
     ensures reads_later { S.faults input.old ≤ S.faults input.new }
     ensures writes_later { K.faults output.old ≤ K.faults output.new }
     ensures clock_later { C.faults clock.old ≤ C.faults clock.new }
     ensures stops_later { H.stops halt ≤ H.stops result.halt }
+    ensures doors_later { D.faults doors.old ≤ D.faults doors.new }
     ensures read_fault { result.status ≡ Status.ReadFault → Rose (S.faults input.old) (S.faults input.new) }
     ensures write_fault { result.status ≡ Status.WriteFault → Rose (K.faults output.old) (K.faults output.new) }
     ensures clock_fault { result.status ≡ Status.ClockFault → Rose (C.faults clock.old) (C.faults clock.new) }
     ensures stopped { result.status ≡ Status.Stopped → Rose (H.stops halt) (H.stops result.halt) }
-    ensures clock { is_stdio (what_asked asked.entry) ≡ false → clock.new ≡ clock.old }
+    ensures door_fault { result.status ≡ Status.DoorFault → Rose (D.faults doors.old) (D.faults doors.new) }
+    ensures none_left { is_serve (what_asked asked.entry) ≡ true → result.status ≡ Status.Done → IsNoneLeft (D.waiting doors.old) (D.waiting doors.new) }
 {
     match asked {
-        Some(Asked::Stdio { stdio }) => serve(alloc, &stdio, input, output, clock, halt),
-        Some(Asked::Batch { batch }) => print(alloc, Some(batch), input, output, halt),
-        None => print(alloc, None, input, output, halt),
+        Some(Asked::Serve { serve }) => run_fleet(rt, alloc, &serve, output, clock, halt, doors),
+        _ => act(alloc, asked, input, output, clock, halt),
     }
 }
 
-/// Serves one connection over the input and the output.
-fn serve<S: Source, K: Sink, C: Clock, H: Halt + Drop>(
+/// Serves the connections of a fleet.
+fn run_fleet<T: Threads + Wait + Sync, K: Sink, C: Clock + Send + Drop, H: Halt + Drop, D: Doors>(
+    rt: &T,
     alloc: Global,
-    stdio: &Stdio<'_>,
-    input: &mut S,
+    asked: &Serve<'_>,
     output: &mut K,
     clock: &mut C,
     halt: H,
+    doors: &mut D,
 ) -> Ended<H>
-    ensures serves { Passes (S.taken input.old) (S.taken input.new) (S.left input.old) (S.left input.new) (K.held output.old) (K.held output.new) (C.moments clock.old) (C.moments clock.new) (ServesStdio (plain_stdio stdio.now) result.status) }
-    ensures reads_later { S.faults input.old ≤ S.faults input.new }
+    requires fleet { IsFleet asked.now }
+    ensures serves { ServesFleet (plain_serve asked.now) (AllTell D.Inlet.taken) (AllTell D.Outlet.held) (C.moments clock.old) (D.back doors.old) (D.back doors.new) (D.counts doors.old) (D.counts doors.new)
+        (C.faults clock.old) (C.faults clock.new) (K.held output.old) (K.held output.new) result.status }
     ensures writes_later { K.faults output.old ≤ K.faults output.new }
     ensures clock_later { C.faults clock.old ≤ C.faults clock.new }
     ensures stops_later { H.stops halt ≤ H.stops result.halt }
-    ensures read_fault { result.status ≡ Status.ReadFault → Rose (S.faults input.old) (S.faults input.new) }
+    ensures doors_later { D.faults doors.old ≤ D.faults doors.new }
+    ensures no_read { result.status ≢ Status.ReadFault }
+    ensures no_clock { result.status ≢ Status.ClockFault }
     ensures write_fault { result.status ≡ Status.WriteFault → Rose (K.faults output.old) (K.faults output.new) }
-    ensures clock_fault { result.status ≡ Status.ClockFault → Rose (C.faults clock.old) (C.faults clock.new) }
     ensures stopped { result.status ≡ Status.Stopped → Rose (H.stops halt) (H.stops result.halt) }
+    ensures door_fault { result.status ≡ Status.DoorFault → Rose (D.faults doors.old) (D.faults doors.new) }
+    ensures none_left { result.status ≡ Status.Done → IsNoneLeft (D.waiting doors.old) (D.waiting doors.new) }
 {
-    let Ok(patterns) = patterns_of(alloc, &stdio.patterns) else {
+    let Ok(patterns) = patterns_of(alloc, &asked.names.patterns) else {
         return no_memory(halt);
     };
     let Ok(kept) = patterns.again(alloc) else {
@@ -180,256 +162,64 @@ fn serve<S: Source, K: Sink, C: Clock, H: Halt + Drop>(
         return no_memory(halt);
     };
     let rule = UidRule::keep(kept, test);
-    serve_by(alloc, &rule, stdio, input, output, clock, halt)
+    run_by_rule(rt, alloc, asked, &rule, output, clock, halt, doors)
 }
 
-/// Serves one connection over the input and the output, with the rule for new names.
-fn serve_by<S: Source, K: Sink, C: Clock, H: Halt + Drop>(
+/// Serves the connections of a fleet, with the rule for new names.
+fn run_by_rule<T: Threads + Wait + Sync, K: Sink, C: Clock + Send + Drop, H: Halt + Drop, D: Doors>(
+    rt: &T,
     alloc: Global,
+    asked: &Serve<'_>,
     rule: &UidRule,
-    stdio: &Stdio<'_>,
-    input: &mut S,
     output: &mut K,
     clock: &mut C,
     halt: H,
+    doors: &mut D,
 ) -> Ended<H>
-    requires rule { rule.now.patterns ≡ plain_patterns stdio.now.patterns }
-    ensures serves { Passes (S.taken input.old) (S.taken input.new) (S.left input.old) (S.left input.new) (K.held output.old) (K.held output.new) (C.moments clock.old) (C.moments clock.new) (ServesStdio (plain_stdio stdio.now) result.status) }
-    ensures reads_later { S.faults input.old ≤ S.faults input.new }
+    requires fleet { IsFleet asked.now }
+    requires rule { rule.now.patterns ≡ plain_patterns asked.now.names.patterns }
+    ensures serves { ServesFleet (plain_serve asked.now) (AllTell D.Inlet.taken) (AllTell D.Outlet.held) (C.moments clock.old) (D.back doors.old) (D.back doors.new) (D.counts doors.old) (D.counts doors.new)
+        (C.faults clock.old) (C.faults clock.new) (K.held output.old) (K.held output.new) result.status }
     ensures writes_later { K.faults output.old ≤ K.faults output.new }
     ensures clock_later { C.faults clock.old ≤ C.faults clock.new }
     ensures stops_later { H.stops halt ≤ H.stops result.halt }
-    ensures read_fault { result.status ≡ Status.ReadFault → Rose (S.faults input.old) (S.faults input.new) }
+    ensures doors_later { D.faults doors.old ≤ D.faults doors.new }
+    ensures no_read { result.status ≢ Status.ReadFault }
+    ensures no_clock { result.status ≢ Status.ClockFault }
     ensures write_fault { result.status ≡ Status.WriteFault → Rose (K.faults output.old) (K.faults output.new) }
-    ensures clock_fault { result.status ≡ Status.ClockFault → Rose (C.faults clock.old) (C.faults clock.new) }
     ensures stopped { result.status ≡ Status.Stopped → Rose (H.stops halt) (H.stops result.halt) }
+    ensures door_fault { result.status ≡ Status.DoorFault → Rose (D.faults doors.old) (D.faults doors.new) }
+    ensures none_left { result.status ≡ Status.Done → IsNoneLeft (D.waiting doors.old) (D.waiting doors.new) }
 {
-    let config = Config {
-        auto_metric: stdio.auto_metric,
-        auto_tag_key: stdio.auto_tag_key,
-        auto_tag_value: stdio.auto_tag_value,
+    let config = config_of(&asked.names);
+    let fleet = Fleet {
+        port: asked.port,
+        daemons: asked.daemons,
+        workers: asked.workers,
+        regions: asked.regions,
     };
-    let Finished { served, halt } = serve_alone(alloc, rule, &config, input, output, clock, halt);
-    let status = status_of(served);
+    let Finished { end, halt } = serve_fleet(
+        rt, alloc, &fleet, rule, &config, output, clock, halt, doors,
+    );
+    let status = status_of(end);
     Ended { status, halt }
 }
 
-/// The status of how the serving of a connection ended.
-fn status_of(served: Served) -> Status
-    ensures { HasStatus served result }
+/// The status of a fleet's end.
+fn status_of(end: FleetEnd) -> Status
+    ensures status { result ≡ status_of end }
+    ensures done { result ≡ Status.Done → has_no_more end ≡ true }
+    ensures stopped { result ≡ Status.Stopped → end ≡ FleetEnd.Stopped }
+    ensures door_fault { result ≡ Status.DoorFault → end ≡ FleetEnd.DoorFault }
+    ensures write_fault { result ≡ Status.WriteFault → end ≡ FleetEnd.WriteFault }
+    ensures no_read { result ≢ Status.ReadFault }
+    ensures no_clock { result ≢ Status.ClockFault }
 {
-    match served {
-        Served::End | Served::Exit | Served::Die | Served::Closed => Status::Done,
-        Served::ReadFault => Status::ReadFault,
-        Served::WriteFault => Status::WriteFault,
-        Served::ClockFault => Status::ClockFault,
-        Served::Stopped => Status::Stopped,
-        Served::SessionFull => Status::SessionFull,
-        Served::OutOfMemory => Status::Memory,
+    match end {
+        FleetEnd::Closed | FleetEnd::Died => Status::Done,
+        FleetEnd::Stopped => Status::Stopped,
+        FleetEnd::DoorFault => Status::DoorFault,
+        FleetEnd::WriteFault => Status::WriteFault,
+        FleetEnd::OutOfMemory => Status::Memory,
     }
-}
-
-/// Prints the answer of a batch, or the usage line where there is none.
-fn print<S: Source, K: Sink, H: Halt + Drop>(
-    alloc: Global,
-    batch: Option<Batch<'_>>,
-    input: &mut S,
-    output: &mut K,
-    halt: H,
-) -> Ended<H>
-    requires range { IfSome batch (λ b. (b.start ≤ b.end) × (b.end ≤ LAST_TIME)) }
-    ensures runs { RunsPrinted (batch_of batch.entry) (S.taken input.old) (S.taken input.new) (S.left input.old) (S.left input.new) (K.held output.old) (K.held output.new) result.status }
-    ensures reads_later { S.faults input.old ≤ S.faults input.new }
-    ensures writes_later { K.faults output.old ≤ K.faults output.new }
-    ensures stops_later { H.stops halt ≤ H.stops result.halt }
-    ensures read_fault { result.status ≡ Status.ReadFault → Rose (S.faults input.old) (S.faults input.new) }
-    ensures write_fault { result.status ≡ Status.WriteFault → Rose (K.faults output.old) (K.faults output.new) }
-    ensures stopped { result.status ≡ Status.Stopped → Rose (H.stops halt) (H.stops result.halt) }
-{
-    let Decided { printed, halt } = decide(alloc, batch, input, halt);
-    match printed {
-        Ok(printed) => match give_all(output, &printed.text) {
-            Ok(()) => Ended {
-                status: printed.status,
-                halt,
-            },
-            Err(Failed) => Ended {
-                status: Status::WriteFault,
-                halt,
-            },
-        },
-        Err(RunFault::Failed) => Ended {
-            status: Status::ReadFault,
-            halt,
-        },
-        Err(RunFault::Full) => Ended {
-            status: Status::SessionFull,
-            halt,
-        },
-        Err(RunFault::OutOfMemory) => Ended {
-            status: Status::Memory,
-            halt,
-        },
-        Err(RunFault::Stopped) => Ended {
-            status: Status::Stopped,
-            halt,
-        },
-    }
-}
-
-/// What is to be printed.
-fn decide<S: Source, H: Halt + Drop>(
-    alloc: Global,
-    batch: Option<Batch<'_>>,
-    input: &mut S,
-    halt: H,
-) -> Decided<H>
-    requires range { IfSome batch (λ b. (b.start ≤ b.end) × (b.end ≤ LAST_TIME)) }
-    ensures works { Works (batch_of batch.entry) (S.taken input.old) (S.taken input.new) (S.left input.old) (S.left input.new) result.printed }
-    ensures later { S.faults input.old ≤ S.faults input.new }
-    ensures grows { H.stops halt ≤ H.stops result.halt }
-    ensures cause { IfErr result.printed (RunCause (S.faults input.old) (S.faults input.new) (H.stops halt) (H.stops result.halt)) }
-{
-    match batch {
-        Some(batch) => run_batch(alloc, &batch, input, halt),
-        None => Decided {
-            printed: usage(alloc),
-            halt,
-        },
-    }
-}
-
-/// The usage line. It fails only for want of memory.
-fn usage(alloc: Global) -> Result<Printed, RunFault>
-    ensures shown { IfOk result (λ printed. outcome_of printed ≡ record { status = Status.Usage; text = usage_line }) }
-    ensures fails { IfErr result (λ fault. fault ≡ RunFault.OutOfMemory) }
-{
-    let text = Vec::from_slice(alloc, USAGE)?;
-    Ok(Printed {
-        status: Status::Usage,
-        text,
-    })
-}
-
-/// Does what `batch` is asked.
-fn run_batch<S: Source, H: Halt + Drop>(
-    alloc: Global,
-    batch: &Batch<'_>,
-    input: &mut S,
-    halt: H,
-) -> Decided<H>
-    requires range { batch.now.start ≤ batch.now.end }
-    requires end { batch.now.end ≤ LAST_TIME }
-    ensures works { Works (Some (plain_batch batch.now)) (S.taken input.old) (S.taken input.new) (S.left input.old) (S.left input.new) result.printed }
-    ensures later { S.faults input.old ≤ S.faults input.new }
-    ensures grows { H.stops halt ≤ H.stops result.halt }
-    ensures cause { IfErr result.printed (RunCause (S.faults input.old) (S.faults input.new) (H.stops halt) (H.stops result.halt)) }
-{
-    match read_query(alloc, batch) {
-        Ok(query) => run_query(alloc, &query, input, halt),
-        Err(fault) => Decided {
-            printed: refused_query(alloc, fault),
-            halt,
-        },
-    }
-}
-
-/// What is printed of a text that is no query. Want of memory is no refusal, and fails.
-fn refused_query(alloc: Global, fault: QueryFault) -> Result<Printed, RunFault>
-    ensures refused { IfOk result (λ printed. (outcome_of printed ≡ plain_refusal (query_fault_text fault)) × (fault ≢ QueryFault.OutOfMemory)) }
-    ensures fails { IfErr result (λ fault. fault ≡ RunFault.OutOfMemory) }
-{
-    let printed = bad_query(alloc, fault)?;
-    Ok(printed)
-}
-
-/// Makes the rule that allows each new name, and answers the query of a batch over the points of the input.
-fn run_query<S: Source, H: Halt + Drop>(
-    alloc: Global,
-    query: &Query,
-    input: &mut S,
-    halt: H,
-) -> Decided<H>
-    requires can { CanAsk query.now }
-    ensures works { (batch : plain.Batch) → IsQueryOf query.now batch → Works (Some batch) (S.taken input.old) (S.taken input.new) (S.left input.old) (S.left input.new) result.printed }
-    ensures later { S.faults input.old ≤ S.faults input.new }
-    ensures grows { H.stops halt ≤ H.stops result.halt }
-    ensures cause { IfErr result.printed (RunCause (S.faults input.old) (S.faults input.new) (H.stops halt) (H.stops result.halt)) }
-{
-    let Ok(test) = Box::new(
-        alloc,
-        |_kind: Kind, _name: &Name|
-            ensures { result ≡ true }
-        { true },
-    ) else {
-        return Decided {
-            printed: Err(RunFault::OutOfMemory),
-            halt,
-        };
-    };
-    let rule = UidRule::keep(Patterns::none(), test);
-    run_open(alloc, query, input, &rule, halt)
-}
-
-/// Makes a store under the halt, and answers the query of a batch over the points of the input.
-fn run_open<S: Source, H: Halt + Drop>(
-    alloc: Global,
-    query: &Query,
-    input: &mut S,
-    rule: &UidRule,
-    halt: H,
-) -> Decided<H>
-    requires can { CanAsk query.now }
-    requires allows { AllowsAll rule.now.patterns }
-    ensures works { (batch : plain.Batch) → IsQueryOf query.now batch → Works (Some batch) (S.taken input.old) (S.taken input.new) (S.left input.old) (S.left input.new) result.printed }
-    ensures later { S.faults input.old ≤ S.faults input.new }
-    ensures grows { H.stops halt ≤ H.stops result.halt }
-    ensures cause { IfErr result.printed (RunCause (S.faults input.old) (S.faults input.new) (H.stops halt) (H.stops result.halt)) }
-{
-    match empty(alloc, halt) {
-        Ok(store) => {
-            let mut store = store;
-            let printed = over_store(alloc, query, input, &mut store, rule);
-            let halt = halt_of(store);
-            Decided { printed, halt }
-        }
-        Err((_error, halt)) => Decided {
-            printed: Err(RunFault::OutOfMemory),
-            halt,
-        },
-    }
-}
-
-/// Reads the points of the input into a store that has none, and answers the query of a batch there.
-fn over_store<S: Source, R: Rows + Drop>(
-    alloc: Global,
-    query: &Query,
-    input: &mut S,
-    store: &mut Uids<R>,
-    rule: &UidRule,
-) -> Result<Printed, RunFault>
-    requires can { CanAsk query.now }
-    requires allows { AllowsAll rule.now.patterns }
-    requires naming { IsNaming no_names (R.seen store.old) }
-    ensures works { (batch : plain.Batch) → IsQueryOf query.now batch → Works (Some batch) (S.taken input.old) (S.taken input.new) (S.left input.old) (S.left input.new) result }
-    ensures later { S.faults input.old ≤ S.faults input.new }
-    ensures grows { R.stops store.old ≤ R.stops store.new }
-    ensures cause { IfErr result (RunCause (S.faults input.old) (S.faults input.new) (R.stops store.old) (R.stops store.new)) }
-{
-    let mut gathered = Gathered::make(alloc);
-    match read_points(alloc, input, store, rule, &mut gathered)? {
-        Some(bad) => Ok(bad_line(alloc, &bad)?),
-        None => printed_answer(alloc, answer(alloc, query, store, rule, gathered)),
-    }
-}
-
-/// The refusal of a line.
-fn bad_line(alloc: Global, bad: &BadLine) -> Result<Printed, AllocError>
-    ensures { IfOk result (λ printed. outcome_of printed ≡ refused_line bad.now.number bad.now.text.items) }
-{
-    let mut text = Vec::from_slice(alloc, b"line ")?;
-    write_number(bad.number, &mut text)?;
-    text.extend_from_slice(b": ")?;
-    text.extend_from_slice(&bad.text)?;
-    Printed::refused(text)
 }

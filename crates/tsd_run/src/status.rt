@@ -19,6 +19,8 @@ pub enum Status {
     Memory,
     /// The halt refused a step.
     Stopped,
+    /// The doors failed.
+    DoorFault,
     /// 2^40 bytes of input came without their end.
     SessionFull,
     /// The clock failed.
@@ -38,6 +40,7 @@ impl Status {
             Status::WriteFault => 4,
             Status::Memory => 5,
             Status::Stopped => 6,
+            Status::DoorFault => 7,
             Status::SessionFull => 8,
             Status::ClockFault => 9,
         }

@@ -6,7 +6,7 @@ ghost use Rattle.uid_table.specs.declared.known_series.KnownSeries.{KnownSeries 
 ghost use Rattle.uid_table.specs.KnownSeries.{IsAmong, IsKept, KeepsNone, KeepsSeries, KeptAmong};
 
 use crate::placed_point::PlacedPoint;
-use guess_table::hash_bytes;
+use guess_table::{Trail, hash_bytes};
 use qual_codec::Bytes;
 use std::alloc::{AllocError, Global};
 use std::marker::Model;
@@ -54,6 +54,8 @@ pub struct SeriesTable {
     marks: Vec<u32>,
     // How many series were added since the slots were made.
     count: usize,
+    // Which slot may be asked for next.
+    trail: Trail<usize>,
 }
 
 impl Model for SeriesTable {
@@ -76,6 +78,7 @@ impl SeriesTable {
             slots: Vec::new(alloc),
             marks: Vec::new(alloc),
             count: 0,
+            trail: Trail::make(alloc),
         }
     }
 
@@ -86,6 +89,7 @@ impl SeriesTable {
         self.slots.clear();
         self.marks.clear();
         self.count = 0;
+        self.trail.clear();
     }
 
     /// Takes out the series of these texts, where it is kept.
@@ -96,10 +100,46 @@ impl SeriesTable {
         ensures metric { IfSome result (λ b. b.value.metric ≡ metric.now) }
         ensures tags { IfSome result (λ b. b.value.tags ≡ tags.now) }
     {
-        match marked_slot(&self.marks, hash_texts(metric, tags)) {
-            Some(at) => take_at(&mut self.slots, at, metric, tags),
-            None => None,
+        match self.take_next(metric, tags) {
+            Some(known) => Some(known),
+            None => self.take_marked(metric, tags),
         }
+    }
+
+    /// Takes out the series of these texts, where it is the one that comes next.
+    #[inline]
+    fn take_next(&mut self, metric: &[u8], tags: &[u8]) -> Option<Box<KnownSeries>>
+        ensures found { IsAmong self.old result }
+        ensures kept { KeptAmong self.new self.old }
+        ensures metric { IfSome result (λ b. b.value.metric ≡ metric.now) }
+        ensures tags { IfSome result (λ b. b.value.tags ≡ tags.now) }
+    {
+        let at = self.trail.guess()?;
+        self.take_at(at, metric, tags)
+    }
+
+    /// Takes out the series of these texts, where it is found by their hash.
+    fn take_marked(&mut self, metric: &[u8], tags: &[u8]) -> Option<Box<KnownSeries>>
+        ensures found { IsAmong self.old result }
+        ensures kept { KeptAmong self.new self.old }
+        ensures metric { IfSome result (λ b. b.value.metric ≡ metric.now) }
+        ensures tags { IfSome result (λ b. b.value.tags ≡ tags.now) }
+    {
+        let at = marked_slot(&self.marks, hash_texts(metric, tags))?;
+        self.take_at(at, metric, tags)
+    }
+
+    /// Takes out the series of a slot, where it is that of these texts.
+    #[inline]
+    fn take_at(&mut self, at: usize, metric: &[u8], tags: &[u8]) -> Option<Box<KnownSeries>>
+        ensures found { IsAmong self.old result }
+        ensures kept { KeptAmong self.new self.old }
+        ensures metric { IfSome result (λ b. b.value.metric ≡ metric.now) }
+        ensures tags { IfSome result (λ b. b.value.tags ≡ tags.now) }
+    {
+        let known = take_at(&mut self.slots, at, metric, tags)?;
+        self.trail.came(at);
+        Some(known)
     }
 
     /// Keeps a series: in the slot that it had, or else in an empty one of its bucket, or in the place of another series.

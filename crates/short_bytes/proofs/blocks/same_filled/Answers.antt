@@ -1,7 +1,9 @@
-use Rattle.std.proofs.Common.{take, sym, ap, ◌∙◌}
-use Rattle.std.specs.Cmp.Lexicographic.{texts_ties}
-use Rattle.std.specs.Ordering.{is_eq}
+use Rattle.std.proofs.Common.{◌∙◌}
+use Rattle.short_bytes.proofs.Filled.{short_differs, short_same}
 use Rattle.short_bytes.proofs.blocks.same_filled.Goals as goal
 
+pub returns-then-len-other_len : goal.returns-then-len-other_len
+returns-then-len-other_len c = short_differs c.args.len c.args.other_len c.args.block.now c.args.other_block.now c.told-block c.told-other_block c.requires.0.0 c.requires.1.0 c.requires.0.1 c.requires.1.1 c.if-len-other_len.true
+
 pub returns : goal.returns
-returns c = c.is_eq.ensures ∙ ap is_eq c.order_filled.ensures ∙ sym (texts_ties (take c.args.len c.args.block.now) (take c.args.other_len c.args.other_block.now))
+returns c = c.eq.ensures ∙ short_same c.args.len c.args.other_len c.args.block.now c.args.other_block.now c.told-block c.told-other_block c.requires.0.0 c.requires.1.0 c.requires.0.1 c.requires.1.1 c.if-len-other_len.false

@@ -1,8 +1,7 @@
-use Rattle.site_fleet.proofs.FleetAsks.{worker_told, each_later}
+use Rattle.site_fleet.proofs.FleetAsks.{told_both, told_of}
 use Rattle.site_fleet.proofs.put_fleet.both.Goals as goal
 
-pub returns-clause-first : goal.returns-clause-first
-returns-clause-first g c = each_later _ _ _ c.absorbed-pass.ensures.first (worker_told _ _ _ _ _ c.in_ok-one.was c.join-one.ensures.first).2
-
-pub returns-clause-second : goal.returns-clause-second
-returns-clause-second g c = each_later _ _ _ c.absorbed-pass.ensures.second (worker_told _ _ _ _ _ c.in_ok-two.was c.join-one.ensures.second).2
+pub returns : goal.returns
+returns g c =
+    let e = c.absorbed-pass.ensures in
+    told_both _ _ _ _ _ _ _ _ (told_of _ _ _ c.in_ok-one.was c.join-one.ensures.first) (told_of _ _ _ c.in_ok-two.was c.join-one.ensures.second) e.counter e.caller e.first e.second e.numbers e.different

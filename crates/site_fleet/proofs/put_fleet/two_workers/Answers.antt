@@ -1,14 +1,11 @@
-use Rattle.std.proofs.Common.{rules, ◌≡◌, ◌∙◌, ap}
+use Rattle.std.proofs.Common.{rules, ◌≡◌, ◌∙◌, [], ◌∷◌, ap}
 use Rattle.step_count.specs.CounterRule.{store_in}
 use Rattle.step_count.specs.FirstViews.{named}
 use Rattle.step_count.proofs.CallerLemmas.{store_told}
-use Rattle.point_put.specs.Admissions.{admission}
-use Rattle.site_fleet.specs.FleetAnswers.{WereAsked}
 use Rattle.site_fleet.proofs.FleetAsks.{stand_over}
 use Rattle.site_fleet.proofs.put_fleet.two_workers.Goals as goal
 
 pub returns : goal.returns
 returns g c =
-    let a = admission c.args.config.now c.args.rule.now.patterns in
     let name : c.in-Ok.parts.name ≡ named c.args.regions.content c.args.regions.data_regions = search rules in
-    stand_over _ _ _ (λ d. d.regions.content) (λ d. WereAsked a c.args.first.now d.first.items) (λ d. WereAsked a c.args.second.now d.second.items) (ap store_in name ∙ store_told _) c.over.ensures
+    stand_over _ _ _ _ (λ d. d.regions.content) (λ d. (c.args.first.now, d.first.items) ∷ (c.args.second.now, d.second.items) ∷ []) (ap store_in name ∙ store_told _) c.over.ensures

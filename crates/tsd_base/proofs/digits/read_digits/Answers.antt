@@ -7,6 +7,6 @@ use Rattle.tsd_base.proofs.digits.read_digits.Goals as goal
 
 pub loop-b-preserved : goal.loop-b-preserved
 loop-b-preserved c = record {
-  value = omega (arith, c.if-not-is_ascii_digit.ensures.cases, digits_value_more, digit_value_digit);
+  value = omega (arith, c.with_digit-n.ensures, c.if-not-is_ascii_digit.ensures.cases, digits_value_more, digit_value_digit);
   digits = grind (arith, common_steps, list_all_more);
 }

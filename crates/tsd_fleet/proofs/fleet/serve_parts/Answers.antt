@@ -4,7 +4,7 @@ use Rattle.tsd_fleet.proofs.fleet.serve_parts.Goals as goal
 pub returns-clause-serves : goal.returns-clause-serves
 returns-clause-serves g c =
     let t = c.tally.ensures in
-    fleet_serves _ _ _ _ _ _ _ _ _ _ _ _ _ _ c.requires.name c.end-regions.ensures c.in_ok-served.ensures.gathered (record { ids = t.ids; rows = t.rows; cells = t.cells })
+    fleet_serves _ _ _ _ _ _ _ _ _ _ _ _ _ _ _ c.requires.name c.end-regions.ensures c.in_ok-served.ensures.gathered (record { ids = t.ids; rows = t.rows; cells = t.cells })
 
 pub returns-clause-counts : goal.returns-clause-counts
 returns-clause-counts g c = counts_links _ _ _ _ _ _ c.fleet_end.ensures.memory c.in_ok-served.ensures.counts

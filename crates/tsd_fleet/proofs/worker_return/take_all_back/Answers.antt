@@ -1,4 +1,4 @@
-use Rattle.std.proofs.Common.{rules, ◌≡◌, ◌∙◌, ◌++◌, ◌∷◌, [], length, map, sym, ap, append_assoc, arith}
+use Rattle.std.proofs.Common.{rules, ◌≡◌, ◌∙◌, ◌++◌, ◌∷◌, [], length, map, refl, sym, ap, append_assoc, arith}
 use Rattle.std.specs.Vec.Iter.{into_iter_items}
 use Rattle.point_put.specs.Admissions.{admission}
 use Rattle.tsd_fleet.specs.ServedLinks.{AllTell, WorkerServed}
@@ -19,10 +19,12 @@ loop-worker-init g c =
       few = same_list_counts c.args.workers.items (into_iter_items c.into_iter-worker-iterator.result) (λ worker. length worker.ends.items) _ items c.requires.few;
       gathered = λ back faults before. before;
       later = extends_same _;
+      caller = refl;
       returned = none_taken _ _;
       faults = search rules;
       waiting = search rules;
       moments = search rules;
+      clock_later = omega arith;
     }
 
 pub take_back-all-requires-clause-served : goal.take_back-all-requires-clause-served
@@ -54,8 +56,10 @@ loop-worker-preserved g c =
       few = omega (arith, sum, c.loop-worker.invariant.few, e.returned.few);
       gathered = λ back faults before. e.gathered back faults (c.loop-worker.invariant.gathered back faults before);
       later = extends_more _ _ _ c.loop-worker.invariant.later e.later;
+      caller = e.caller ∙ c.loop-worker.invariant.caller;
       returned = more_taken_as c.loop-worker.all c.take_back-all.result _ _ _ _ _ _ _ _ _ _ (search rules) more c.loop-worker.invariant.returned e.returned;
       faults = e.faults ∙ c.loop-worker.invariant.faults;
       waiting = e.waiting ∙ c.loop-worker.invariant.waiting;
       moments = e.moments ∙ c.loop-worker.invariant.moments;
+      clock_later = omega (arith, c.loop-worker.invariant.clock_later, e.clock_later);
     }

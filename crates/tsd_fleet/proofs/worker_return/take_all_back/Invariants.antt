@@ -19,11 +19,13 @@ invariant-loop-worker g l = record {
       (into_iter_items l.worker-iterator);
   few : sum_by (λ worker. length worker.ends.items) (into_iter_items l.worker-iterator) ≤ (g.D.Doors.counts l.doors).out;
   gathered : (back : Option (List Shut)) (faults : ℕ)
-      → Gathered (AllTell g.D.Inlet.Source.taken) (AllTell g.D.Outlet.Sink.held) g.J.ConnTerms.admission g.J.ConnTerms.moments l.fn.own back (g.D.Doors.back l.fn.doors) faults (g.C.Clock.faults l.fn.clock) l.fn.ends.items
-      → Gathered (AllTell g.D.Inlet.Source.taken) (AllTell g.D.Outlet.Sink.held) g.J.ConnTerms.admission g.J.ConnTerms.moments l.own back (g.D.Doors.back l.doors) faults (g.C.Clock.faults l.clock) l.ends.items;
+      → Gathered (AllTell g.D.Inlet.Source.taken) (AllTell g.D.Outlet.Sink.held) g.J.ConnTerms.admission g.J.ConnTerms.moments l.fn.own l.fn.own.absorbed back (g.D.Doors.back l.fn.doors) faults (g.C.Clock.faults l.fn.clock) l.fn.ends.items
+      → Gathered (AllTell g.D.Inlet.Source.taken) (AllTell g.D.Outlet.Sink.held) g.J.ConnTerms.admission g.J.ConnTerms.moments l.own l.own.absorbed back (g.D.Doors.back l.doors) faults (g.C.Clock.faults l.clock) l.ends.items;
   later : Extends l.fn.own l.own;
+  caller : l.own.caller ≡ l.fn.own.caller;
   returned : TakenBack l.all (sum_by (λ worker. length worker.ends.items) l.yielded) (length l.fn.ends.items) (length l.ends.items) (g.D.Doors.counts l.fn.doors) (g.D.Doors.counts l.doors);
   faults : g.D.Doors.faults l.doors ≡ g.D.Doors.faults l.fn.doors;
   waiting : g.D.Doors.waiting l.doors ≡ g.D.Doors.waiting l.fn.doors;
   moments : g.C.Clock.moments l.clock ≡ g.C.Clock.moments l.fn.clock;
+  clock_later : g.C.Clock.faults l.fn.clock ≤ g.C.Clock.faults l.clock;
 }

@@ -4,8 +4,8 @@ use Rattle.tsd_fleet.specs.ServedLinks.{AllTell, WorkerServed}
 use Rattle.tsd_fleet.proofs.GatheredLinks.{none_hold, one_more_holds, same_holds}
 use Rattle.tsd_fleet.proofs.worker_seats.make_workers.Goals as goal
 
-pub loop-init : goal.loop-init
-loop-init g c = record {
+pub loop-number-init : goal.loop-number-init
+loop-number-init g c = record {
   idle = none_hold c.in_ok-workers.workers.items (λ worker. worker.ends.items ≡ []) c.in_ok-workers.ensures.items;
   begun = none_hold c.in_ok-workers.workers.items
       (λ worker.
@@ -14,14 +14,14 @@ loop-init g c = record {
       c.in_ok-workers.ensures.items;
 }
 
-pub loop-preserved : goal.loop-preserved
-loop-preserved g c = record {
-  idle = one_more_holds c.loop.workers.items c.push.new.self.items c.make.result (λ worker. worker.ends.items ≡ []) c.in_ok-push.ensures.items c.loop.invariant.idle c.make.ensures.none;
-  begun = one_more_holds c.loop.workers.items c.push.new.self.items c.make.result
+pub loop-number-preserved : goal.loop-number-preserved
+loop-number-preserved g c = record {
+  idle = one_more_holds c.loop-number.workers.items c.push.new.self.items c.make.result (λ worker. worker.ends.items ≡ []) c.in_ok-push.ensures.items c.loop-number.invariant.idle c.make.ensures.none;
+  begun = one_more_holds c.loop-number.workers.items c.push.new.self.items c.make.result
       (λ worker.
       WorkerServed (AllTell g.D.Inlet.Source.taken) (AllTell g.D.Outlet.Sink.held) g.J.ConnTerms.admission g.J.ConnTerms.moments (admission worker.work.config worker.work.rule.now.patterns) worker.work.names
       (g.C.Clock.moments worker.work.clock) (g.C.Clock.faults worker.work.clock) [])
-      c.in_ok-push.ensures.items c.loop.invariant.begun
+      c.in_ok-push.ensures.items c.loop-number.invariant.begun
       (same_holds c.in_ok-work.work c.make.result.work
       (λ work.
       WorkerServed (AllTell g.D.Inlet.Source.taken) (AllTell g.D.Outlet.Sink.held) g.J.ConnTerms.admission g.J.ConnTerms.moments (admission work.config work.rule.now.patterns) work.names

@@ -3,8 +3,8 @@ use Rattle.point_put.specs.Admissions.{admission}
 use Rattle.tsd_fleet.specs.ServedLinks.{AllTell, WorkerServed}
 use Rattle.tsd_fleet.proofs.worker_seats.make_workers.Given as goal
 
-abbrev pub invariant-loop : goal.invariant-loop
-invariant-loop g l = record {
+abbrev pub invariant-loop-number : goal.invariant-loop-number
+invariant-loop-number g l = record {
   idle : All (λ worker. worker.ends.items ≡ []) l.workers.items;
   begun : All
       (λ worker.

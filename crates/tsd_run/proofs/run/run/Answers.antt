@@ -1,16 +1,27 @@
 use Rattle.std.proofs.Common.{map, sym, subst}
 use Rattle.std.specs.Prelude.{string_bytes}
-use Rattle.command_words.specs.CommandWords.{asked_of}
+use Rattle.command_words.specs.CommandWords.{Serve, asked_of}
+use Rattle.tsd_fleet.specs.ServedLinks.{AllTell}
 use Rattle.tsd_run.specs.declared.status.Status.{Status}
+use Rattle.tsd_run.specs.FleetStatuses.{RunsAny, ServesFleet}
 use Rattle.tsd_run.specs.Runs.{Runs}
-use Rattle.tsd_run.proofs.StdioLemmas.{runs_unread}
+use Rattle.tsd_run.proofs.FleetLemmas.{unread}
 use Rattle.tsd_run.proofs.run.run.Goals as goal
 
 pub returns-in-Err-clause-runs : goal.returns-in-Err-clause-runs
 returns-in-Err-clause-runs g c =
     let s = g.S.Source in
     let k = g.K.Sink in
-    let m = g.C.Clock.moments c.args.clock.now in
+    let d = g.D.Doors in
+    let taken = s.taken c.args.input.now in
+    let left = s.left c.args.input.now in
+    let held = k.held c.args.output.now in
+    let moments = g.C.Clock.moments c.args.clock.now in
+    let back = d.back c.args.doors.now in
+    let counts = d.counts c.args.doors.now in
+    let faults = g.C.Clock.faults c.args.clock.now in
+    let inlets = AllTell g.D.Inlet.Source.taken in
+    let outlets = AllTell g.D.Outlet.Sink.held in
     let asked = asked_of (map string_bytes c.args.words.now) in
-    subst (λ (status : Status). Runs asked (s.taken c.args.input.now) (s.taken c.args.input.now) (s.left c.args.input.now) (s.left c.args.input.now) (k.held c.args.output.now) (k.held c.args.output.now) m m status) (sym c.no_memory.ensures.status)
-    (runs_unread (s.taken c.args.input.now) (s.left c.args.input.now) (k.held c.args.output.now) m asked)
+    subst (λ (status : Status). RunsAny asked (Runs asked taken taken left left held held moments moments status) (λ (f : Serve). ServesFleet f inlets outlets moments back back counts counts faults faults held held status)) (sym c.no_memory.ensures.status)
+    (unread inlets outlets taken left held moments back counts faults asked)

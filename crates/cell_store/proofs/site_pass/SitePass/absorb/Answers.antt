@@ -1,6 +1,6 @@
 use Rattle.std.proofs.Common.{◌∙◌, refl}
 use Rattle.cell_store.proofs.SeenViews.{possible}
-use Rattle.cell_store.proofs.GreaterViews.{caller_absorbed, extends_from}
+use Rattle.cell_store.proofs.GreaterViews.{caller_absorbed, extends_from, numbers_as}
 use Rattle.cell_store.proofs.site_pass.SitePass.absorb.Goals as goal
 
 pub invariant_of-self : goal.invariant_of-self
@@ -27,3 +27,13 @@ pub returns-clause-possible : goal.returns-clause-possible
 returns-clause-possible g c =
     let i = c.self.invariant in let o = c.part.ensures in let m = c.absorb_all.ensures in
     possible g.J.StepNames.name _ (caller_absorbed g.J.StepNames.name _ _ _ _ _ i.1 o.caller refl m.view m.up m.live).0
+
+pub returns-clause-numbers : goal.returns-clause-numbers
+returns-clause-numbers g c =
+    let i = c.self.invariant in let o = c.part.ensures in let m = c.absorb_all.ensures in
+    numbers_as _ _ _ _ _ c.self.view_is o.seen (caller_absorbed g.J.StepNames.name _ _ _ _ _ i.1 o.caller refl m.view m.up m.live).4.numbers
+
+pub returns-clause-different : goal.returns-clause-different
+returns-clause-different g c =
+    let i = c.self.invariant in let o = c.part.ensures in let m = c.absorb_all.ensures in
+    (caller_absorbed g.J.StepNames.name _ _ _ _ _ i.1 o.caller refl m.view m.up m.live).4.different

@@ -1,14 +1,14 @@
-use Rattle.std.proofs.Common.{◌∙◌, ℕ, List, refl, ap, subst}
+use Rattle.std.proofs.Common.{◌∙◌, ℕ, List, ap, subst}
 use Rattle.std.specs.Prelude.{Contains, IfOk}
 use Rattle.cell_model.specs.declared.answers.Stored.{Stored}
 use Rattle.compactor.specs.Queues.{AddMade, stored_as, stored_of}
 use Rattle.compactor.proofs.QueueRows.{found_there, same_stored}
 use Rattle.compactor.proofs.queue.Queue.add.Goals as goal
 
-pub returns-then-finds-clause-ok : goal.returns-then-finds-clause-ok
-returns-then-finds-clause-ok c =
-    let known : Contains c.self.inside.known (c.args.base, c.args.row.now.bytes) = subst (λ (bytes : List ℕ). Contains c.self.inside.known (c.args.base, bytes)) c.list-bytes.ensures (c.finds.ensures c.if-finds.true) in
-    (subst (λ (l : List Stored). Contains l (stored_as c.args.row.now c.args.base)) c.self.view_is (found_there c.self.inside.rows.keys c.self.inside.known (stored_as c.args.row.now c.args.base) c.requires c.self.invariant.1 known), refl)
+pub returns-in-Some-clause-ok : goal.returns-in-Some-clause-ok
+returns-in-Some-clause-ok c =
+    let known : Contains c.self.inside.known (c.args.base, c.args.row.now.bytes) = c.in-Some.ensures in
+    (subst (λ (l : List Stored). Contains l (stored_as c.args.row.now c.args.base)) c.self.view_is (found_there c.self.inside.rows.keys c.self.inside.known (stored_as c.args.row.now c.args.base) c.requires c.self.invariant.1 known), c.self.view_is)
 
 pub returns-clause-ok : goal.returns-clause-ok
 returns-clause-ok c =

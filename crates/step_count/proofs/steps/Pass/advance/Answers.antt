@@ -5,8 +5,8 @@ use Rattle.step_count.proofs.steps.Pass.advance.Goals as goal
 
 pub loop-preserved-then-seen : goal.loop-preserved-then-seen
 loop-preserved-then-seen g c =
-    let i = c.loop.invariant in let e = c.learn-seen-then-seen.ensures in
-    (e.counter ∙ i.0, waits _ _ _ c.learn-seen-then-seen.result i.1 e.view e.up)
+    let i = c.loop.invariant in let e = c.learn-seen.ensures in
+    (e.counter ∙ i.0, waits _ _ _ c.learn-seen.result i.1 e.view e.up)
 
 pub compare_exchange-found-requires : goal.compare_exchange-found-requires
 compare_exchange-found-requires g c = (search rules, search rules, adds_later _ _ _ _ c.args.self.now.seat.me.0 _ _ c.loop.invariant.1 c.requires)

@@ -1,0 +1,15 @@
+use std::alloc::AllocError;
+use tsd_base::dots::Dots;
+
+#[test]
+fn keeps_dots(rt: HostRuntime) -> Result<(), AllocError> {
+    let mut dots = Dots::make(rt.alloc());
+    dots.push(1, -5)?;
+    dots.push(7, 0)?;
+    assert_eq!(rt; dots.list(), &[(1, -5), (7, 0)][..]);
+    let mut later = Dots::make(rt.alloc());
+    later.push(8, 3)?;
+    dots.append(&later)?;
+    assert_eq!(rt; dots.list(), &[(1, -5), (7, 0), (8, 3)][..]);
+    Ok(())
+}

@@ -1,0 +1,21 @@
+//! Tests of calls that no case of `scenarios` makes, in one crate: so a crate isn't proved once more for its tests.
+#![tactic(auto)]
+
+#[cfg(test)]
+mod byte_tests;
+#[cfg(test)]
+mod device_tests;
+#[cfg(test)]
+mod door_tests;
+#[cfg(test)]
+mod dots_tests;
+#[cfg(test)]
+mod fleet_tests;
+#[cfg(test)]
+mod fresh_links;
+#[cfg(test)]
+mod halt_tests;
+#[cfg(test)]
+mod link_tests;
+#[cfg(test)]
+mod queue_tests;

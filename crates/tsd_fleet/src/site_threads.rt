@@ -1,0 +1,179 @@
+//! The connections of the doors, served over one site while rows of their points are compacted on other threads.
+ghost use Rattle.std.specs.Fork.{AcceptsEach};
+ghost use Rattle.std.specs.Prelude.{◌≡◌, ◌≤◌, IfOk, OnErr, length, vec_len};
+ghost use Rattle.step_count.specs.Tokens.{counter_of_pass, view_of_pass};
+ghost use Rattle.cell_store.specs.CallerViews.{IsCaller, numbers_of, seen_of};
+ghost use Rattle.link_workers.specs.Accepting.{HasReason};
+ghost use Rattle.point_put.specs.Admissions.{admission};
+ghost use Rattle.tsd_fleet.specs.ServedLinks.{AllTell};
+ghost use Rattle.tsd_fleet.specs.FleetStands.{Gathered, SiteCounts};
+
+use crate::compactor_seats::{CompactorSeats, make_compactors, rejoin_clocks};
+use crate::conn_terms::ConnTerms;
+use crate::fleet::Fleet;
+use crate::row_compactor::{RowCompactor, compact_rows};
+use crate::site_service::{SiteServed, serve_connections};
+use cell_store::{Gate, Site, SitePass, StepNames};
+use compactor::queue::Queue;
+use crossbeam_channel::Sender;
+use point_put::Config;
+use std::alloc::{AllocError, Global};
+use std::sync::Wait;
+use std::thread;
+use std::thread::Threads;
+use tsd_doors::doors::Doors;
+use tsd_hooks::UidRule;
+use tsd_io::clock::Clock;
+use tsd_io::halt::Halt;
+
+/// Accepts connections, and has each served by one of the workers or by the caller, each of whom is a caller of the site, while the rows of
+/// their points are compacted by further callers, one for each queue. All are given back to the doors, or where the end is `OutOfMemory`
+/// some.
+///
+/// Err, for want of memory, says that nothing was done.
+pub(crate) fn serve_site<
+    J: StepNames + ConnTerms + Send + Sync,
+    G: Gate + Drop + Send + Sync,
+    T: Threads + Wait + Sync,
+    C: Clock + Send + Drop,
+    H: Halt,
+    D: Doors,
+>(
+    rt: &T,
+    alloc: Global,
+    fleet: &Fleet,
+    site: &Site<J, G>,
+    rule: &UidRule,
+    config: &Config,
+    clock: &mut C,
+    halt: &mut H,
+    doors: &mut D,
+) -> Result<SiteServed, AllocError>
+    requires daemons { 1 ≤ fleet.now.daemons }
+    requires most_daemons { fleet.now.daemons ≤ 8 }
+    requires most_workers { fleet.now.workers ≤ 16 }
+    requires admission { admission config.now rule.now.patterns ≡ J.admission }
+    requires moments { C.moments clock.old ≡ J.moments }
+    ensures counter { IfOk result (λ s. counter_of_pass s.pass ≡ J.counter) }
+    ensures caller { IfOk result (λ s. IsCaller J.name (view_of_pass s.pass)) }
+    ensures gathered { IfOk result (λ s. Gathered (AllTell D.Inlet.taken) (AllTell D.Outlet.held) J.admission J.moments (seen_of (view_of_pass s.pass)) (numbers_of (seen_of (view_of_pass s.pass)))
+        (D.back doors.old) (D.back doors.new) (C.faults clock.old) (C.faults clock.new) s.ends.items) }
+    ensures counts { IfOk result (λ s. SiteCounts s.end s.links (length s.ends.items) (D.counts doors.old) (D.counts doors.new)) }
+    ensures reason { IfOk result (λ s. HasReason s.end (D.waiting doors.old) (D.waiting doors.new) (H.stops halt.old) (H.stops halt.new) (D.faults doors.old) (D.faults doors.new)) }
+    ensures stops_later { H.stops halt.old ≤ H.stops halt.new }
+    ensures clock_later { C.faults clock.old ≤ C.faults clock.new }
+    ensures doors_later { D.faults doors.old ≤ D.faults doors.new }
+    ensures doors { OnErr result (doors.new ≡ doors.old) }
+    ensures clock { OnErr result (clock.new ≡ clock.old) }
+    ensures halt { OnErr result (halt.new ≡ halt.old) }
+{
+    let CompactorSeats { rows_to, workers } = make_compactors(
+        rt,
+        alloc,
+        site,
+        clock,
+        fleet.daemons,
+    )?;
+    let (mut rows_to, mut compactors) = (rows_to, workers);
+    let served = serve_beside(
+        rt,
+        alloc,
+        fleet,
+        site,
+        rule,
+        config,
+        clock,
+        halt,
+        doors,
+        &mut rows_to,
+        &mut compactors,
+        &|_, compactor: &mut RowCompactor<SitePass<'_, J, G, T>, C>| compact_rows(rt, compactor),
+    )?;
+    rejoin_clocks(clock, compactors);
+    Ok(served)
+}
+
+/// Serves connections on this thread and on those of the workers, and calls a function with each of these, each on a thread of its own.
+fn serve_beside<
+    J: StepNames + ConnTerms + Send + Sync,
+    G: Gate + Drop + Send + Sync,
+    T: Threads + Wait + Sync,
+    C: Clock + Send + Drop,
+    H: Halt,
+    D: Doors,
+    S: Send,
+    F: Fn(usize, &mut S) + Sync,
+>(
+    rt: &T,
+    alloc: Global,
+    fleet: &Fleet,
+    site: &Site<J, G>,
+    rule: &UidRule,
+    config: &Config,
+    clock: &mut C,
+    halt: &mut H,
+    doors: &mut D,
+    rows_to: &mut Vec<Sender<Queue>>,
+    compactors: &mut Vec<S>,
+    compact: &F,
+) -> Result<SiteServed, AllocError>
+    requires accepts { AcceptsEach F.Fn compact.now compactors.old.items }
+    requires rows_to { vec_len rows_to.old ≡ fleet.now.daemons }
+    requires daemons { 1 ≤ fleet.now.daemons }
+    requires most_daemons { fleet.now.daemons ≤ 8 }
+    requires most_workers { fleet.now.workers ≤ 16 }
+    requires admission { admission config.now rule.now.patterns ≡ J.admission }
+    requires moments { C.moments clock.old ≡ J.moments }
+    ensures counter { IfOk result (λ s. counter_of_pass s.pass ≡ J.counter) }
+    ensures caller { IfOk result (λ s. IsCaller J.name (view_of_pass s.pass)) }
+    ensures gathered { IfOk result (λ s. Gathered (AllTell D.Inlet.taken) (AllTell D.Outlet.held) J.admission J.moments (seen_of (view_of_pass s.pass)) (numbers_of (seen_of (view_of_pass s.pass)))
+        (D.back doors.old) (D.back doors.new) (C.faults clock.old) (C.faults clock.new) s.ends.items) }
+    ensures counts { IfOk result (λ s. SiteCounts s.end s.links (length s.ends.items) (D.counts doors.old) (D.counts doors.new)) }
+    ensures reason { IfOk result (λ s. HasReason s.end (D.waiting doors.old) (D.waiting doors.new) (H.stops halt.old) (H.stops halt.new) (D.faults doors.old) (D.faults doors.new)) }
+    ensures stops_later { H.stops halt.old ≤ H.stops halt.new }
+    ensures clock_later { C.faults clock.old ≤ C.faults clock.new }
+    ensures doors_later { D.faults doors.old ≤ D.faults doors.new }
+    ensures doors { OnErr result (doors.new ≡ doors.old) }
+    ensures clock { OnErr result (clock.new ≡ clock.old) }
+    ensures halt { OnErr result (halt.new ≡ halt.old) }
+{
+    let (_, served) = thread::join_mut(
+        rt,
+        &mut ||
+            requires { AcceptsEach F.Fn compact.now compactors.now.items }
+        { compact_each(rt, compactors, compact) },
+        &mut || -> Result<SiteServed, AllocError>
+            requires { (vec_len rows_to.now ≡ fleet.now.daemons) × (1 ≤ fleet.now.daemons) × (fleet.now.daemons ≤ 8) × (fleet.now.workers ≤ 16)
+                × (admission config.now rule.now.patterns ≡ J.admission) × (C.moments clock.now ≡ J.moments) }
+            ensures counter { IfOk result (λ s. counter_of_pass s.pass ≡ J.counter) }
+            ensures caller { IfOk result (λ s. IsCaller J.name (view_of_pass s.pass)) }
+            ensures gathered { IfOk result (λ s. Gathered (AllTell D.Inlet.taken) (AllTell D.Outlet.held) J.admission J.moments (seen_of (view_of_pass s.pass)) (numbers_of (seen_of (view_of_pass s.pass)))
+                (D.back doors.entry.now) (D.back doors.exit.now) (C.faults clock.entry.now) (C.faults clock.exit.now) s.ends.items) }
+            ensures counts { IfOk result (λ s. SiteCounts s.end s.links (length s.ends.items) (D.counts doors.entry.now) (D.counts doors.exit.now)) }
+            ensures reason { IfOk result (λ s. HasReason s.end (D.waiting doors.entry.now) (D.waiting doors.exit.now) (H.stops halt.entry.now) (H.stops halt.exit.now) (D.faults doors.entry.now) (D.faults doors.exit.now)) }
+            ensures stops_later { H.stops halt.entry.now ≤ H.stops halt.exit.now }
+            ensures clock_later { C.faults clock.entry.now ≤ C.faults clock.exit.now }
+            ensures doors_later { D.faults doors.entry.now ≤ D.faults doors.exit.now }
+            ensures doors { OnErr result (doors.exit.now ≡ doors.entry.now) }
+            ensures clock { OnErr result (clock.exit.now ≡ clock.entry.now) }
+            ensures halt { OnErr result (halt.exit.now ≡ halt.entry.now) }
+        {
+            serve_connections(
+                rt, alloc, fleet, site, rule, config, clock, halt, doors, rows_to,
+            )
+        },
+    );
+    served
+}
+
+/// Calls a function with each of these, each on a thread of its own.
+fn compact_each<T: Threads + Sync, S: Send, F: Fn(usize, &mut S) + Sync>(
+    rt: &T,
+    compactors: &mut Vec<S>,
+    compact: &F,
+)
+    requires { AcceptsEach F.Fn compact.now compactors.old.items }
+{
+    let count = compactors.len().max(1);
+    thread::for_each_mut(rt, compactors, count, compact);
+}
