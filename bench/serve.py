@@ -2,10 +2,11 @@
 """Drives `tsd serve` over sockets of this machine, beside a server in plain Rust that does little more than keep the points (locked.rs),
 and prints Markdown tables; the points a second go into a plot too.
 
-    bench/serve.py PROGRAM [RUNS] [PROCESSORS] [PLOT]
+    bench/serve.py PROGRAM [RUNS] [PROCESSORS] [CLIENTS] [PLOT]
 
-PROGRAM is the built `tsd_main`. The run that was fastest by the clock counts, of RUNS (5 if left out), the two servers by turns. Server and
-clients run on the processors that PROCESSORS names (0,1 if left out). PLOT is the SVG file to write. The points are 1,000 of 1,000
+PROGRAM is the built `tsd_main`. The run that was fastest by the clock counts, of RUNS (5 if left out), the two servers by turns. The
+server runs on the processors that PROCESSORS names (0,1 if left out), the clients on those that CLIENTS names (the same if left out). PLOT
+is the SVG file to write. The points are 1,000 of 1,000
 series, in order of time, put by telnet and in bodies of 50; then two queries are asked over all of them, beside the same answers made by
 hand (scans.rs). What a server's processors spent is taken when the last client has its end, and again when the server has ended, since it
 compacts rows after a connection's end."""
@@ -86,10 +87,11 @@ def clients(folder, processors, kind, port, files):
     return int(subprocess.run(words, capture_output=True, check=True, text=True).stdout) / 1e6
 
 
-def measure(folder, processors, kind, words, files, asked):
-    """One run: seconds by the clock, of processors up to the clients' end and in all, and peak MB."""
-    server = Server(processors, words)
-    taken = clients(folder, processors, kind, server.port, files)
+def measure(folder, places, kind, words, files, asked):
+    """One run: seconds by the clock, of processors up to the clients' end and in all, and peak MB. The places are the processors of the
+    server and those of the clients."""
+    server = Server(places[0], words)
+    taken = clients(folder, places[1], kind, server.port, files)
     spent = server.spent()
     whole, peak, output = server.end(asked)
     if asked and f"links {len(files) + 1}\n" not in output:
@@ -150,10 +152,11 @@ def plot(path, groups):
 
 
 def main():
-    if not 2 <= len(sys.argv) <= 5:
-        sys.exit("usage: serve.py PROGRAM [RUNS] [PROCESSORS] [PLOT]")
-    program, runs, processors, path = os.path.realpath(sys.argv[1]), *(sys.argv + [None] * 3)[2:5]
+    if not 2 <= len(sys.argv) <= 6:
+        sys.exit("usage: serve.py PROGRAM [RUNS] [PROCESSORS] [CLIENTS] [PLOT]")
+    program, runs, processors, others, path = os.path.realpath(sys.argv[1]), *(sys.argv + [None] * 4)[2:6]
     runs, processors = int(runs or 5), processors or "0,1"
+    places = processors, others or processors
     serve = [program, "serve", "0", "--auto-metric"]
     groups = []
     with tempfile.TemporaryDirectory() as folder:
@@ -168,8 +171,8 @@ def main():
             files = deal(folder, f"puts{parts}{own}-", f"{folder}/lines", parts, own, "put ")
             ours, theirs = by_turns(
                 runs,
-                lambda: measure(folder, processors, "telnet", serve, files, True),
-                lambda: measure(folder, processors, "telnet", plain, files, False),
+                lambda: measure(folder, places, "telnet", serve, files, True),
+                lambda: measure(folder, places, "telnet", plain, files, False),
             )
             metrics = "one each" if own else "one of all"
             rates = COUNT / ours[0], COUNT / theirs[0]
@@ -186,8 +189,8 @@ def main():
         files = [f"{folder}/puts4True-{part}" for part in range(4)]
         one, four = by_turns(
             runs,
-            lambda: measure(folder, processors, "telnet", [*serve, "--workers", "1"], files, True),
-            lambda: measure(folder, processors, "telnet", [*serve, "--workers", "4"], files, True),
+            lambda: measure(folder, places, "telnet", [*serve, "--workers", "1"], files, True),
+            lambda: measure(folder, places, "telnet", [*serve, "--workers", "4"], files, True),
         )
         for workers, run in ((1, one), (4, four)):
             print(f"| {workers} | 4 | one each | {COUNT / run[0]:.0f} | {one[0] / run[0]:.2f} |", flush=True)
@@ -196,14 +199,14 @@ def main():
         print("|---|---|---|---|---|")
         for parts in (1, 4):
             requests = bodies(deal(folder, f"points{parts}-", f"{folder}/lines", parts, False, ""))
-            (run,) = by_turns(runs, lambda: measure(folder, processors, "http", serve, requests, True))
+            (run,) = by_turns(runs, lambda: measure(folder, places, "http", serve, requests, True))
             print(f"| {BODY} | {parts} | {COUNT / run[0]:.0f} | {run[1] * 1e9 / COUNT:.0f} | {run[3]:.1f} |", flush=True)
             groups.append(([f"HTTP, {parts}" + (" connections" if parts > 1 else " connection"), f"bodies of {BODY}"], COUNT / run[0], None))
 
         print("\n| query | reply, bytes | reply over HTTP, ms | by hand, ms | time, tsd / by hand |")
         print("|---|---|---|---|---|")
         server = Server(processors, serve)
-        clients(folder, processors, "telnet", server.port, [f"{folder}/puts1False-0"])
+        clients(folder, places[1], "telnet", server.port, [f"{folder}/puts1False-0"])
         for query, size, taken, least in ask(server, folder, f"{folder}/lines", runs):
             print(f"| `{query}` | {size} | {taken * 1e3:.1f} | {least * 1e3:.1f} | {taken / least:.2f} |", flush=True)
         server.end(True)

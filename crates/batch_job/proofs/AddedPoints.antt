@@ -4,6 +4,8 @@ use Rattle.std.specs.Prelude.{filter}
 use Rattle.std.specs.List.{AllByRecursion}
 use Rattle.tsd_base.specs.Alphabet.{IsName}
 use Rattle.tsd_base.specs.Points.{DataPoint, point_of}
+use Rattle.tsd_base.specs.declared.text_parts.TextParts.{TextParts}
+use Rattle.tsd_base.specs.TextParts.{HasTextParts}
 use Rattle.tsd_base.specs.TagList.{IsTags}
 use Rattle.tsd_base.specs.declared.kinds.Kind.{Kind}
 use Rattle.tsd_base.specs.declared.points.PointFault.{PointFault}
@@ -17,11 +19,9 @@ use Rattle.batch_job.specs.PointLines.{judged_point}
 use Rattle.batch_job.specs.PointLines.Judged.{Taken}
 use Rattle.batch_job.specs.SeriesValues.{Series, SeriesEntry, is_same_series, series_of_point, values_in}
 use Rattle.batch_job.specs.Storing.{Notes}
-use Rattle.batch_job.specs.TextParts.{HasTextParts}
 use Rattle.batch_job.specs.declared.point_line.LineOutcome.TheVariants as outcome
-use Rattle.batch_job.specs.declared.text_parts.TextParts.{TextParts}
 use Rattle.batch_job.proofs.GatherLemmas.{dot, none_not_some, or_nil, reads_full, reads_known, reads_point, same_series}
-use Rattle.batch_job.proofs.TextReads.{point_in, text_reads}
+use Rattle.batch_job.proofs.SeriesReads.{point_in, text_reads_in}
 
 -- a series that has a value is that of a point, so it has a name and tags
 record IsFormed (s : Series) : Type 0 where
@@ -55,7 +55,7 @@ text_adds old new a text parts has adds =
     let p = point_in s parts in
     let same : s ≡ series_of_point p = λ i. (s.0, sym adds.reads.form i) in (
       p,
-      ap judged_point (text_reads text parts s has adds.reads),
+      ap judged_point (text_reads_in text parts s has adds.reads),
       λ points h.
           let is : IsFormed s = formed points s adds.values h.are_points (sym (h.series s) ∙ adds.found) in
           adds_known old new a p adds.values (record { metric = is.metric; tags = is.tags; timed = has.timed })

@@ -11,16 +11,16 @@ use Rattle.std.proofs.lemmas.Map.Views.{lookup-from_Contains}
 use Rattle.std.proofs.lemmas.Option.{none-some, same_Some, slice_get_within}
 use Rattle.indexmap.specs.IndexMap.{IndexMap, IsUnique, Updates, insert_entry, set_value_at}
 use Rattle.indexmap.proofs.CallerLemmas.{insert_entry-new, updates-with_value_at}
+use Rattle.tsd_base.specs.declared.text_parts.TextParts.{TextParts}
 use Rattle.tsd_base.specs.TagOrder.{is_same_tags_equiv}
 use Rattle.batch_job.specs.AddedTexts.{AddsAt, AddsKnown, AddsValue}
 use Rattle.batch_job.specs.PendingSeries.{IsOneOf, KeepTexts, StandsAt, all_values, pushed_if, with_values}
+use Rattle.batch_job.specs.SeriesTexts.{IsKnownBy}
 use Rattle.batch_job.specs.SeriesValues.{Series, SeriesEntry, is_same_series, values_in}
-use Rattle.batch_job.specs.TextParts.{IsKnownBy}
 use Rattle.batch_job.specs.declared.pending_series.PendingSeries.{PendingSeries}
 use Rattle.batch_job.specs.declared.series_text.SeriesText.{SeriesText}
-use Rattle.batch_job.specs.declared.text_parts.TextParts.{TextParts}
 use Rattle.batch_job.proofs.GatherLemmas.{same_series}
-use Rattle.batch_job.proofs.TextReads.{parts_read_as}
+use Rattle.batch_job.proofs.SeriesReads.{parts_read_as}
 
 abbrev Held : Type 0
 Held = Series × PendingSeries

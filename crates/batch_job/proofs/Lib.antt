@@ -25,8 +25,8 @@ mod Puts
 mod PutsStand
 mod RowCells
 mod SeriesLemmas
+mod SeriesReads
 mod SettleLemmas
 mod StoredPoints
-mod TextReads
 mod ValueLemmas
 pub mod CallerLemmas

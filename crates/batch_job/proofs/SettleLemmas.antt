@@ -13,7 +13,8 @@ use Rattle.std.specs.Map.{keys_of}
 use Rattle.std.proofs.lemmas.Map.Keys.{sorted_head, sorted_tail}
 use Rattle.std.proofs.lemmas.Bool.{ltb-true, eqb-true}
 use Rattle.std.proofs.lemmas.Bool.Decides.{nat_tests}
-use Rattle.std.proofs.lemmas.List.Elements.{recursion_from_All}
+use Rattle.std.proofs.lemmas.List.Elements.{All-push, recursion_from_All}
+use Rattle.std.proofs.lemmas.List.Kept.{AllPairs-cons}
 use Rattle.std.proofs.Math.Seq.{take-suc}
 use Rattle.lerp_aggregate.specs.Aggregation.{value_at}
 use Rattle.tsd_base.specs.Dots.{IsAboveAll, IsRising}
@@ -96,9 +97,17 @@ rising_from_pairs (d ∷ dots) h = (
   rising_from_pairs dots (λ i j x less within. h (suc i) (suc j) x (omega (arith, less)) (omega (arith, within))),
 )
 
--- values whose times rise are as they are
-pub settled_as_is : (dots values : List (ℕ × ℤ)) → dots ≡ values → IsRising values → (time : ℕ) → value_at dots time ≡ last_at values time
-settled_as_is dots values same h time = ap (λ ds. value_at ds time) same ∙ last_is_only values time (rising_from_pairs values h)
+-- values whose times rise are the last ones at their times
+pub settled_as_is : (values : List (ℕ × ℤ)) → IsRising values → (time : ℕ) → value_at values time ≡ last_at values time
+settled_as_is values h time = last_is_only values time (rising_from_pairs values h)
+
+-- a later value behind rising ones rises
+pub rising_more : (dots : List (ℕ × ℤ)) (d : ℕ × ℤ) → IsRising dots → IsAboveAll d.0 dots → IsRising (dots ++ d ∷ [])
+rising_more [] d rising above = λ i j e less within. absurd (omega (arith, less, within))
+rising_more (x ∷ xs) d rising above =
+    AllPairs-cons (λ (p q : ℕ × ℤ). p.0 < q.0) x (xs ++ d ∷ [])
+    (All-push (λ (q : ℕ × ℤ). x.0 < q.0) xs d (λ k e less. rising 0 (suc k) e (omega arith) (omega (arith, less))) above.0)
+    (rising_more xs d (λ i j e less within. rising (suc i) (suc j) e (omega (arith, less)) (omega (arith, within))) above.1)
 
 pub take_next : {A : Type 0} (xs : List A) (i : ℕ) (d : A) → i < length xs → take (i + 1) xs ≡ take i xs ++ get_or xs i d ∷ []
 take_next xs i d less = ap (λ k. take k xs) (add-one i) ∙ take-suc xs i d less

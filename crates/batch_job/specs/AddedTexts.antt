@@ -6,11 +6,11 @@ use Rattle.batch_job.specs.PendingSeries.{all_values}
 use Rattle.batch_job.specs.PointLines.{Judged}
 use Rattle.batch_job.specs.PointLines.Judged.{Blank, Taken, Refused}
 use Rattle.batch_job.specs.SeriesValues.{Series, SeriesEntry, is_same_series, values_in}
-use Rattle.batch_job.specs.TextParts.{ReadAs}
+use Rattle.batch_job.specs.SeriesTexts.{ReadAs}
 use Rattle.batch_job.specs.declared.pending_series.PendingSeries.{PendingSeries}
 use Rattle.batch_job.specs.declared.point_line.LineOutcome.{LineOutcome}
 use Rattle.batch_job.specs.declared.point_line.LineOutcome.TheVariants as outcome
-use Rattle.batch_job.specs.declared.text_parts.TextParts.{TextParts}
+use Rattle.tsd_base.specs.declared.text_parts.TextParts.{TextParts}
 
 -- the series has one more value, behind those that it had, and the others have theirs
 abbrev pub AddsValue : Series → List (ℕ × ℤ) → ℕ × ℤ → List SeriesEntry → List SeriesEntry → Type 0

@@ -1,8 +1,8 @@
 pub mod OpenRules
 pub mod PendingIds
 pub mod NotedIds
+pub mod SeriesTexts
 pub mod SeriesValues
-pub mod TextParts
 pub mod PendingSeries
 pub mod Pending
 pub mod LastValues

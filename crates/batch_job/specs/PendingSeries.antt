@@ -2,9 +2,9 @@
 use Rattle.std.specs.Prelude.{◌≡◌, ℕ, ℤ, Bool, true, false, List, [], ◌∷◌, ◌++◌, Some, IsSomeAnd, map, slice_get, if◌then◌else◌}
 use Rattle.std.specs.List.{AllByRecursion}
 use Rattle.batch_job.specs.SeriesValues.{Series, SeriesEntry}
-use Rattle.batch_job.specs.TextParts.{IsKnownBy, IsTextOf}
+use Rattle.batch_job.specs.SeriesTexts.{IsKnownBy, IsTextOf}
 use Rattle.batch_job.specs.declared.pending_series.PendingSeries.{PendingSeries}
-use Rattle.batch_job.specs.declared.text_parts.TextParts.{TextParts}
+use Rattle.tsd_base.specs.declared.text_parts.TextParts.{TextParts}
 
 -- a series with its values
 abbrev pub with_values : Series × PendingSeries → SeriesEntry

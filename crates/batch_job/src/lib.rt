@@ -10,4 +10,3 @@ mod pending_series;
 pub mod point_line;
 mod series_text;
 mod series_values;
-mod text_parts;

@@ -1,6 +1,7 @@
 //! The points of all lines, series by series and form by form.
 ghost use Rattle.std.specs.Prelude.{◌≡◌, [], All, None as Nothing, Ok as Reads, Some as Found, IfOk, MatchOption, OnOk};
 ghost use Rattle.tsd_base.specs.Points.{DataPoint, data_point, point_of};
+ghost use Rattle.tsd_base.specs.TextParts.{HasTextParts};
 ghost use Rattle.cell_model.specs.Seen.{Seen};
 ghost use Rattle.cell_model.specs.Stops.{CountsStops, is_stop};
 ghost use Rattle.batch_job.specs.AddedTexts.{AddsAt, AddsKnown, AddsText, AddsValue};
@@ -9,15 +10,14 @@ ghost use Rattle.batch_job.specs.Pending.{Gathers, AddsPoint, so_far};
 ghost use Rattle.batch_job.specs.PendingIds.{no_names};
 ghost use Rattle.batch_job.specs.PendingSeries.{KeepTexts, StandsAt, all_values};
 ghost use Rattle.batch_job.specs.PointLines.{judged_point, judged_text};
+ghost use Rattle.batch_job.specs.SeriesTexts.{IsKnownBy};
 ghost use Rattle.batch_job.specs.SeriesValues.{series_of_point, values_in};
 ghost use Rattle.batch_job.specs.Storing.{IsNaming};
-ghost use Rattle.batch_job.specs.TextParts.{HasTextParts, IsKnownBy};
 
 use crate::pending_ids::note_series;
 use crate::pending_series::PendingSeries;
 use crate::point_line::{Judgement, LineOutcome, judge};
-use crate::series_text::{SeriesText, text_of};
-use crate::text_parts::{TextParts, parts_of};
+use crate::series_text::{SeriesText, hash_parts, text_of};
 use cell_model::Rows;
 use cell_model::answers::RowsFault;
 use guess_table::{Guesses, Round};
@@ -29,6 +29,7 @@ use tsd_base::kinds::Kind;
 use tsd_base::names::Name;
 use tsd_base::points::Point;
 use tsd_base::tags::Tags;
+use tsd_base::text_parts::{TextParts, parts_of};
 use tsd_hooks::UidRule;
 use uid_table::Uids;
 
@@ -129,7 +130,7 @@ impl Gathered {
         ensures adds { IfOk result (λ outcome. AddsText (so_far (R.seen store.old) self.old) (judged_point (point_of text.now)) outcome (so_far (R.seen store.new) self.new)) }
         ensures stops { CountsStops is_stop result (R.stops store.old) (R.stops store.new) }
     {
-        let hash = parts.hash();
+        let hash = hash_parts(parts);
         match self.add_known(hash, parts) {
             Ok(true) => Ok(LineOutcome::Taken),
             Ok(false) => self.add_read(alloc, store, rule, text, text_of(alloc, parts), hash),

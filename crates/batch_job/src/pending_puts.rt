@@ -6,12 +6,13 @@ ghost use Rattle.tsd_base.specs.Moments.{IsTime};
 ghost use Rattle.tsd_base.specs.Points.{data_point};
 ghost use Rattle.uid_table.specs.PlacedPoints.{IsPlaced};
 ghost use Rattle.point_put.specs.TextPuts.{point_at};
+ghost use Rattle.batch_job.specs.NotedIds.{names_in};
 ghost use Rattle.batch_job.specs.OpenRules.{AllowsAll};
 ghost use Rattle.batch_job.specs.PendingPuts.{Adds, AreResolved, AreTimes, MayPut, PutsAll, points_in};
 ghost use Rattle.batch_job.specs.PendingSeries.{all_values};
 ghost use Rattle.batch_job.specs.Storing.{IsAlone};
 
-use crate::last_values::settled;
+use crate::last_values::{is_rising, put_in_order};
 use crate::pending_series::PendingSeries;
 use crate::series_values::Values;
 use cell_model::Rows;
@@ -53,7 +54,7 @@ pub fn put_all<R: Rows + Drop>(
     Ok(())
 }
 
-/// Puts the points of one series in one form: the first one by the ids of its names, and the others in its rows.
+/// Puts the points of one series in one form: at each time the last value. Values that came in order of time are taken as they are.
 fn put_series<R: Rows + Drop>(
     alloc: Global,
     store: &mut Uids<R>,
@@ -68,10 +69,32 @@ fn put_series<R: Rows + Drop>(
     ensures puts { OnOk result (PutsAll (R.seen store.old) ((((metric, tags), fine), values.now) ∷ []) (R.seen store.new)) }
     ensures stops { CountsStops is_stop result (R.stops store.old) (R.stops store.new) }
 {
-    let Ok(dots) = settled(alloc, values) else {
+    if is_rising(values.list()) {
+        return put_dots(alloc, store, rule, metric, tags, fine, values.list());
+    }
+    let Ok(dots) = put_in_order(alloc, values.list()) else {
         return Err(RowsFault::OutOfMemory);
     };
-    let Some((first, others)) = dots.list().split_first() else {
+    put_dots(alloc, store, rule, metric, tags, fine, dots.list())
+}
+
+/// Puts these points of one series in one form: the first one by the ids of its names, and the others in its rows.
+fn put_dots<R: Rows + Drop>(
+    alloc: Global,
+    store: &mut Uids<R>,
+    rule: &UidRule,
+    metric: Name,
+    tags: Tags,
+    fine: bool,
+    dots: &[(u64, i64)],
+) -> Result<(), RowsFault>
+    requires allows { AllowsAll rule.now.patterns }
+    requires times { AreTimes fine dots.now }
+    requires resolved { AreResolved (R.seen store.old) (names_in metric tags) }
+    ensures adds { OnOk result (Adds (R.seen store.old) (points_in metric tags fine dots.now) (R.seen store.new)) }
+    ensures stops { CountsStops is_stop result (R.stops store.old) (R.stops store.new) }
+{
+    let Some((first, others)) = dots.split_first() else {
         return Ok(());
     };
     let point = Point {

@@ -4,8 +4,8 @@ ghost use Rattle.batch_job.specs.PendingSeries.{IsOneOf, pushed_if};
 
 use crate::series_text::SeriesText;
 use crate::series_values::Values;
-use crate::text_parts::TextParts;
 use std::alloc::{AllocError, Global};
+use tsd_base::text_parts::TextParts;
 
 /// The values of a series, and the text by which it came last.
 #[derive(Drop)]

@@ -1,10 +1,12 @@
 //! The text by which a series came.
 ghost use Rattle.std.specs.Prelude.{◌≡◌, true, IfOk, IfSome};
-ghost use Rattle.batch_job.specs.TextParts.{IsTextOf};
+ghost use Rattle.batch_job.specs.SeriesTexts.{IsTextOf};
 
-use crate::text_parts::TextParts;
+use guess_table::hash_bytes;
+use short_bytes::same_bytes::is_same;
 use short_bytes::short::Bytes;
 use std::alloc::{AllocError, Global};
+use tsd_base::text_parts::TextParts;
 
 /// What tells a series in the text of its points: the metric, what stands behind the value, and the form of the time.
 #[derive(Drop)]
@@ -32,8 +34,8 @@ impl SeriesText {
         ensures { result ≡ true → IsTextOf parts.now self.now }
     {
         self.fine == parts.fine
-            && self.tags.list() == parts.tags
-            && self.metric.list() == parts.metric
+            && is_same(self.tags.list(), parts.tags)
+            && is_same(self.metric.list(), parts.metric)
     }
 }
 
@@ -45,4 +47,11 @@ pub fn text_of(alloc: Global, parts: &TextParts<'_>) -> Option<SeriesText>
         Ok(text) => Some(text),
         Err(AllocError) => None,
     }
+}
+
+/// A hash of what tells the series in the parts of a text.
+#[inline]
+pub fn hash_parts(parts: &TextParts<'_>) -> u64 {
+    let hash = hash_bytes(parts.metric).rotate_left(23) ^ hash_bytes(parts.tags);
+    if parts.fine { !hash } else { hash }
 }

@@ -79,7 +79,7 @@ pub trait Body {
         ensures err { OnErr result (content self.new ≡ content self.old) }
         ensures covers { covers self.new ≡ covers self.old };
 
-    /// Removes each cell that is named and has a version not above the one named, and answers how many. It takes no memory.
+    /// Removes each cell that is named and has a version not above the one named, and answers how many. It needs no memory.
     fn drop_cells(&mut self, row: &Row, which: &Drops) -> u64
         requires covered { IsTrue (covers self.old row.now) }
         requires no_counter { row.now ≢ counter_row }

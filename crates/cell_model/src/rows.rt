@@ -130,7 +130,7 @@ pub trait Rows {
         ensures stopped { IfErr result (RoseIfStopped (stops self.old) (stops self.new)) }
         ensures spare { OnOk result (2 ≤ spare self.new) };
 
-    /// Removes each cell that is named and has a version not above the one named, and answers how many. It takes no memory.
+    /// Removes each cell that is named and has a version not above the one named, and answers how many. It needs no memory.
     ///
     /// It is known to be allowed where, for each that is named, a cell of the row strictly above it was seen.
     fn drop_cells(&mut self, row: Row, which: Drops) -> Result<u64, Stopped>

@@ -1,6 +1,6 @@
 -- Names and rows are read back of places.
 use Rattle.std.proofs.Common.{◌≡◌, ℕ, zero, suc, ◌+◌, ◌/◌, ◌≤◌, ◌<◌, List, [], ◌∷◌, ◌++◌, length, take, drop, refl, sym, ap, subst, ◌∙◌, arith, append_assoc}
-use Rattle.std.specs.Prelude.{◌≢◌, Option, Some, None, MatchOption, IfSome, slice_get, slice_index_or}
+use Rattle.std.specs.Prelude.{Option, Some, None, IfSome, slice_get, slice_index_or}
 use denote.Ref.{Bor}
 use Rattle.std.specs.Option.{option_map}
 use Rattle.std.proofs.Math.Seq.{take-append_seam, drop-append_seam, take-length}
@@ -149,7 +149,7 @@ behind_next pairs i p bytes rest middle new lt e b r m =
     ∙ ap (λ (xs : List ℕ). xs ++ new) (sym (told_more pairs i p lt e)) ∙ ap (λ (k : ℕ). told_tags (take k pairs) ++ new) (sym next)
 
 -- a name is left behind
-pub behind_first : (bytes name rest part : List ℕ) (len : ℕ) (r : Option (Bor (List ℕ))) → bytes ≡ len ∷ rest → len ≡ length part → part ≡ name → MatchOption r ((more : List ℕ) → rest ≢ part ++ more) (λ x. rest ≡ part ++ x.now)
+pub behind_first : (bytes name rest part : List ℕ) (len : ℕ) (r : Option (Bor (List ℕ))) → bytes ≡ len ∷ rest → len ≡ length part → part ≡ name → IfSome r (λ x. rest ≡ part ++ x.now)
     → IfSome r (λ x. bytes ≡ told name ++ x.now)
 behind_first bytes name rest part len None b l p m = tt
 behind_first bytes name rest part len (Some x) b l p m = b ∙ (λ i. l i ∷ m i) ∙ (λ i. told (p i) ++ x.now)

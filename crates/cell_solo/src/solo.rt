@@ -147,6 +147,7 @@ fn point_len(row: &Row, value: &Bytes) -> usize
 }
 
 /// Puts a cell at the place of the next step, once there is room for that step and for `len` bytes of it.
+#[inline(always)]
 fn put_next<B: Body>(
     body: &mut B,
     turns: &mut Turns,

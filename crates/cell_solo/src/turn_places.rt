@@ -8,6 +8,7 @@ use crate::turn_bytes::{write, write_names};
 use cell_model::row::Row;
 use guess_table::{Guesses, Round, hash_bytes};
 use row_key::{HOUR_MILLIS, Table};
+use short_bytes::same_bytes::{after_part, before_part};
 use std::alloc::{AllocError, Global};
 use std::marker::Model;
 use tsd_base::names::Name;
@@ -202,7 +203,7 @@ fn is_at(place: &Place, block: &[u8], point: &Point, row: &Row) -> bool
 fn is_told(bytes: &[u8], point: &Point, row: &Row) -> bool
     ensures { IsTrue result → bytes.now ≡ told_names point.now.metric point.now.tags ++ row.now.bytes }
 {
-    let Some(names) = bytes.strip_suffix(row.bytes.list()) else {
+    let Some(names) = before_part(bytes, row.bytes.list()) else {
         return false;
     };
     let Some(behind_metric) = after_name(names, &point.metric) else {
@@ -227,7 +228,7 @@ fn after_tags<'a>(bytes: &'a [u8], pairs: &[(Name, Name)]) -> Option<&'a [u8]>
 }
 
 /// What stands behind this name, where the bytes begin with it and its length.
-#[inline]
+#[inline(always)]
 fn after_name<'a>(bytes: &'a [u8], name: &Name) -> Option<&'a [u8]>
     ensures { IfSome result (λ rest. bytes.now ≡ told name.now ++ rest.now) }
 {
@@ -236,5 +237,5 @@ fn after_name<'a>(bytes: &'a [u8], name: &Name) -> Option<&'a [u8]>
     if *len as usize != name.len() {
         return None;
     }
-    rest.strip_prefix(name)
+    after_part(rest, name)
 }

@@ -13,7 +13,7 @@ use cell_model::row::{Cells, Row};
 use cell_model::rows::Rows;
 use std::alloc::Global;
 
-/// Writes the merged cell of a row, and then drops the others. Behind the write it takes no memory.
+/// Writes the merged cell of a row, and then drops the others. Behind the write it needs no memory.
 fn write<R: Rows>(
     alloc: Global,
     rows: &mut R,

@@ -283,14 +283,13 @@ impl MixedCells {
         self.heads[i] = Head { version, ..head };
     }
 
-    /// Takes the cell at `i` out.
-    #[tactic(auto, using(crate::proofs::Spans::removed_kept, crate::proofs::Spans::removed_cells))]
+    /// Takes the cell at `i` out. Memory that few cells are left in is given back, if there is memory for a smaller block.
     pub fn remove(&mut self, i: usize)
         requires { i < length self.old }
         ensures { self.new ≡ without self.old i }
     {
-        let head = self.heads.remove(i);
-        self.waste = wasted(self.waste, spread(&self.longs, head));
+        self.take_out(i);
+        self.shrink();
     }
 
     /// The same cells once more.
@@ -327,6 +326,33 @@ impl MixedCells {
             *self = made;
         }
         Ok(())
+    }
+
+    // Rebuilds the block where few of its heads or less than half of its bytes are left, if there is memory. Since its last
+    // rebuild the cells fell to less than half by then, or their bytes did.
+    fn shrink(&mut self)
+        ensures { self.new ≡ self.old }
+    {
+        if self.is_loose() {
+            if let Ok(made) = self.rebuilt(self.alloc) {
+                *self = made;
+            }
+        }
+    }
+
+    // Whether the heads have room for 16, and 16 times as many as there are, or most bytes are waste.
+    fn is_loose(&self) -> bool {
+        let room = self.heads.capacity();
+        room >= 16 && room / 16 >= self.heads.len() || self.waste > self.bytes.len() / 2
+    }
+
+    #[tactic(auto, using(crate::proofs::Spans::removed_kept, crate::proofs::Spans::removed_cells))]
+    fn take_out(&mut self, i: usize)
+        requires { i < length self.old }
+        ensures { self.new ≡ without self.old i }
+    {
+        let head = self.heads.remove(i);
+        self.waste = wasted(self.waste, spread(&self.longs, head));
     }
 
     #[tactic(auto, using(crate::proofs::Spans::put_kept, crate::proofs::Spans::put_cells, crate::proofs::Spans::headless_kept, crate::proofs::Spans::headless_cells, crate::proofs::Spans::failed_kept, crate::proofs::Spans::failed_cells))]

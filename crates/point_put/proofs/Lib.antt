@@ -1,7 +1,6 @@
 mod Asking
 mod Keying
 mod Layouts
-mod LineTexts
 mod Outcomes
 mod PlacedPuts
 mod Tagging

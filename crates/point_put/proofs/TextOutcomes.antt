@@ -1,7 +1,10 @@
 -- What the put of a text says.
 use Rattle.std.proofs.Common.{◌≡◌, ℕ, Bool, ℤ, List, [], Result, Ok, sym, ap, subst, ◌∙◌, arith}
 use Rattle.tsd_base.specs.Points.{DataPoint, data_point, point_of}
+use Rattle.tsd_base.specs.declared.text_parts.TextParts.{TextParts}
 use Rattle.tsd_base.specs.Names.{name_of}
+use Rattle.tsd_base.specs.TextParts.{HasTextParts, tags_read}
+use Rattle.tsd_base.proofs.TextReads.{ok_same, text_reads, series_reads}
 use Rattle.cell_model.specs.declared.answers.Stored.{Stored}
 use Rattle.cell_model.specs.Seen.{Seen}
 use Rattle.cell_laws.proofs.CallerLemmas.{nothing_made}
@@ -9,23 +12,21 @@ use Rattle.uid_table.specs.declared.known_series.KnownSeries.{KnownSeries}
 use Rattle.uid_table.specs.declared.placed_point.PlacedPoint.{PlacedPoint}
 use Rattle.uid_table.specs.IdSteps.{MadeSo}
 use Rattle.uid_table.specs.PlacedPoints.{IsPlaced}
-use Rattle.uid_table.specs.KnownSeries.{IsShownSeries, tags_read}
+use Rattle.uid_table.specs.KnownSeries.{IsShownSeries}
 use Rattle.point_put.specs.declared.fault.PutFault.{PutFault}
-use Rattle.point_put.specs.declared.text_put.Line.{Line}
 use Rattle.point_put.specs.Admissions.{Admission}
 use Rattle.point_put.specs.PutPoint.{PutSays}
 use Rattle.point_put.specs.StoredTexts.{place_of}
-use Rattle.point_put.specs.TextPuts.{IsFewFor, IsLine, ReadAndPut, point_at}
-use Rattle.point_put.proofs.LineTexts.{ok_same, text_reads, series_reads}
+use Rattle.point_put.specs.TextPuts.{IsFewFor, ReadAndPut, point_at}
 
 -- the text of a series that is known reads as its point at the time and with the value of the text
-pub known_reads : (text : List ℕ) (line : Line) (s : Seen) (k : KnownSeries) → IsLine text line → k.metric ≡ line.metric.now → k.tags ≡ line.tags.now → IsShownSeries s k
+pub known_reads : (text : List ℕ) (line : TextParts) (s : Seen) (k : KnownSeries) → HasTextParts text line → k.metric ≡ line.metric.now → k.tags ≡ line.tags.now → IsShownSeries s k
     → point_of text ≡ Ok (point_at (data_point k.placed.point) line.time line.fine line.value)
 known_reads text line s k l m t h =
     text_reads text line k.placed.point.metric k.placed.point.tags l (record { name_is = ap name_of (sym m) ∙ h.reads.name_is; tags_are = ap tags_read (sym t) ∙ h.reads.tags_are })
 
 -- the put of such a text
-pub known_put : (c : Admission) (text : List ℕ) (line : Line) (old mid new : Seen) (k : KnownSeries) (r : Result Stored PutFault) → new ≡ mid → IsLine text line → k.metric ≡ line.metric.now → k.tags ≡ line.tags.now → IsShownSeries old k
+pub known_put : (c : Admission) (text : List ℕ) (line : TextParts) (old mid new : Seen) (k : KnownSeries) (r : Result Stored PutFault) → new ≡ mid → HasTextParts text line → k.metric ≡ line.metric.now → k.tags ≡ line.tags.now → IsShownSeries old k
     → PutSays c (point_at (data_point k.placed.point) line.time line.fine line.value) old r mid → ReadAndPut c text old r new
 known_put c text line old mid new k r same l m t h says = subst (λ s. ReadAndPut c text old r s) (sym same) (_, known_reads text line old k l m t h, says)
 
@@ -40,9 +41,9 @@ stays_known s t k j m g name pairs is h = record {
 }
 
 -- a series that is to be known
-pub knows : (s : Seen) (text : List ℕ) (line : Line) (p : PlacedPoint) (k : KnownSeries) → IsLine text line → point_of text ≡ Ok (data_point p.point) → IsPlaced s p → k.metric ≡ line.metric.now → k.tags ≡ line.tags.now → k.placed ≡ p → IsShownSeries s k
+pub knows : (s : Seen) (text : List ℕ) (line : TextParts) (p : PlacedPoint) (k : KnownSeries) → HasTextParts text line → point_of text ≡ Ok (data_point p.point) → IsPlaced s p → k.metric ≡ line.metric.now → k.tags ≡ line.tags.now → k.placed ≡ p → IsShownSeries s k
 knows s text line p k l e is m t same =
-    let r = series_reads text line (data_point p.point) l e in record {
+    let r = (series_reads text line (data_point p.point) l e).0 in record {
       reads = record {
         name_is = ap name_of m ∙ r.name_is ∙ ap (λ (q : PlacedPoint). Ok q.point.metric) (sym same);
         tags_are = ap tags_read t ∙ r.tags_are ∙ ap (λ (q : PlacedPoint). Ok q.point.tags) (sym same);

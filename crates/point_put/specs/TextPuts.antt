@@ -1,10 +1,6 @@
 -- What the put of a text is answered.
-use Rattle.std.specs.Prelude.{◌≡◌, ℕ, ◌+◌, ◌*◌, ◌≤◌, Bool, false, ℤ, List, [], ◌∷◌, length, Result, Ok, Err}
+use Rattle.std.specs.Prelude.{◌≡◌, ℕ, ◌+◌, ◌*◌, ◌≤◌, Bool, false, ℤ, List, [], length, Result, Ok, Err}
 use Rattle.tsd_base.specs.Points.{DataPoint, FailsPoint, point_of}
-use Rattle.tsd_base.specs.Moments.{IsTime}
-use Rattle.tsd_base.specs.Times.{time_of}
-use Rattle.tsd_base.specs.Values.{value_of}
-use Rattle.tsd_base.specs.Words.{words_of}
 use Rattle.cell_model.specs.declared.answers.Stored.{Stored}
 use Rattle.cell_model.specs.declared.events.Placed.{Placed}
 use Rattle.cell_model.specs.Seen.{Seen}
@@ -13,7 +9,6 @@ use Rattle.point_put.specs.declared.fault.PutFault.{PutFault}
 use Rattle.point_put.specs.declared.fault.TextFault.{TextFault}
 use Rattle.point_put.specs.declared.fault.TextFault.TheVariants.{Unread, Unput}
 use Rattle.point_put.specs.declared.stored_text.StoredText.{StoredText}
-use Rattle.point_put.specs.declared.text_put.Line.{Line}
 use Rattle.point_put.specs.Admissions.{Admission}
 use Rattle.point_put.specs.PutFaults.{is_stop}
 use Rattle.point_put.specs.PutPoint.{PutSays}
@@ -38,15 +33,6 @@ IsFewFor point list = length list ≤ 4 * (1 + 2 * length point.tags) + 1
 abbrev pub is_text_stop : TextFault → Bool
 is_text_stop (Unread fault) = false
 is_text_stop (Unput fault) = is_stop fault
-
--- the first three words of the text, of which the second and the third are these, and what stands behind them
-pub record IsLine (text : List ℕ) (line : Line) : Type 0 where
-  pub time_text : List ℕ
-  pub value_text : List ℕ
-  pub words : words_of text ≡ line.metric.now ∷ time_text ∷ value_text ∷ words_of line.tags.now
-  pub time_is : time_of time_text ≡ Ok (line.time, line.fine)
-  pub value_is : value_of value_text ≡ Ok line.value
-  pub timed : IsTime line.time line.fine
 
 -- a point of the same series, at this time with this value
 abbrev pub point_at : DataPoint → ℕ → Bool → ℤ → DataPoint

@@ -1,13 +1,14 @@
 //! Putting a point by its text.
 ghost use Rattle.std.specs.Prelude.{◌≡◌, ◌≤◌, length, IfOk, IfSome, Ok as Reads};
 ghost use Rattle.tsd_base.specs.Points.{DataPoint, data_point, point_of};
+ghost use Rattle.tsd_base.specs.TextParts.{HasTextParts};
 ghost use Rattle.cell_model.specs.Calls.{Leaves};
 ghost use Rattle.uid_table.specs.IdSteps.{MadeSo};
 ghost use Rattle.uid_table.specs.KnownSeries.{IsShownSeries};
 ghost use Rattle.uid_table.specs.PlacedPoints.{IsPlaced};
 ghost use Rattle.point_put.specs.Admissions.{Admission, admission};
 ghost use Rattle.point_put.specs.StoredTexts.{MayBeKept};
-ghost use Rattle.point_put.specs.TextPuts.{IsFewFor, IsLine, TextSays, is_text_stop};
+ghost use Rattle.point_put.specs.TextPuts.{IsFewFor, TextSays, is_text_stop};
 
 use crate::config::Config;
 use crate::fault::TextFault;
@@ -19,23 +20,11 @@ use cell_model::rows::Rows;
 use qual_codec::Bytes;
 use std::alloc::{AllocError, Global};
 use tsd_base::point_text::read_point;
-use tsd_base::times::read_time;
-use tsd_base::values::read_value;
-use tsd_base::words::next_word;
+use tsd_base::text_parts::{TextParts, parts_of};
 use tsd_hooks::UidRule;
 use uid_table::known_series::{KnownSeries, hash_texts};
 use uid_table::placed_point::PlacedPoint;
 use uid_table::uids::Uids;
-
-/// The parts of a text whose second word is a time and whose third is a value.
-#[derive(Clone, Copy)]
-struct Line<'a> {
-    pub metric: &'a [u8],
-    pub tags: &'a [u8],
-    pub time: u64,
-    pub fine: bool,
-    pub value: i64,
-}
 
 /// Puts the point of a text, and answers its row: exactly what reading the point and putting it gives, with the first fault.
 ///
@@ -55,52 +44,30 @@ pub fn put_text<R: Rows + Drop>(
     ensures few { (point : DataPoint) → point_of text.now ≡ Reads point → MadeSo (R.seen names.old) (IsFewFor point) (R.seen names.new) }
     ensures leaves { Leaves is_text_stop result (R.seen names.new) (R.stops names.old) (R.stops names.new) }
 {
-    match line_of(text) {
-        Some(line) => put_line(alloc, names, rule, config, text, &line),
+    match parts_of(text) {
+        Some(parts) => put_parts(alloc, names, rule, config, text, &parts),
         None => put_unknown(alloc, names, rule, config, text),
     }
 }
 
-/// The parts of a text, where its second word is a time and its third a value.
-fn line_of(text: &[u8]) -> Option<Line<'_>>
-    ensures { IfSome result (IsLine text.now) }
-{
-    let (metric, rest) = next_word(text)?;
-    let (time, rest) = next_word(rest)?;
-    let (value, tags) = next_word(rest)?;
-    let Ok(moment) = read_time(time) else {
-        return None;
-    };
-    let Ok(value) = read_value(value) else {
-        return None;
-    };
-    Some(Line {
-        metric,
-        tags,
-        time: moment.0,
-        fine: moment.1,
-        value,
-    })
-}
-
 /// Puts the point of a text of these parts.
-fn put_line<R: Rows + Drop>(
+fn put_parts<R: Rows + Drop>(
     alloc: Global,
     names: &mut Uids<R>,
     rule: &UidRule,
     config: &Config,
     text: &[u8],
-    line: &Line<'_>,
+    parts: &TextParts<'_>,
 ) -> Result<StoredText, TextFault>
-    requires line { IsLine text.now line.now }
+    requires parts { HasTextParts text.now parts.now }
     ensures says { TextSays (admission config.now rule.now.patterns) text.now (R.seen names.old) result (R.seen names.new) }
     ensures kept { IfOk result (MayBeKept (R.seen names.new)) }
     ensures few { (point : DataPoint) → point_of text.now ≡ Reads point → MadeSo (R.seen names.old) (IsFewFor point) (R.seen names.new) }
     ensures leaves { Leaves is_text_stop result (R.seen names.new) (R.stops names.old) (R.stops names.new) }
 {
-    match names.take_series(line.metric, line.tags) {
-        Some(series) => put_known(alloc, names, text, line, series),
-        None => put_new(alloc, names, rule, config, text, line),
+    match names.take_series(parts.metric, parts.tags) {
+        Some(series) => put_known(alloc, names, text, parts, series),
+        None => put_new(alloc, names, rule, config, text, parts),
     }
 }
 
@@ -110,13 +77,13 @@ fn put_known<R: Rows + Drop>(
     alloc: Global,
     names: &mut Uids<R>,
     text: &[u8],
-    line: &Line<'_>,
+    parts: &TextParts<'_>,
     series: Box<KnownSeries>,
 ) -> Result<StoredText, TextFault>
-    requires line { IsLine text.now line.now }
+    requires parts { HasTextParts text.now parts.now }
     requires shown { IsShownSeries (R.seen names.old) series.value }
-    requires metric { series.value.metric ≡ line.now.metric.now }
-    requires tags { series.value.tags ≡ line.now.tags.now }
+    requires metric { series.value.metric ≡ parts.now.metric.now }
+    requires tags { series.value.tags ≡ parts.now.tags.now }
     ensures says { (c : Admission) → TextSays c text.now (R.seen names.old) result (R.seen names.new) }
     ensures kept { IfOk result (MayBeKept (R.seen names.new)) }
     ensures few { MadeSo (R.seen names.old) (λ list. length list ≤ 1) (R.seen names.new) }
@@ -127,9 +94,9 @@ fn put_known<R: Rows + Drop>(
         alloc,
         names,
         &mut series.placed,
-        line.time,
-        line.fine,
-        line.value,
+        parts.time,
+        parts.fine,
+        parts.value,
     ) {
         Ok(()) => Ok(StoredText::Known { series }),
         Err(fault) => {
@@ -146,9 +113,9 @@ fn put_new<R: Rows + Drop>(
     rule: &UidRule,
     config: &Config,
     text: &[u8],
-    line: &Line<'_>,
+    parts: &TextParts<'_>,
 ) -> Result<StoredText, TextFault>
-    requires line { IsLine text.now line.now }
+    requires parts { HasTextParts text.now parts.now }
     ensures says { TextSays (admission config.now rule.now.patterns) text.now (R.seen names.old) result (R.seen names.new) }
     ensures kept { IfOk result (MayBeKept (R.seen names.new)) }
     ensures few { (point : DataPoint) → point_of text.now ≡ Reads point → MadeSo (R.seen names.old) (IsFewFor point) (R.seen names.new) }
@@ -160,7 +127,7 @@ fn put_new<R: Rows + Drop>(
     };
     match put_first(alloc, names, rule, config, point) {
         Ok(placed) => Ok(StoredText::New {
-            stored: know(alloc, names, text, line, placed),
+            stored: know(alloc, names, text, parts, placed),
         }),
         Err(fault) => Err(TextFault::Unput { fault }),
     }
@@ -171,10 +138,10 @@ fn know<R: Rows + Drop>(
     alloc: Global,
     names: &mut Uids<R>,
     text: &[u8],
-    line: &Line<'_>,
+    parts: &TextParts<'_>,
     placed: PlacedPoint,
 ) -> Stored
-    requires line { IsLine text.now line.now }
+    requires parts { HasTextParts text.now parts.now }
     requires reads { point_of text.now ≡ Reads (data_point placed.point) }
     requires placed { IsPlaced (R.seen names.old) placed }
     ensures same { names.new ≡ names.old }
@@ -188,7 +155,7 @@ fn know<R: Rows + Drop>(
             base,
         };
     };
-    if let Ok(series) = series_of(alloc, line, placed) {
+    if let Ok(series) = series_of(alloc, parts, placed) {
         names.add_series(alloc, series);
     }
     Stored { row, base }
@@ -197,16 +164,16 @@ fn know<R: Rows + Drop>(
 /// A series by its texts.
 fn series_of(
     alloc: Global,
-    line: &Line<'_>,
+    parts: &TextParts<'_>,
     placed: PlacedPoint,
 ) -> Result<Box<KnownSeries>, AllocError>
-    ensures metric { IfOk result (λ b. b.value.metric ≡ line.now.metric.now) }
-    ensures tags { IfOk result (λ b. b.value.tags ≡ line.now.tags.now) }
+    ensures metric { IfOk result (λ b. b.value.metric ≡ parts.now.metric.now) }
+    ensures tags { IfOk result (λ b. b.value.tags ≡ parts.now.tags.now) }
     ensures placed { IfOk result (λ b. b.value.placed ≡ placed) }
 {
-    let metric = Bytes::of(alloc, line.metric)?;
-    let tags = Bytes::of(alloc, line.tags)?;
-    let hash = hash_texts(line.metric, line.tags);
+    let metric = Bytes::of(alloc, parts.metric)?;
+    let tags = Bytes::of(alloc, parts.tags)?;
+    let hash = hash_texts(parts.metric, parts.tags);
     Ok(Box::new(
         alloc,
         KnownSeries {

@@ -17,7 +17,7 @@ pub struct Hints {
     guesses: Guesses<Hint>,
     last: Place,
     // Which place may be asked for next.
-    trail: Trail<Place>,
+    trail: Trail,
 }
 
 impl Hints {
@@ -39,14 +39,15 @@ impl Hints {
     /// Where the row may be that comes behind the last one.
     #[inline]
     pub fn next(&self) -> Option<Place> {
-        self.trail.guess()
+        let number = self.trail.guess()?;
+        Some(place_of(number))
     }
 
-    /// Remembers where a row was found that wasn't the last one.
+    /// Remembers where a row was found that wasn't the last one, or was put.
     #[inline]
     pub fn came(&mut self, place: Place) {
         self.last = place;
-        self.trail.came(place);
+        self.trail.came(number_of(place));
     }
 
     /// Where a row of this hash may be.
@@ -82,5 +83,19 @@ impl Hints {
     /// Makes more slots where they are few for this many rows, if there is memory.
     pub fn grow(&mut self, rows: usize) {
         self.guesses.grow(rows, Hint { page: 0, row: 0 });
+    }
+}
+
+// The number of a place, and the place of a number. A page has no more than 64 rows.
+#[inline]
+fn number_of(place: Place) -> usize {
+    place.page << 6 | place.row
+}
+
+#[inline]
+fn place_of(number: usize) -> Place {
+    Place {
+        page: number >> 6,
+        row: number & 63,
     }
 }

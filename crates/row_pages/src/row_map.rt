@@ -103,6 +103,7 @@ impl RowPages {
         self.count += 1;
         self.hints.grow(self.count);
         self.hints.keep(hash, place);
+        self.hints.came(place);
         Ok(())
     }
 

@@ -1,3 +1,4 @@
+mod Sameness
 pub mod Words
 pub mod Filled
 pub mod Ends

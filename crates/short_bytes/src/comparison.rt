@@ -15,7 +15,7 @@ impl PartialEq for Bytes {
 
     ghost laws = { laws.partial_equiv_from_equiv nat_list_eq_equiv };
 
-    #[inline]
+    #[inline(always)]
     fn eq(&self, other: &Self) -> bool {
         self.same(other)
     }

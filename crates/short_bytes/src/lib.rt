@@ -4,4 +4,5 @@
 mod blocks;
 pub mod comparison;
 mod fills;
+pub mod same_bytes;
 pub mod short;

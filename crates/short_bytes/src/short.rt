@@ -73,6 +73,34 @@ impl Bytes {
         requires { length bytes.now ≤ 30 }
         ensures { result ≡ bytes.now }
     {
+        match bytes.len() {
+            2 => Bytes::exactly(bytes, 2),
+            4 => Bytes::exactly(bytes, 4),
+            _ => Bytes::filled(bytes),
+        }
+    }
+
+    // Where the length is known as it is compiled, the block is written in place.
+    #[inline(always)]
+    fn exactly(bytes: &[u8], n: usize) -> Bytes
+        requires { (length bytes.now ≡ n) × (n ≤ 30) }
+        ensures { result ≡ bytes.now }
+    {
+        let mut block = [0u8; 30];
+        block[..n].copy_from_slice(&bytes[..n]);
+        Bytes {
+            kept: Kept::Short {
+                len: n as u8,
+                block,
+            },
+        }
+    }
+
+    #[inline]
+    fn filled(bytes: &[u8]) -> Bytes
+        requires { length bytes.now ≤ 30 }
+        ensures { result ≡ bytes.now }
+    {
         let mut block = [0u8; 30];
         fill(&mut block, bytes);
         Bytes {
@@ -151,7 +179,7 @@ impl Bytes {
                 return same_filled(*len, block, *other_len, other_block);
             }
         }
-        self.list() == other.list()
+        self.order_long(other).is_eq()
     }
 }
 

@@ -1,5 +1,5 @@
 //! Reading the command of a line.
-ghost use Rattle.std.specs.Prelude.{◌≡◌, true, is_some, Some as Asks};
+ghost use Rattle.std.specs.Prelude.{◌≡◌, ◌∷◌, true, codes, is_some, IfSome, Some as Asks};
 ghost use Rattle.line_stream.specs.Lines.{whole_line};
 ghost use Rattle.tsd_base.specs.Words.{words_of};
 ghost use Rattle.telnet_put.specs.TelnetCommands.{request_of};
@@ -29,6 +29,24 @@ pub fn read_command(line: &[u8]) -> Command<'_>
 
 /// The command of a text.
 fn read_text(text: &[u8]) -> Command<'_>
+    ensures { request_of result ≡ request_of_words (words_of text.now) }
+{
+    match behind_put(text) {
+        Some(rest) => Command::Put { text: rest },
+        None => read_words(text),
+    }
+}
+
+/// What stands behind `put` and a space, where a text begins with them.
+fn behind_put(text: &[u8]) -> Option<&[u8]>
+    ensures { IfSome result (λ rest. words_of text.now ≡ codes "put" ∷ words_of rest.now) }
+{
+    text.strip_prefix(b"put ".as_slice())
+}
+
+/// The command of a text, by its first word.
+#[inline(never)]
+fn read_words(text: &[u8]) -> Command<'_>
     ensures { request_of result ≡ request_of_words (words_of text.now) }
 {
     let Some((word, rest)) = next_word(text) else {

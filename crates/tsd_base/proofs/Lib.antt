@@ -1,4 +1,5 @@
 mod DotsLemmas
+mod Groups
 mod NamesLemmas
 mod Numerals
 mod Parts
@@ -6,3 +7,4 @@ mod PointLemmas
 mod TagLemmas
 mod TimesLemmas
 pub mod CallerLemmas
+pub mod TextReads

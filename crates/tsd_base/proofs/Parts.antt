@@ -77,8 +77,11 @@ position-Some : (p : ℕ → Bool) (text : List ℕ) (at : ℕ) → Some at ≡ 
 position-Some p text at e = grind (arith, nat_tests)
 
 -- the place of the first element, or else the length
-unwrap_or-position : (p : ℕ → Bool) (text : List ℕ) → unwrap_or (position p text) (length text) ≡ position_or_len p text
-unwrap_or-position p text = let most = prefix_len-le-length (λ b. not (p b)) text in grind (arith, nat_tests)
+pub position_or_whole : (p : ℕ → Bool) (text : List ℕ) → unwrap_or (position p text) (length text) ≡ position_or_len p text
+position_or_whole p text = let most = prefix_len-le-length (λ b. not (p b)) text in grind (arith, nat_tests)
+
+pub position_within : (p : ℕ → Bool) (text : List ℕ) → position_or_len p text ≤ length text
+position_within p text = prefix_len-le-length (λ b. not (p b)) text
 
 -- a text of spaces alone
 pub words_of-none : (text : List ℕ) → None ≡ position is_other text → words_of text ≡ []
@@ -89,11 +92,11 @@ words_of-other : (rest : List ℕ) (b : ℕ) (more : List ℕ) (end : ℕ) → r
 words_of-other rest b more end e other at = rw (at, e) (words_of-first b more other, rw (other, one-add) (omega arith))
 
 -- a word behind what spaces there are, and what stands behind it
-pub words_of-some : (text : List ℕ) (start end : ℕ) → Some start ≡ position is_other text → end ≡ unwrap_or (position is_space (drop start text)) (length (drop start text)) → (words_of text ≡ take end (drop start text) ∷ words_of (drop end (drop start text))) × (0 < end)
+pub words_of-some : (text : List ℕ) (start end : ℕ) → Some start ≡ position is_other text → end ≡ position_or_len is_space (drop start text) → (words_of text ≡ take end (drop start text) ∷ words_of (drop end (drop start text))) × (0 < end)
 words_of-some text start end e f =
     let at = position-Some is_other text start e in
     let other = passes_at_first is_other text 0 (omega arith) in
-    let first = words_of-other (drop start text) (get_or text start 0) (drop (start + 1) text) end (drop_more text start 0 at.1) (not-true _ (rw at.0 other)) (f ∙ unwrap_or-position is_space (drop start text)) in
+    let first = words_of-other (drop start text) (get_or text start 0) (drop (start + 1) text) end (drop_more text start 0 at.1) (not-true _ (rw at.0 other)) f in
     let same : words_of (drop start text) ≡ words_of text = rw at.0 (words_of-leading text) in
     (sym same ∙ first.0, first.1)
 

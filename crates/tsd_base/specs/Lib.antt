@@ -9,6 +9,7 @@ pub mod LastPoints
 pub mod TagList
 pub mod TagOrder
 pub mod Tags
+pub mod TextParts
 pub mod Times
 pub mod Values
 pub mod Words

@@ -10,6 +10,7 @@ pub mod names;
 pub mod point_text;
 pub mod points;
 pub mod tags;
+pub mod text_parts;
 pub mod times;
 pub mod values;
 pub mod words;

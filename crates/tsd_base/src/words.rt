@@ -1,6 +1,13 @@
 //! The words of a line, between spaces.
-ghost use Rattle.std.specs.Prelude.{◌≡◌, ◌<◌, [], ◌∷◌, length, not, position, MatchOption, IfSome};
+ghost use Rattle.std.specs.Prelude.{◌≡◌, ◌<◌, ◌≤◌, [], ◌∷◌, length, map, not, position, MatchOption, IfSome};
+ghost use Rattle.std.specs.List.{position_or_len};
+ghost use Rattle.std.specs.Simd.Lanes.{mask_l};
 ghost use Rattle.tsd_base.specs.Words.{is_space, words_of};
+
+use std::simd::prelude::*;
+
+// How many bytes are searched at a time.
+const LANES: usize = 16;
 
 /// The first word of a text, and what stands behind it.
 #[tactic(auto, using(crate::proofs::Parts::words))]
@@ -10,8 +17,7 @@ pub fn next_word(text: &[u8]) -> Option<(&[u8], &[u8])>
     ensures shorter { IfSome result (λ found. length found.1.now < length text.now) }
 {
     let (_, text) = text.split_at(word_start(text)?);
-    let end = word_end(text).unwrap_or(text.len());
-    Some(text.split_at(end))
+    Some(text.split_at(word_len(text)))
 }
 
 /// The place of the first byte that is no space.
@@ -21,9 +27,43 @@ fn word_start(text: &[u8]) -> Option<usize>
     text.iter().position(|b| *b != b' ')
 }
 
+/// How many bytes stand before the first space.
+#[inline(always)]
+fn word_len(text: &[u8]) -> usize
+    ensures place { result ≡ position_or_len is_space text.now }
+    ensures bound { result ≤ length text.now }
+{
+    let mut at = 0;
+    while LANES <= text.len() - at {
+        let spaces = spaces_of(u8x16::from_slice(&text[at..]));
+        if spaces != 0 {
+            return at + spaces.trailing_zeros() as usize;
+        }
+        at += LANES;
+    }
+    at + short_word_len(&text[at..])
+}
+
+/// The same, byte by byte.
+#[tactic(auto, using(crate::proofs::Parts::position_or_whole, crate::proofs::Parts::position_within))]
+fn short_word_len(text: &[u8]) -> usize
+    ensures place { result ≡ position_or_len is_space text.now }
+    ensures bound { result ≤ length text.now }
+{
+    word_end(text).unwrap_or(text.len())
+}
+
 /// The place of the first space.
 fn word_end(text: &[u8]) -> Option<usize>
     ensures { result ≡ position is_space text.now }
 {
     text.iter().position(|b| *b == b' ')
+}
+
+/// A bit for each byte that is a space.
+#[inline(always)]
+fn spaces_of(bytes: u8x16) -> u64
+    ensures { result ≡ mask_l (map is_space bytes) }
+{
+    bytes.simd_eq(u8x16::splat(b' ')).to_bitmask()
 }

@@ -80,6 +80,9 @@ impl ReplyBuffer {
         ensures cause { HasCause (K.faults sink.old) (K.faults sink.new) result }
         ensures number { K.number sink.new ≡ K.number sink.old }
     {
+        if self.waiting.is_empty() {
+            return Ok(());
+        }
         give_all(sink, self.waiting.as_slice())?;
         self.waiting.clear();
         Ok(())
@@ -90,6 +93,9 @@ impl ReplyBuffer {
         ensures ok { OnOk result (self.new ≡ self.old ++ reply.now) }
         ensures err { OnErr result (self.new ≡ self.old) }
     {
+        if reply.is_empty() {
+            return Ok(());
+        }
         if reply.len() > MOST_WAITING - self.waiting.len() {
             return Err(AllocError);
         }

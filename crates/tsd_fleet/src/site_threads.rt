@@ -14,8 +14,6 @@ use crate::fleet::Fleet;
 use crate::row_compactor::{RowCompactor, compact_rows};
 use crate::site_service::{SiteServed, serve_connections};
 use cell_store::{Gate, Site, SitePass, StepNames};
-use compactor::queue::Queue;
-use crossbeam_channel::Sender;
 use point_put::Config;
 use std::alloc::{AllocError, Global};
 use std::sync::Wait;
@@ -75,75 +73,12 @@ pub(crate) fn serve_site<
         fleet.daemons,
     )?;
     let (mut rows_to, mut compactors) = (rows_to, workers);
-    let served = serve_beside(
+    let served = compact_beside(
         rt,
-        alloc,
-        fleet,
-        site,
-        rule,
-        config,
-        clock,
-        halt,
-        doors,
-        &mut rows_to,
         &mut compactors,
         &|_, compactor: &mut RowCompactor<SitePass<'_, J, G, T>, C>| compact_rows(rt, compactor),
-    )?;
-    rejoin_clocks(clock, compactors);
-    Ok(served)
-}
-
-/// Serves connections on this thread and on those of the workers, and calls a function with each of these, each on a thread of its own.
-fn serve_beside<
-    J: StepNames + ConnTerms + Send + Sync,
-    G: Gate + Drop + Send + Sync,
-    T: Threads + Wait + Sync,
-    C: Clock + Send + Drop,
-    H: Halt,
-    D: Doors,
-    S: Send,
-    F: Fn(usize, &mut S) + Sync,
->(
-    rt: &T,
-    alloc: Global,
-    fleet: &Fleet,
-    site: &Site<J, G>,
-    rule: &UidRule,
-    config: &Config,
-    clock: &mut C,
-    halt: &mut H,
-    doors: &mut D,
-    rows_to: &mut Vec<Sender<Queue>>,
-    compactors: &mut Vec<S>,
-    compact: &F,
-) -> Result<SiteServed, AllocError>
-    requires accepts { AcceptsEach F.Fn compact.now compactors.old.items }
-    requires rows_to { vec_len rows_to.old ≡ fleet.now.daemons }
-    requires daemons { 1 ≤ fleet.now.daemons }
-    requires most_daemons { fleet.now.daemons ≤ 8 }
-    requires most_workers { fleet.now.workers ≤ 16 }
-    requires admission { admission config.now rule.now.patterns ≡ J.admission }
-    requires moments { C.moments clock.old ≡ J.moments }
-    ensures counter { IfOk result (λ s. counter_of_pass s.pass ≡ J.counter) }
-    ensures caller { IfOk result (λ s. IsCaller J.name (view_of_pass s.pass)) }
-    ensures gathered { IfOk result (λ s. Gathered (AllTell D.Inlet.taken) (AllTell D.Outlet.held) J.admission J.moments (seen_of (view_of_pass s.pass)) (numbers_of (seen_of (view_of_pass s.pass)))
-        (D.back doors.old) (D.back doors.new) (C.faults clock.old) (C.faults clock.new) s.ends.items) }
-    ensures counts { IfOk result (λ s. SiteCounts s.end s.links (length s.ends.items) (D.counts doors.old) (D.counts doors.new)) }
-    ensures reason { IfOk result (λ s. HasReason s.end (D.waiting doors.old) (D.waiting doors.new) (H.stops halt.old) (H.stops halt.new) (D.faults doors.old) (D.faults doors.new)) }
-    ensures stops_later { H.stops halt.old ≤ H.stops halt.new }
-    ensures clock_later { C.faults clock.old ≤ C.faults clock.new }
-    ensures doors_later { D.faults doors.old ≤ D.faults doors.new }
-    ensures doors { OnErr result (doors.new ≡ doors.old) }
-    ensures clock { OnErr result (clock.new ≡ clock.old) }
-    ensures halt { OnErr result (halt.new ≡ halt.old) }
-{
-    let (_, served) = thread::join_mut(
-        rt,
-        &mut ||
-            requires { AcceptsEach F.Fn compact.now compactors.now.items }
-        { compact_each(rt, compactors, compact) },
         &mut || -> Result<SiteServed, AllocError>
-            requires { (vec_len rows_to.now ≡ fleet.now.daemons) × (1 ≤ fleet.now.daemons) × (fleet.now.daemons ≤ 8) × (fleet.now.workers ≤ 16)
+            requires { (vec_len rows_to ≡ fleet.now.daemons) × (1 ≤ fleet.now.daemons) × (fleet.now.daemons ≤ 8) × (fleet.now.workers ≤ 16)
                 × (admission config.now rule.now.patterns ≡ J.admission) × (C.moments clock.now ≡ J.moments) }
             ensures counter { IfOk result (λ s. counter_of_pass s.pass ≡ J.counter) }
             ensures caller { IfOk result (λ s. IsCaller J.name (view_of_pass s.pass)) }
@@ -159,9 +94,40 @@ fn serve_beside<
             ensures halt { OnErr result (halt.exit.now ≡ halt.entry.now) }
         {
             serve_connections(
-                rt, alloc, fleet, site, rule, config, clock, halt, doors, rows_to,
+                rt,
+                alloc,
+                fleet,
+                site,
+                rule,
+                config,
+                clock,
+                halt,
+                doors,
+                &mut rows_to,
             )
         },
+    )?;
+    rejoin_clocks(clock, compactors);
+    Ok(served)
+}
+
+/// Calls a function on this thread, and another with each of these, each on a thread of its own.
+fn compact_beside<T: Threads + Sync, S: Send, F: Fn(usize, &mut S) + Sync, E: FnMut() -> A, A>(
+    rt: &T,
+    compactors: &mut Vec<S>,
+    compact: &F,
+    serve: &mut E,
+) -> A
+    requires accepts { AcceptsEach F.Fn compact.now compactors.old.items }
+    requires serves { E.pre serve.old }
+    ensures { E.step serve.old result serve.new }
+{
+    let (_, served) = thread::join_mut(
+        rt,
+        &mut ||
+            requires { AcceptsEach F.Fn compact.now compactors.now.items }
+        { compact_each(rt, compactors, compact) },
+        serve,
     );
     served
 }

@@ -1,25 +1,10 @@
 -- The series that are known by their texts.
-use Rattle.std.specs.Prelude.{◌≡◌, ℕ, List, All, Option, None, IfSome, Result, Ok}
+use Rattle.std.specs.Prelude.{◌≡◌, List, All, Option, None, IfSome}
 use Rattle.std.specs.Global.{Box}
-use Rattle.tsd_base.specs.declared.points.PointFault.{PointFault}
-use Rattle.tsd_base.specs.declared.points.PointFault.TheVariants as fault
-use Rattle.tsd_base.specs.TagList.{Pair}
-use Rattle.tsd_base.specs.Names.{name_of}
-use Rattle.tsd_base.specs.Tags.{tags_of}
-use Rattle.tsd_base.specs.Words.{words_of}
-use Rattle.tsd_base.specs.Points.{◌>>=◌, told_as, pairs_of}
+use Rattle.tsd_base.specs.TextParts.{ReadsSeries}
 use Rattle.cell_model.specs.Seen.{Seen}
 use Rattle.uid_table.specs.declared.known_series.KnownSeries.{KnownSeries}
 use Rattle.uid_table.specs.PlacedPoints.{IsPlaced}
-
--- the tags that a text reads as, or else the first fault
-abbrev pub tags_read : List ℕ → Result (List Pair) PointFault
-tags_read text = pairs_of 1 (words_of text) >>= λ pairs. told_as fault.Tags (tags_of pairs)
-
--- the texts read as this metric and these tags
-pub record ReadsSeries (metric tags : List ℕ) (name : List ℕ) (pairs : List Pair) : Type 0 where
-  pub name_is : name_of metric ≡ Ok name
-  pub tags_are : tags_read tags ≡ Ok pairs
 
 -- the texts read as the series of the point, the row is the point's, and an id of each of its names was seen
 pub record IsShownSeries (s : Seen) (k : KnownSeries) : Type 0 where

@@ -8,6 +8,7 @@ ghost use Rattle.uid_table.specs.KnownSeries.{IsAmong, IsKept, KeepsNone, KeepsS
 use crate::placed_point::PlacedPoint;
 use guess_table::{Trail, hash_bytes};
 use qual_codec::Bytes;
+use short_bytes::same_bytes::is_same;
 use std::alloc::{AllocError, Global};
 use std::marker::Model;
 use std::mem;
@@ -38,7 +39,7 @@ impl KnownSeries {
         ensures metric { IsTrue result → self.now.metric ≡ metric.now }
         ensures tags { IsTrue result → self.now.tags ≡ tags.now }
     {
-        self.tags.list() == tags && self.metric.list() == metric
+        is_same(self.tags.list(), tags) && is_same(self.metric.list(), metric)
     }
 }
 
@@ -55,7 +56,7 @@ pub struct SeriesTable {
     // How many series were added since the slots were made.
     count: usize,
     // Which slot may be asked for next.
-    trail: Trail<usize>,
+    trail: Trail,
 }
 
 impl Model for SeriesTable {

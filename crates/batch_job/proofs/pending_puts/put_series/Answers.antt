@@ -1,42 +1,35 @@
-use Rattle.std.proofs.Common.{◌≡◌, ℕ, ℤ, List, of_z, rules, sym, subst, to_z, w64, ◌∙◌}
-use Rattle.tsd_base.specs.Points.{DataPoint, data_point}
-use Rattle.tsd_base.specs.declared.points.Point.{Point}
-use Rattle.cell_model.specs.Layout.{names_of}
-use Rattle.batch_job.specs.PendingPuts.{Adds, AreResolved, AreTimes, points_in}
-use Rattle.batch_job.proofs.Puts.{still_resolved}
-use Rattle.batch_job.proofs.StoredPoints.{first_and_others, series_put, where_ok}
+use Rattle.std.proofs.Common.{◌≡◌, ◌∙◌, ℕ, ℤ, List, ap, sym, subst}
+use Rattle.lerp_aggregate.specs.Aggregation.{value_at}
+use Rattle.tsd_base.specs.Dots.{IsRising}
+use Rattle.batch_job.specs.LastValues.{last_at}
+use Rattle.batch_job.specs.PendingPuts.{Adds, AreTimes, points_in}
+use Rattle.batch_job.proofs.SettleLemmas.{settled_as_is}
+use Rattle.batch_job.proofs.StoredPoints.{series_put, where_ok}
 use Rattle.batch_job.proofs.ValueLemmas.{settled_all}
 use Rattle.batch_job.proofs.pending_puts.put_series.Goals as goal
 
-pub invariant_of-point : goal.invariant_of-point
-invariant_of-point g c =
-    let all = settled_all c.args.fine c.in-Ok.dots c.args.values.now c.list.ensures.rising c.in-Ok.ensures c.requires.may.times in
-    let times = subst (λ (ds : List (ℕ × ℤ)). AreTimes c.args.fine ds) (sym c.list.ensures.list ∙ c.in-Some.ensures.cases.0) all in
-    record { timed = times.0 }
+pub returns-then-is_rising-clause-puts : goal.returns-then-is_rising-clause-puts
+returns-then-is_rising-clause-puts g c =
+    let values = c.args.values.now in
+    let old = g.R.Rows.seen c.args.store.now in
+    let new = g.R.Rows.seen c.put_dots.new.store in
+    let rising : IsRising values = subst IsRising c.list.ensures (c.is_rising.ensures c.if-is_rising.true) in
+    where_ok c.put_dots.result
+    (λ adds. series_put c.args.metric c.args.tags c.args.fine values values rising (settled_as_is values rising) old new
+    (subst (λ (ds : List (ℕ × ℤ)). Adds old (points_in c.args.metric c.args.tags c.args.fine ds) new) c.list-then-is_rising.ensures adds))
+    c.put_dots.ensures.adds
 
-pub put_others-requires : goal.put_others-requires
-put_others-requires g c =
-    let all = settled_all c.args.fine c.in-Ok.dots c.args.values.now c.list.ensures.rising c.in-Ok.ensures c.requires.may.times in
-    let times = subst (λ (ds : List (ℕ × ℤ)). AreTimes c.args.fine ds) (sym c.list.ensures.list ∙ c.in-Some.ensures.cases.0) all in
-    let new = g.R.Rows.seen c.put_one.new.store in
-    record {
-      times = times.1;
-      placed = c.in_ok-placed.ensures.placed;
-      resolved = subst (λ (p : Point). AreResolved new (names_of (data_point p))) (sym c.in_ok-placed.ensures.point) (still_resolved _ (g.R.Rows.seen c.args.store.now) new _ c.in_ok-placed.ensures.adds c.requires.may.resolved);
-    }
+pub put_dots-requires-2-clause-times : goal.put_dots-requires-2-clause-times
+put_dots-requires-2-clause-times g c =
+    let settled : (time : ℕ) → value_at c.in-Ok.dots time ≡ last_at c.args.values.now time = λ time. c.in-Ok.ensures time ∙ ap (λ values. last_at values time) c.list-2.ensures in
+    subst (λ (ds : List (ℕ × ℤ)). AreTimes c.args.fine ds) (sym c.list-3.ensures.list) (settled_all c.args.fine c.in-Ok.dots c.args.values.now c.list-3.ensures.rising settled c.requires.may.times)
 
 pub returns-clause-puts : goal.returns-clause-puts
 returns-clause-puts g c =
     let old = g.R.Rows.seen c.args.store.now in
-    let mid = g.R.Rows.seen c.put_one.new.store in
-    let new = g.R.Rows.seen c.put_others.new.store in
-    let others = c.in-Some.others.now in
-    let first = c.in-Some.first.now in
-    let value : to_z w64 (of_z w64 first.1) ≡ first.1 = search rules in
-    let is : ◌≡◌ {A = DataPoint} (record { metric = c.args.metric; tags = c.args.tags; time = first.0; fine = c.args.fine; value = to_z w64 (of_z w64 first.1) }) (record { metric = c.args.metric; tags = c.args.tags; time = first.0; fine = c.args.fine; value = first.1 }) =
-    λ i. record { metric = c.args.metric; tags = c.args.tags; time = first.0; fine = c.args.fine; value = value i } in
-    where_ok c.put_others.result
-    (λ adds. series_put c.args.metric c.args.tags c.args.fine c.in-Ok.dots c.args.values.now c.list.ensures.rising c.in-Ok.ensures old new
-    (first_and_others c.args.metric c.args.tags c.args.fine first others c.in-Ok.dots (record { metric = c.args.metric; tags = c.args.tags; time = first.0; fine = c.args.fine; value = to_z w64 (of_z w64 first.1) }) old mid new (sym c.list.ensures.list ∙ c.in-Some.ensures.cases.0) is c.in_ok-placed.ensures.adds
-    (subst (λ (p : Point). Adds mid (points_in p.metric p.tags c.args.fine others) new) c.in_ok-placed.ensures.point adds)))
-    c.put_others.ensures.adds
+    let new = g.R.Rows.seen c.put_dots-2.new.store in
+    let settled : (time : ℕ) → value_at c.in-Ok.dots time ≡ last_at c.args.values.now time = λ time. c.in-Ok.ensures time ∙ ap (λ values. last_at values time) c.list-2.ensures in
+    where_ok c.put_dots-2.result
+    (λ adds. series_put c.args.metric c.args.tags c.args.fine c.in-Ok.dots c.args.values.now c.list-3.ensures.rising settled old new
+    (subst (λ (ds : List (ℕ × ℤ)). Adds old (points_in c.args.metric c.args.tags c.args.fine ds) new) c.list-3.ensures.list adds))
+    c.put_dots-2.ensures.adds

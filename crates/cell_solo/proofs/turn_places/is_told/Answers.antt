@@ -1,8 +1,5 @@
 use Rattle.std.proofs.Common.{◌≡◌, ◌∙◌, ℕ, sym, ap, ◌++◌, List, [], length, eqb-true}
-use Rattle.std.specs.Prelude.{Some}
-use Rattle.std.proofs.lemmas.Bool.Decides.{Decides-eqb}
 use Rattle.std.proofs.lemmas.List.{nil_from_length}
-use Rattle.std.proofs.lemmas.Slice.Eq.{strip_suffix_is}
 use Rattle.tsd_base.specs.TagList.{Pair}
 use Rattle.cell_solo.specs.TurnNames.{told_tags}
 use Rattle.cell_solo.proofs.Placing.{told_apart}
@@ -10,8 +7,7 @@ use Rattle.cell_solo.proofs.turn_places.is_told.Goals as goal
 
 pub returns : goal.returns
 returns c same =
-    let row = strip_suffix_is Decides-eqb c.args.bytes.now c.list.result.now (Some c.in-Some.names) c.in-Some.ensures.cases in
     let none : c.in-Some-after_tags.behind_tags.now ≡ [] = nil_from_length c.in-Some-after_tags.behind_tags.now (eqb-true (length c.in-Some-after_tags.behind_tags.now) 0 (sym c.is_empty.ensures ∙ same)) in
     told_apart c.args.point.now.metric c.args.point.now.tags c.args.row.now.bytes c.args.bytes.now c.in-Some.names.now c.in-Some-after_name.behind_metric.now c.in-Some-after_tags.behind_tags.now
-    (row ∙ ap (λ (xs : List ℕ). c.in-Some.names.now ++ xs) c.list.ensures) c.in-Some-after_name.ensures
+    (c.in-Some.ensures ∙ ap (λ (xs : List ℕ). c.in-Some.names.now ++ xs) c.list.ensures) c.in-Some-after_name.ensures
     (c.in-Some-after_tags.ensures ∙ ap (λ (tags : List Pair). told_tags tags ++ c.in-Some-after_tags.behind_tags.now) c.pairs.ensures.pairs) none

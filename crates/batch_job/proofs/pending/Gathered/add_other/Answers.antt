@@ -1,7 +1,7 @@
 use Rattle.std.proofs.Common.{Bool, subst}
 use Rattle.batch_job.specs.AddedTexts.{AddsKnown}
 use Rattle.batch_job.proofs.AddedPoints.{text_adds}
-use Rattle.batch_job.proofs.TextReads.{known_by}
+use Rattle.batch_job.proofs.SeriesReads.{known_by}
 use Rattle.batch_job.proofs.pending.Gathered.add_other.Goals as goal
 
 pub add_read-requires-clause-known : goal.add_read-requires-clause-known

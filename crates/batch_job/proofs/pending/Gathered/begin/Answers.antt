@@ -3,7 +3,7 @@ use Rattle.std.proofs.lemmas.Int.{to_z-of_z}
 use Rattle.batch_job.specs.AddedTexts.{AddsValue}
 use Rattle.batch_job.specs.PendingSeries.{KeepTexts, all_values}
 use Rattle.batch_job.specs.SeriesValues.{SeriesEntry, values_in}
-use Rattle.batch_job.specs.TextParts.{IsKnownBy}
+use Rattle.batch_job.specs.SeriesTexts.{IsKnownBy}
 use Rattle.batch_job.proofs.HeldSeries.{begun_adds, begun_texts}
 use Rattle.batch_job.proofs.pending.Gathered.begin.Goals as goal
 
