@@ -10,7 +10,7 @@ set -euo pipefail
 . "$(dirname "$0")/driver.sh"
 
 prepare puts 'row_key qual_codec cell_model cell_region' \
-    list_lemmas short_bytes row_key qual_codec packed_cells row_pages tsd_base tsd_io cell_model cell_parts map_body cell_region
+    list_lemmas short_bytes guess_table row_key qual_codec packed_cells row_pages tsd_base tsd_io cell_model cell_parts map_body cell_region
 run puts 0
 ours=$folder/crates/puts_bench/out/puts_bench
 

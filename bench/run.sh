@@ -3,8 +3,8 @@
 #
 #     bench/run.sh PROGRAM [RUNS]
 #
-# PROGRAM is the built `tsd_main`. Each program reads each data set RUNS times (3 if left out), and the fastest run
-# counts. Their outputs have to be equal, byte for byte. All data goes into a temporary folder.
+# PROGRAM is the built `tsd_main`. The programs read each data set by turns, RUNS times (3 if left out), and the fastest
+# run of each counts. Their outputs have to be equal, byte for byte. All data goes into a temporary folder.
 set -euo pipefail
 
 if [ $# -lt 1 ]; then
@@ -27,6 +27,11 @@ sets=("1000 100 2 time zimsum:sys.cpu.user" "1000 1000 2 time zimsum:sys.cpu.use
 
 source "$here/measure.sh"
 
+batch_once() {
+    measure_once plain "$folder/lines" "$folder/plain.json" "$folder/plain" batch 1356998400 "$last" "$query"
+    measure_once tsd "$folder/lines" "$folder/tsd.json" "$program" batch 1356998400 "$last" "$query"
+}
+
 echo '| series | points each | tags | order | query | lines | tsd, lines/s | plain, lines/s | time, tsd / plain | tsd, peak MB | plain, peak MB | memory, tsd / plain |'
 echo '|---|---|---|---|---|---|---|---|---|---|---|---|'
 for set in "${sets[@]}"; do
@@ -37,16 +42,13 @@ for set in "${sets[@]}"; do
     fi
     python3 "$here/generate.py" "$series" "$points" --tags "$tags" "${shuffle[@]}" >"$folder/lines"
     last=$((1356998400 + (points - 1) * 10))
-    measure "$folder/lines" "$folder/plain.json" "$folder/plain" batch 1356998400 "$last" "$query"
-    plain_micros=$micros
-    plain_peak=$peak
-    measure "$folder/lines" "$folder/tsd.json" "$program" batch 1356998400 "$last" "$query"
+    by_turns batch_once
     if ! cmp "$folder/tsd.json" "$folder/plain.json"; then
         echo "$0: the outputs differ at $series series of $points points with $tags tags" >&2
         exit 1
     fi
-    awk -v series="$series" -v points="$points" -v tags="$tags" -v order="$order" -v query="$query" -v ours="$micros" -v theirs="$plain_micros" \
-        -v our_peak="$peak" -v their_peak="$plain_peak" 'BEGIN {
+    awk -v series="$series" -v points="$points" -v tags="$tags" -v order="$order" -v query="$query" -v ours="${micros[tsd]}" \
+        -v theirs="${micros[plain]}" -v our_peak="${peak[tsd]}" -v their_peak="${peak[plain]}" 'BEGIN {
         lines = series * points
         printf "| %d | %d | %d | %s | `%s` | %d | %.0f | %.0f | %.2f | %.1f | %.1f | %.2f |\n", series, points, tags, order, query, lines,
             lines * 1e6 / ours, lines * 1e6 / theirs, ours / theirs,

@@ -1,15 +1,27 @@
 #!/usr/bin/env bash
-# Measures the list of steps of `Solo` (cell_solo) alone: 1,000,000 puts of 1,000 series by turns, of values of one byte, in rows of
-# 19 bytes. It prints nanoseconds a put, of the fastest of three rounds, and then by valgrind the bytes that the list has at most,
-# as a put has of them.
+# Tells how much memory the list of steps of `Solo` (cell_solo) has: 1,000,000 `put` lines of 1,000 series by turns, with values of one
+# byte, go through one session of `tsd stdio`, and of the heap at its peak massif tells what the list took where it grew. It prints the
+# bytes a put, the room that the lists have for growth and the value's byte included, and those of the whole heap.
 #
-#     bench/turns.sh
+#     bench/turns.sh PROGRAM
+#
+# PROGRAM is the built `tsd_main`.
 set -euo pipefail
-. "$(dirname "$0")/driver.sh"
 
-prepare turns 'row_key qual_codec tsd_base cell_model cell_solo' \
-    list_lemmas short_bytes guess_table row_key qual_codec packed_cells tsd_base tsd_io cell_model cell_laws cell_solo
-sed -i 's/^mod turns;/pub mod turns;/' "$folder/crates/cell_solo/src/lib.rt"
-run turns 1
-valgrind --tool=massif --massif-out-file="$folder/massif" "$folder/crates/turns_bench/out/turns_bench" >"$folder/told" 2>"$folder/errors"
-awk -F= '/^mem_heap_B=/ && $2 > most { most = $2 } END { printf "%.1f bytes a put\n", most / 1e6 }' "$folder/massif"
+if [ $# -lt 1 ]; then
+    echo "usage: $0 PROGRAM" >&2
+    exit 1
+fi
+here=$(cd "$(dirname "$0")" && pwd)
+folder=$(mktemp -d)
+trap 'rm -rf "$folder"' EXIT
+
+python3 "$here/generate.py" 1000 1000 | awk '{ $3 = $3 % 100; print "put " $0 }' >"$folder/puts"
+echo exit >>"$folder/puts"
+valgrind --tool=massif --massif-out-file="$folder/massif" "$1" stdio --auto-metric <"$folder/puts" >"$folder/replies" 2>"$folder/errors"
+awk -F= '
+/^mem_heap_B=/ { heap = $2; list = 0 }
+/Turns::make_room|Places::add|Places::reserve/ { if (heap >= most) { split($0, parts, /[: ]+/); for (i in parts) if (parts[i] ~ /^[0-9]+$/ && parts[i] + 0 > 1000) { list += parts[i]; break } } }
+/^heap_tree=(detailed|peak)/ { if (heap > most) most = heap }
+list > 0 { told = list; whole = heap }
+END { printf "%.1f bytes a put in the list of steps, %.1f in all\n", told / 1e6, whole / 1e6 }' "$folder/massif"

@@ -93,6 +93,7 @@ impl Body for Region {
         self.body.claim(alloc, row, qual, value)
     }
 
+    #[inline]
     fn put(
         &mut self,
         alloc: Global,
@@ -110,6 +111,7 @@ impl Body for Region {
         self.body.drop_cells(row, which)
     }
 
+    #[inline]
     fn stamp(&mut self, row: &Row, qual: &Bytes, place: u64) {
         self.body.stamp(row, qual, place);
     }

@@ -3,4 +3,5 @@ mod Openings
 mod Placing
 mod Packing
 mod Sights
+mod RowNames
 pub mod CallerLemmas

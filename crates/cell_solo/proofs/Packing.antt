@@ -1,5 +1,5 @@
 -- What was packed last is unpacked last.
-use Rattle.std.proofs.Common.{◌≡◌, ℕ, zero, suc, ◌+◌, ◌*◌, ◌/◌, ◌%◌, ◌^◌, ◌≤◌, ◌<◌, cond, List, [], ◌∷◌, ◌++◌, length, take, drop, refl, sym, ap, subst, ◌∙◌, arith}
+use Rattle.std.proofs.Common.{◌≡◌, ◌⊎◌, inl, inr, ℕ, zero, suc, ◌+◌, ◌*◌, ◌/◌, ◌%◌, ◌^◌, ◌≤◌, ◌<◌, cond, List, [], ◌∷◌, ◌++◌, length, take, drop, refl, sym, ap, subst, ◌∙◌, arith}
 use Rattle.std.specs.Prelude.{sum_by, count_by, nat_eq, ℤ, All, Some, slice_get}
 use mir.Val.{bits}
 use Rattle.std.specs.Int.{to_be_bytes, from_be_bytes, cast_unsigned, cast_signed}
@@ -28,9 +28,9 @@ use Rattle.cell_solo.specs.declared.turns.Head.TheVariants as head
 use Rattle.cell_solo.specs.declared.turns.Dropped.{Dropped}
 use Rattle.cell_solo.specs.Turns.{Turn}
 use Rattle.cell_solo.specs.declared.turn_bytes.CellLengths.{CellLengths}
-use Rattle.cell_solo.specs.TurnPlaces.{NamedRow, named_row_of, GoesOn}
-use Rattle.cell_solo.specs.PackedTurns.{row_in, qual_in, value_in, number_in, put_at, cell_size, caller_of, step_in, size_of, drops_of, places_of, unpacked, Fills}
-use Rattle.cell_solo.proofs.Placing.{slice_get-append_left}
+use Rattle.cell_solo.specs.TurnPlaces.{NamedRow, named_row_of, HasAlso, IsOnlyOfRow}
+use Rattle.cell_solo.specs.PackedTurns.{row_in, qual_in, value_in, number_in, put_at, cell_size, caller_of, step_in, size_of, drops_of, places_of, unpacked, IsPutAmong, IsOnlyPut, Fills}
+use Rattle.cell_solo.proofs.Placing.{slice_get-append_left, slice_get-push, got_push}
 
 none : {A : Type 0} (xs : List A) → 0 ≡ length xs → xs ≡ []
 none [] e = refl
@@ -48,30 +48,27 @@ pub record HasParts (h : Head) (bytes : List ℕ) (drops : List Dropped) : Type 
 whole : {A : Type 0} (n : ℕ) (xs : List A) → n ≡ length xs → take n xs ≡ xs
 whole n xs e = ap (λ (m : ℕ). take m xs) e ∙ take-length xs
 
-pub unpacked-push : (heads : List Head) (bytes : List ℕ) (drops : List Dropped) (places ps : List NamedRow) (h : Head) (b : List ℕ) (d : List Dropped)
-    → Fills heads bytes drops places → HasParts h b d → unpacked (heads ++ h ∷ []) (bytes ++ b) (drops ++ d) ps ≡ unpacked heads bytes drops ps ++ turn_in ps h b d ∷ []
-unpacked-push [] bytes drops places ps h b d fills parts =
-    let no_bytes : bytes ≡ [] = none bytes fills.bytes_fit in
-    let no_drops : drops ≡ [] = none drops fills.drops_fit in
+pub unpacked-push : (heads : List Head) (bytes : List ℕ) (drops : List Dropped) (places : List NamedRow) (h : Head) (b : List ℕ) (d : List Dropped)
+    → sum_by size_of heads ≡ length bytes → sum_by drops_of heads ≡ length drops → HasParts h b d
+    → unpacked (heads ++ h ∷ []) (bytes ++ b) (drops ++ d) places ≡ unpacked heads bytes drops places ++ turn_in places h b d ∷ []
+unpacked-push [] bytes drops ps h b d bytes_fit drops_fit parts =
+    let no_bytes : bytes ≡ [] = none bytes bytes_fit in
+    let no_drops : drops ≡ [] = none drops drops_fit in
     let own : turn_in ps h (take (size_of h) (bytes ++ b)) (take (drops_of h) (drops ++ d)) ≡ turn_in ps h b d =
     (λ i. turn_in ps h (take (size_of h) (no_bytes i ++ b)) (take (drops_of h) (no_drops i ++ d)))
     ∙ (λ i. turn_in ps h (whole _ b parts.bytes_are i) (whole _ d parts.drops_are i)) in
     ap (λ (t : Turn). t ∷ []) own
-unpacked-push (x ∷ heads) bytes drops places ps h b d fills parts =
-    let bytes_sum : size_of x + sum_by size_of heads ≡ length bytes = sym (sum_by-cons size_of x heads) ∙ fills.bytes_fit in
+unpacked-push (x ∷ heads) bytes drops ps h b d bytes_fit drops_fit parts =
+    let bytes_sum : size_of x + sum_by size_of heads ≡ length bytes = sym (sum_by-cons size_of x heads) ∙ bytes_fit in
     let bytes_in : size_of x ≤ length bytes = omega arith in
-    let drops_sum : drops_of x + sum_by drops_of heads ≡ length drops = sym (sum_by-cons drops_of x heads) ∙ fills.drops_fit in
+    let drops_sum : drops_of x + sum_by drops_of heads ≡ length drops = sym (sum_by-cons drops_of x heads) ∙ drops_fit in
     let drops_in : drops_of x ≤ length drops = omega arith in
-    let rest : Fills heads (drop (size_of x) bytes) (drop (drops_of x) drops) places =
-    record {
-      bytes_fit = omega (arith, length-drop (size_of x) bytes);
-      drops_fit = omega (arith, length-drop (drops_of x) drops);
-      places_there = λ k d lt. fills.places_there (suc k) d (omega (arith, lt));
-    } in
+    let bytes_rest : sum_by size_of heads ≡ length (drop (size_of x) bytes) = omega (arith, length-drop (size_of x) bytes) in
+    let drops_rest : sum_by drops_of heads ≡ length (drop (drops_of x) drops) = omega (arith, length-drop (drops_of x) drops) in
     (λ i. turn_in ps x (take-append-le (size_of x) bytes b bytes_in i) (take-append-le (drops_of x) drops d drops_in i)
     ∷ unpacked (heads ++ h ∷ []) (drop-append-le (size_of x) bytes b bytes_in i) (drop-append-le (drops_of x) drops d drops_in i) ps)
     ∙ ap (λ (ts : List Turn). turn_in ps x (take (size_of x) bytes) (take (drops_of x) drops) ∷ ts)
-    (unpacked-push heads (drop (size_of x) bytes) (drop (drops_of x) drops) places ps h b d rest parts)
+    (unpacked-push heads (drop (size_of x) bytes) (drop (drops_of x) drops) ps h b d bytes_rest drops_rest parts)
 
 -- steps keep their places where more places are put behind
 step-kept : (h : Head) (bytes : List ℕ) (drops : List Dropped) (places more : List NamedRow) → places_of h ≤ length places
@@ -101,23 +98,42 @@ pub record Pushed (heads : List Head) (bytes : List ℕ) (drops : List Dropped) 
   pub fills : Fills heads bytes drops places
   pub list : unpacked heads bytes drops places ≡ was ++ turn ∷ []
 
+-- a put stays among turns, and one that comes behind them is among them
+put_still : (turns : List Turn) (turn : Turn) (p : NamedRow) → IsPutAmong turns p → IsPutAmong (turns ++ turn ∷ []) p
+put_still turns turn p put =
+    let within : put.at < length turns = slice_get_within turns put.at _ put.stands in
+    record { at = put.at; caller = put.caller; point = put.point; qual = put.qual; value = put.value; stands = slice_get-append_left turns (turn ∷ []) put.at within ∙ put.stands; named = put.named }
+
+put_last : (turns : List Turn) (caller : ℕ) (point : DataPoint) (row : Row) (qual value : List ℕ) → IsPutAmong (turns ++ record { caller = caller; step = PutPoint point row qual value } ∷ []) (named_row_of point row)
+put_last turns caller point row qual value = record { at = length turns; caller = caller; point = point; qual = qual; value = value; stands = slice_get-push turns _; named = refl }
+
+-- each place was there, or is that of a put among these turns
+abbrev pub ArePut : List NamedRow → List NamedRow → List Turn → Type 0
+ArePut places places' turns = (k : ℕ) (p : NamedRow) → slice_get places' k ≡ Some p → (slice_get places k ≡ Some p) ⊎ IsPutAmong turns p
+
 pub pushed : (heads : List Head) (bytes : List ℕ) (drops : List Dropped) (places : List NamedRow) (h : Head) (b : List ℕ) (d : List Dropped) (more : List NamedRow) (step : Step)
     (heads' : List Head) (bytes' : List ℕ) (drops' : List Dropped) (places' : List NamedRow)
     → Fills heads bytes drops places → HasParts h b d → places_of h ≤ length places' → step_in h b d places' ≡ step
     → heads' ≡ heads ++ h ∷ [] → bytes' ≡ bytes ++ b → drops' ≡ drops ++ d → places' ≡ places ++ more
+    → ArePut places places' (unpacked heads bytes drops places ++ record { caller = caller_of h; step = step } ∷ [])
     → Pushed heads' bytes' drops' places' (unpacked heads bytes drops places) (record { caller = caller_of h; step = step })
-pushed heads bytes drops places h b d more step heads' bytes' drops' places' fills parts there is eh eb ed ep =
+pushed heads bytes drops places h b d more step heads' bytes' drops' places' fills parts there is eh eb ed ep put =
     let longer : length places ≤ length places' = omega (arith, ap length ep, length-append places more) in
     let all : All (λ (x : Head). places_of x ≤ length places') heads = λ k x lt. (let le = fills.places_there k x lt in omega (arith, le, longer)) in
+    let was = unpacked heads bytes drops places in
+    let turn : Turn = record { caller = caller_of h; step = step } in
+    let list : unpacked heads' bytes' drops' places' ≡ was ++ turn ∷ [] =
+    (λ i. unpacked (eh i) (eb i) (ed i) places') ∙ unpacked-push heads bytes drops places' h b d fills.bytes_fit fills.drops_fit parts
+    ∙ ap (λ (ts : List Turn). ts ++ turn_in places' h b d ∷ []) (ap (unpacked heads bytes drops) ep ∙ unpacked-kept heads bytes drops places more fills.places_there)
+    ∙ ap (λ (s : Step). was ++ record { caller = caller_of h; step = s } ∷ []) is in
     record {
       fills = record {
         bytes_fit = ap (sum_by size_of) eh ∙ sum_by_push size_of heads h ∙ (let f = fills.bytes_fit in let p = parts.bytes_are in omega (arith, f, p, length-append bytes b)) ∙ ap length (sym eb);
         drops_fit = ap (sum_by drops_of) eh ∙ sum_by_push drops_of heads h ∙ (let f = fills.drops_fit in let p = parts.drops_are in omega (arith, f, p, length-append drops d)) ∙ ap length (sym ed);
         places_there = subst (All (λ (x : Head). places_of x ≤ length places')) (sym eh) (All-push (λ (x : Head). places_of x ≤ length places') heads h all there);
+        places_put = λ k p s. subst (λ (ts : List Turn). IsPutAmong ts p) (sym list) (elim (put k p s) [ inl old ↦ put_still was turn p (fills.places_put k p old) | inr new ↦ new ]);
       };
-      list = (λ i. unpacked (eh i) (eb i) (ed i) places') ∙ unpacked-push heads bytes drops places places' h b d fills parts
-          ∙ ap (λ (ts : List Turn). ts ++ turn_in places' h b d ∷ []) (ap (unpacked heads bytes drops) ep ∙ unpacked-kept heads bytes drops places more fills.places_there)
-          ∙ ap (λ (s : Step). unpacked heads bytes drops places ++ record { caller = caller_of h; step = s } ∷ []) is;
+      list = list;
     }
 
 -- the same of a step that has no place
@@ -127,7 +143,7 @@ pub pushed_alone : (heads : List Head) (bytes : List ℕ) (drops : List Dropped)
     → heads' ≡ heads ++ h ∷ [] → bytes' ≡ bytes ++ b → drops' ≡ drops ++ d
     → Pushed heads' bytes' drops' places (unpacked heads bytes drops places) (record { caller = caller_of h; step = step })
 pushed_alone heads bytes drops places h b d step heads' bytes' drops' fills parts placeless is eh eb ed =
-    pushed heads bytes drops places h b d [] step heads' bytes' drops' places fills parts (omega (arith, placeless)) is eh eb ed (sym (append-nil places))
+    pushed heads bytes drops places h b d [] step heads' bytes' drops' places fills parts (omega (arith, placeless)) is eh eb ed (sym (append-nil places)) (λ k p s. inl s)
 
 -- nothing is put behind
 pub same : {A : Type 0} (xs ys : List A) → ys ≡ xs → ys ≡ xs ++ []
@@ -219,15 +235,36 @@ put_back point row value place places shortest e =
     ap (put_at point.fine (point.time % HOUR_MILLIS) value) e
     ∙ (λ i. PutPoint (record { metric = point.metric; tags = point.tags; time = time i; fine = point.fine; value = number_back point.value value shortest i }) row (item_bytes (record { offset = point.time % HOUR_MILLIS; fine = point.fine; len = length value })) value)
 
+-- a place that is there, or comes behind the others, is that of the put
+put_also : (places places' : List NamedRow) (turns : List Turn) (caller : ℕ) (point : DataPoint) (row : Row) (qual value : List ℕ) → HasAlso places (named_row_of point row) places'
+    → ArePut places places' (turns ++ record { caller = caller; step = PutPoint point row qual value } ∷ [])
+put_also places places' turns caller point row qual value (inl same) k p s = inl (subst (λ (ps : List NamedRow). slice_get ps k ≡ Some p) same s)
+put_also places places' turns caller point row qual value (inr more) k p s =
+    elim (got_push places (named_row_of point row) p k (subst (λ (ps : List NamedRow). slice_get ps k ≡ Some p) more s)) [
+      | inl last ↦ inr (subst (IsPutAmong (turns ++ record { caller = caller; step = PutPoint point row qual value } ∷ [])) last (put_last turns caller point row qual value))
+      | inr old ↦ inl old
+    ]
+
+goes_on : (places places' : List NamedRow) (named : NamedRow) → HasAlso places named places' → (more : List NamedRow) × (places' ≡ places ++ more)
+goes_on places places' named (inl e) = ([], same places places' e)
+goes_on places places' named (inr e) = (named ∷ [], e)
+
+-- what was put among the turns is what is known of the places
+pub only_there : (heads : List Head) (bytes : List ℕ) (drops : List Dropped) (places : List NamedRow) (named : NamedRow) → Fills heads bytes drops places → IsOnlyPut (unpacked heads bytes drops places) named
+    → IsOnlyOfRow places named
+only_there heads bytes drops places named fills only = record { each = λ k p s. only.each p (fills.places_put k p s) }
+
 -- what a put of a point makes of packed turns
 pub put_pushed : (heads : List Head) (bytes : List ℕ) (drops : List Dropped) (places : List NamedRow) (caller : ℕ) (point : DataPoint) (row : Row) (value value' : List ℕ) (place : ℕ)
     (heads' : List Head) (bytes' : List ℕ) (places' : List NamedRow)
-    → Fills heads bytes drops places → IsShortest point.value value → value' ≡ value → slice_get places' place ≡ Some (named_row_of point row) → GoesOn places places'
+    → Fills heads bytes drops places → IsShortest point.value value → value' ≡ value → slice_get places' place ≡ Some (named_row_of point row) → HasAlso places (named_row_of point row) places'
     → heads' ≡ heads ++ head.PutPoint caller point.fine (length value') place (point.time % HOUR_MILLIS) ∷ [] → bytes' ≡ bytes ++ value'
     → Pushed heads' bytes' drops places' (unpacked heads bytes drops places) (record { caller = caller; step = point_step point row value })
-put_pushed heads bytes drops places caller point row value value' place heads' bytes' places' fills shortest v stands kept eh eb =
+put_pushed heads bytes drops places caller point row value value' place heads' bytes' places' fills shortest v stands also eh eb =
     let within : place < length places' = slice_get_within places' place (named_row_of point row) stands in
     let there : place + 1 ≤ length places' = omega (arith, within) in
-    pushed heads bytes drops places (head.PutPoint caller point.fine (length value') place (point.time % HOUR_MILLIS)) value' [] kept.0 (point_step point row value)
+    let more = goes_on places places' (named_row_of point row) also in
+    pushed heads bytes drops places (head.PutPoint caller point.fine (length value') place (point.time % HOUR_MILLIS)) value' [] more.0 (point_step point row value)
     heads' bytes' drops places' fills (record { bytes_are = refl; drops_are = refl }) there
-    (ap (λ (bs : List ℕ). put_at point.fine (point.time % HOUR_MILLIS) bs (slice_get places' place)) v ∙ put_back point row value place places' shortest stands) eh eb (same drops drops refl) kept.1
+    (ap (λ (bs : List ℕ). put_at point.fine (point.time % HOUR_MILLIS) bs (slice_get places' place)) v ∙ put_back point row value place places' shortest stands) eh eb (same drops drops refl) more.1
+    (put_also places places' (unpacked heads bytes drops places) caller point row _ value also)

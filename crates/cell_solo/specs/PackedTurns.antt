@@ -13,7 +13,7 @@ use Rattle.cell_solo.specs.declared.turn_bytes.CellLengths.{CellLengths}
 use Rattle.cell_solo.specs.declared.turns.Head.{Head}
 use Rattle.cell_solo.specs.declared.turns.Head.TheVariants as head
 use Rattle.cell_solo.specs.declared.turns.Dropped.{Dropped}
-use Rattle.cell_solo.specs.TurnPlaces.{NamedRow}
+use Rattle.cell_solo.specs.TurnPlaces.{NamedRow, named_row_of}
 use Rattle.cell_solo.specs.Turns.{Turn}
 
 -- whose step it is
@@ -95,11 +95,26 @@ unpacked (h ∷ heads) bytes drops places =
     record { caller = caller_of h; step = step_in h (take (size_of h) bytes) (take (drops_of h) drops) places }
     ∷ unpacked heads (drop (size_of h) bytes) (drop (drops_of h) drops) places
 
--- all that stands beside the heads is that of their steps, and each place of theirs is there
+-- one of the turns puts a point of the place's names and hour into its row
+pub record IsPutAmong (turns : List Turn) (place : NamedRow) : Type 0 where
+  pub at : ℕ
+  pub caller : ℕ
+  pub point : DataPoint
+  pub qual : List ℕ
+  pub value : List ℕ
+  pub stands : slice_get turns at ≡ Some (record { caller = caller; step = PutPoint point place.row qual value })
+  pub named : named_row_of point place.row ≡ place
+
+-- the points that were put into this row have these names and this hour
+pub record IsOnlyPut (turns : List Turn) (named : NamedRow) : Type 0 where
+  pub each : (p : NamedRow) → IsPutAmong turns p → p.row ≡ named.row → p ≡ named
+
+-- all that stands beside the heads is that of their steps, each place of theirs is there, and each place is one of theirs
 pub record Fills (heads : List Head) (bytes : List ℕ) (drops : List Dropped) (places : List NamedRow) : Type 0 where
   pub bytes_fit : sum_by size_of heads ≡ length bytes
   pub drops_fit : sum_by drops_of heads ≡ length drops
   pub places_there : All (λ (h : Head). places_of h ≤ length places) heads
+  pub places_put : (k : ℕ) (p : NamedRow) → slice_get places k ≡ Some p → IsPutAmong (unpacked heads bytes drops places) p
 
 -- what callers see of packed turns: the turns, for how many more there is room, and for how many more bytes
 pub record TurnList : Type 0 where

@@ -29,8 +29,3 @@ behind_name (n ∷ bytes) = drop n bytes
 abbrev pub tags_in : ℕ → List ℕ → List Pair
 tags_in zero bytes = []
 tags_in (suc n) bytes = (first_name bytes, first_name (behind_name bytes)) ∷ tags_in n (behind_name (behind_name bytes))
-
--- what stands behind the first n pairs of names
-abbrev pub behind_tags : ℕ → List ℕ → List ℕ
-behind_tags zero bytes = bytes
-behind_tags (suc n) bytes = behind_tags n (behind_name (behind_name bytes))

@@ -1,5 +1,5 @@
 //! The parts of steps, written behind a block of bytes that has room for them.
-ghost use Rattle.std.specs.Prelude.{◌≡◌, ◌≤◌, ◌<◌, ◌+◌, ◌^◌, ◌++◌, length, take, vec_len, vec_capacity};
+ghost use Rattle.std.specs.Prelude.{◌≡◌, ◌≤◌, ◌<◌, ◌+◌, ◌-◌, ◌^◌, ◌++◌, length, take, vec_len, vec_capacity};
 ghost use Rattle.cell_solo.specs.TurnNames.{told, told_tags, told_names};
 ghost use Rattle.cell_solo.specs.declared.turn_bytes.CellLengths.{CellLengths};
 
@@ -19,6 +19,14 @@ pub struct CellLengths {
     pub value: u32,
 }
 
+/// How many more elements there is room for.
+#[inline]
+pub fn room_of<T>(list: &Vec<T>) -> usize
+    ensures { result ≡ vec_capacity list.now - vec_len list.now }
+{
+    list.capacity() - list.len()
+}
+
 /// Writes these bytes.
 #[inline]
 pub fn write(block: &mut Vec<u8>, part: &[u8])
@@ -31,6 +39,46 @@ pub fn write(block: &mut Vec<u8>, part: &[u8])
         Ok(()) => {}
         Err(_) => unreachable!(),
     }
+}
+
+/// Writes the value of a point, which has 1, 2, 4 or 8 bytes. The length that each copy has is known where it is compiled.
+#[inline(always)]
+pub fn write_value(block: &mut Vec<u8>, value: &[u8])
+    requires { vec_len block.old + length value.now ≤ vec_capacity block.old }
+    ensures items { block.new.items ≡ block.old.items ++ value.now }
+    ensures len { vec_len block.new ≡ vec_len block.old + length value.now }
+    ensures capacity { vec_capacity block.old ≤ vec_capacity block.new }
+{
+    match value.len() {
+        1 => write_exactly(block, value, 1),
+        2 => write_exactly(block, value, 2),
+        4 => write_exactly(block, value, 4),
+        8 => write_exactly(block, value, 8),
+        _ => write_part(block, value),
+    }
+}
+
+/// Writes bytes of which there are this many.
+#[inline(always)]
+fn write_exactly(block: &mut Vec<u8>, part: &[u8], n: usize)
+    requires room { vec_len block.old + length part.now ≤ vec_capacity block.old }
+    requires many { length part.now ≡ n }
+    ensures items { block.new.items ≡ block.old.items ++ part.now }
+    ensures len { vec_len block.new ≡ vec_len block.old + length part.now }
+    ensures capacity { vec_capacity block.old ≤ vec_capacity block.new }
+{
+    write(block, &part[..n]);
+}
+
+/// Writes bytes of whatever length.
+#[inline(never)]
+fn write_part(block: &mut Vec<u8>, part: &[u8])
+    requires { vec_len block.old + length part.now ≤ vec_capacity block.old }
+    ensures items { block.new.items ≡ block.old.items ++ part.now }
+    ensures len { vec_len block.new ≡ vec_len block.old + length part.now }
+    ensures capacity { vec_capacity block.old ≤ vec_capacity block.new }
+{
+    write(block, part);
 }
 
 /// Writes row, qualifier and value, and answers how long they are.

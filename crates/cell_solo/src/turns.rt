@@ -1,14 +1,15 @@
 //! The steps that callers made, packed.
-ghost use Rattle.std.specs.Prelude.{◌≡◌, ◌≤◌, ◌<◌, ◌+◌, ◌%◌, ◌^◌, [], ◌∷◌, ◌++◌, length, count_by, nat_eq, OnOk};
+ghost use Rattle.std.specs.Prelude.{◌≡◌, ◌≤◌, ◌<◌, ◌+◌, ◌%◌, ◌^◌, [], ◌∷◌, ◌++◌, length, count_by, nat_eq, IsTrue, OnOk};
 ghost use Rattle.tsd_base.specs.Points.{data_point};
 ghost use Rattle.cell_model.specs.declared.events.Step.TheVariants.{Open, Read, NextRow, Bump, Claim, PutPoint, PutMerged, DropCells};
 ghost use Rattle.qual_codec.specs.Items.{item_bytes};
 ghost use Rattle.qual_codec.specs.Spelling.{IsShortest};
 ghost use Rattle.cell_solo.specs.declared.turns.Head.{Head};
-ghost use Rattle.cell_solo.specs.PackedTurns.{caller_of};
+ghost use Rattle.cell_solo.specs.PackedTurns.{IsOnlyPut, caller_of};
+ghost use Rattle.cell_solo.specs.TurnPlaces.{named_row_of};
 ghost use Rattle.cell_solo.specs.Turns.{Turn};
 
-use crate::turn_bytes::{CellLengths, write, write_cell};
+use crate::turn_bytes::{CellLengths, room_of, write, write_cell, write_value};
 use crate::turn_places::Places;
 use cell_model::row::{Drops, Row};
 use qual_codec::Bytes;
@@ -126,6 +127,13 @@ impl Model for Turns {
     ghost invariant = { λ t. Fills t.heads.items t.bytes.items t.drops.items t.places.list };
 }
 
+/// For how many more steps room is made where there are so many: a list of heads grows by an eighth, since it is the longest.
+fn room_for(count: usize) -> usize
+    ensures { 9 ≤ result }
+{
+    (count / 8).max(ROOM)
+}
+
 impl Turns {
     /// No steps.
     pub fn make(alloc: Global) -> Turns
@@ -157,6 +165,7 @@ impl Turns {
 
     /// Makes room for 9 more steps, and for this many bytes of the next one. It fails for want of memory, where these are 4 GiB,
     /// or where 9 more places of points would have no number of 32 bits.
+    #[inline]
     pub fn reserve(&mut self, bytes: usize) -> Result<(), AllocError>
         ensures list { self.new.list ≡ self.old.list }
         ensures spare { OnOk result (9 ≤ self.new.spare) }
@@ -166,8 +175,36 @@ impl Turns {
         if bytes > MOST {
             return Err(AllocError);
         }
+        if self.has_room(bytes) {
+            return Ok(());
+        }
+        self.make_room(bytes)
+    }
+
+    /// Whether there is room for 9 more steps, and for this many bytes of the next one.
+    #[inline]
+    fn has_room(&self, bytes: usize) -> bool
+        ensures spare { IsTrue result → 9 ≤ self.now.spare }
+        ensures room { IsTrue result → bytes ≤ self.now.room }
+    {
+        if room_of(&self.heads) < ROOM
+            || room_of(&self.drops) < ROOM
+            || room_of(&self.bytes) < bytes
+        {
+            return false;
+        }
+        self.places.has_room(ROOM, bytes)
+    }
+
+    /// Makes that room.
+    #[inline(never)]
+    fn make_room(&mut self, bytes: usize) -> Result<(), AllocError>
+        ensures list { self.new.list ≡ self.old.list }
+        ensures spare { OnOk result (9 ≤ self.new.spare) }
+        ensures room { OnOk result (bytes ≤ self.new.room) }
+    {
         self.places.reserve(ROOM, bytes)?;
-        self.heads.reserve(ROOM)?;
+        self.heads.reserve_exact(room_for(self.heads.len()))?;
         self.drops.reserve(ROOM)?;
         self.bytes.reserve(bytes)
     }
@@ -243,17 +280,19 @@ impl Turns {
 
     /// Adds a put of a point in its shortest value, whose qualifier is its one item. The room is that of its row and its value,
     /// and [`crate::turn_bytes::MOST_NAMES`] for its names.
+    #[inline]
     pub fn add_point(&mut self, caller: u8, point: &Point, row: &Row, value: &Bytes)
         requires spare { 1 ≤ self.old.spare }
         requires room { 4352 + (length row.now.bytes + length value.now) ≤ self.old.room }
         requires fits { 4352 + (length row.now.bytes + length value.now) < 2 ^ 32 }
         requires shortest { IsShortest point.now.value value.now }
+        requires only { IsOnlyPut self.old.list (named_row_of (data_point point.now) row.now) }
         ensures list { self.new.list ≡ self.old.list ++ record { caller = caller; step = PutPoint (data_point point.now) row.now (item_bytes (record { offset = point.now.time % HOUR_MILLIS; fine = point.now.fine; len = length value.now })) value.now } ∷ [] }
         ensures spare { self.old.spare ≤ self.new.spare + 1 }
     {
         let place = self.places.find_or_add(point, row);
         let bytes = value.list();
-        write(&mut self.bytes, bytes);
+        write_value(&mut self.bytes, bytes);
         self.heads.push_reserved(Head::PutPoint {
             caller,
             fine: point.fine,

@@ -15,11 +15,11 @@ use crate::step_names::StepNames;
 use crate::step_order::{Order, apply, stamp};
 use cell_model::events::Reply;
 use cell_region::Region;
-use crossbeam_utils::CachePadded;
+use crossbeam_utils::{Backoff, CachePadded};
 use row_key::NAME_REGIONS;
 use std::alloc::{AllocError, Global};
 use std::marker::{Brand, Model, PhantomData};
-use std::sync::{Mutex, Wait};
+use std::sync::{Mutex, MutexGuard, Wait};
 use std::vec::IntoIter;
 use step_count::{Entry, Licence, Pass};
 
@@ -152,6 +152,23 @@ fn hand_over(region: Region, own: Licence, pass: &mut Pass, regions: &mut Vec<Re
     regions.push_reserved(region);
 }
 
+// How often a lock is tried before its caller sleeps.
+const TRIES: u32 = 60;
+
+/// Takes the lock, and sleeps only where it was tried in vain for some 20 microseconds. Who holds it mostly gives it back within one, but
+/// where a caller sleeps, a call of the system has to wake it, and all who come meanwhile sleep too. The pauses between the tries grow,
+/// since each try takes the lock's cache line from the holder.
+fn locked<'a, H, T: Wait>(lock: &'a Mutex<H>, rt: &T) -> MutexGuard<'a, H> {
+    let backoff = Backoff::new();
+    for _ in 0..TRIES {
+        if let Some(guard) = lock.try_lock() {
+            return guard;
+        }
+        backoff.spin();
+    }
+    lock.lock(rt)
+}
+
 /// A region behind its lock, on cache lines of its own, so that steps on different regions don't wait for each other.
 #[derive(Drop)]
 pub(crate) struct RegionLock<J: StepNames, const N: u32> {
@@ -190,7 +207,7 @@ impl<J: StepNames, const N: u32> RegionLock<J, N> {
         ensures gate { G.lets_in gate.now N ≡ true }
         ensures run { HasRun J.counter J.name (view_of_pass pass.old) (step_of order.now) result pass.new }
     {
-        let mut guard = self.lock.lock(rt);
+        let mut guard = locked(&self.lock, rt);
         gate.inside(N);
         let held = &mut *guard;
         held.run(gate, alloc, rt, pass, order)

@@ -2,7 +2,7 @@
 ghost use Rattle.std.specs.Prelude.{◌≡◌, [], Contains, IfSome, IsTrue};
 ghost use Rattle.compactor.specs.Queues.{AreAmong, AreAmongOr};
 
-use guess_table::{Guesses, hash_bytes};
+use guess_table::Guesses;
 use qual_codec::Bytes;
 use std::alloc::Global;
 use std::marker::Model;
@@ -36,19 +36,25 @@ impl KnownKeys {
         }
     }
 
-    /// Where the key of this base and these bytes is, where it is found: there where it is thought to be next, or by a hash of the
-    /// bytes.
+    /// The place that is guessed, where the key of this base and these bytes is there.
     #[inline]
-    pub fn find(&self, next: Option<u32>, base: u32, bytes: &Bytes) -> Option<u32>
+    pub fn confirm(&self, guess: Option<u32>, base: u32, bytes: &Bytes) -> Option<u32>
         ensures { IfSome result (λ _. Contains self.now (base, bytes.now)) }
     {
-        match confirm(&self.list, next, base, bytes) {
-            Some(at) => Some(at),
-            None => {
-                let guess = self.guesses.guess(hash_bytes(bytes.list()));
-                confirm(&self.list, guess, base, bytes)
-            }
+        let at = guess?;
+        if is_at(&self.list, at, base, bytes) {
+            Some(at)
+        } else {
+            None
         }
+    }
+
+    /// Where the key of this base and these bytes is, where it is found by this hash of the bytes.
+    #[inline]
+    pub fn find(&self, hash: u64, base: u32, bytes: &Bytes) -> Option<u32>
+        ensures { IfSome result (λ _. Contains self.now (base, bytes.now)) }
+    {
+        self.confirm(self.guesses.guess(hash), base, bytes)
     }
 
     /// Keeps a key whose bytes have this hash. Where there are `most` keys or more, they are forgotten first. Where there is no
@@ -83,19 +89,6 @@ impl KnownKeys {
     {
         self.list.clear();
         self.guesses.clear();
-    }
-}
-
-// The place that is guessed, where its key is of this base and these bytes.
-#[inline]
-fn confirm(list: &[(u32, Bytes)], guess: Option<u32>, base: u32, bytes: &Bytes) -> Option<u32>
-    ensures { IfSome result (λ _. Contains list.now (base, bytes.now)) }
-{
-    let at = guess?;
-    if is_at(list, at, base, bytes) {
-        Some(at)
-    } else {
-        None
     }
 }
 

@@ -57,17 +57,34 @@ impl Queue {
 
     /// Adds the row of a base, and answers true; where the same was there it answers false. It fails only for want of memory, and
     /// then nothing changes. The row is copied only where it isn't known to be there.
+    #[inline]
     pub fn add(&mut self, row: &Row, base: u32) -> Result<bool, AllocError>
         requires { row.now.table ≡ Points }
         ensures ok { IfOk result (λ added. AddMade self.old (stored_as row.now base) added self.new) }
         ensures rising { AreQueued self.new }
         ensures err { OnErr result (self.new ≡ self.old) }
     {
-        if let Some(at) = self.known.find(self.round.guess(), base, &row.bytes) {
+        let next = self.known.confirm(self.round.guess(), base, &row.bytes);
+        if let Some(at) = next {
             self.round.came(at);
             return Ok(false);
         }
+        self.add_other(row, base)
+    }
+
+    /// Adds a row that isn't the one that is guessed.
+    #[inline(never)]
+    fn add_other(&mut self, row: &Row, base: u32) -> Result<bool, AllocError>
+        requires { row.now.table ≡ Points }
+        ensures ok { IfOk result (λ added. AddMade self.old (stored_as row.now base) added self.new) }
+        ensures rising { AreQueued self.new }
+        ensures err { OnErr result (self.new ≡ self.old) }
+    {
         let hash = hash_bytes(row.bytes.list());
+        if let Some(at) = self.known.find(hash, base, &row.bytes) {
+            self.round.came(at);
+            return Ok(false);
+        }
         let key = (base, row.bytes.again(self.alloc)?);
         self.insert(hash, key)
     }

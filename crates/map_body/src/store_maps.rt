@@ -100,6 +100,7 @@ impl MapBody {
     }
 
     // Writes a cell with version 0.
+    #[inline]
     fn put_cell(
         &mut self,
         alloc: Global,
@@ -189,6 +190,7 @@ impl Body for MapBody {
         Ok(Claimed::Done)
     }
 
+    #[inline]
     fn put(
         &mut self,
         alloc: Global,
@@ -204,6 +206,7 @@ impl Body for MapBody {
         rows.drop_cells(&row.bytes, which.list())
     }
 
+    #[inline]
     fn stamp(&mut self, row: &Row, qual: &Bytes, place: u64) {
         let rows = &mut self.tables[number(row.table)];
         rows.stamp(&row.bytes, qual.list(), place);
@@ -251,6 +254,7 @@ fn is_counter_row(table: Table, bytes: &Bytes) -> bool
 }
 
 /// The place of a table among the tables.
+#[inline]
 pub fn number(table: Table) -> usize
     ensures { result ≡ table_number table }
 {

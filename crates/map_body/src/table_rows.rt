@@ -138,6 +138,7 @@ impl TableRows {
     }
 
     /// Writes a cell of a row with version 0, over an older one too.
+    #[inline]
     pub fn put(
         &mut self,
         alloc: Global,
@@ -168,6 +169,7 @@ impl TableRows {
     }
 
     /// Sets the version of a cell, if it is there.
+    #[inline]
     pub fn stamp(&mut self, row: &Bytes, qual: &[u8], version: u64)
         ensures { ChangesRow self.old self.new row.now (stamped (row_in self.old row.now) qual.now version) }
     {
@@ -183,18 +185,20 @@ fn is_below(row: &Bytes, to: &Bytes) -> bool
 }
 
 // Sets the version of a cell, if it is there.
+#[inline]
 fn stamp_in(rows: &mut RowPages, row: &Bytes, qual: &[u8], version: u64)
     ensures rest { ChangesRow rows.old rows.new row.now (stamped (row_in rows.old row.now) qual.now version) }
     ensures none_empty { NoneEmpty rows.old → NoneEmpty rows.new }
     ensures same { count_of rows.new ≡ count_of rows.old }
 {
-    match rows.get_mut(row) {
+    match rows.get_mut_again(row) {
         Some(cells) => cells.stamp(qual, version),
         None => {}
     }
 }
 
 // Writes a cell with version 0, and answers whether there was none of this row and qualifier.
+#[inline]
 fn put_cell(
     rows: &mut RowPages,
     alloc: Global,
@@ -220,6 +224,7 @@ fn put_cell(
 
 // Writes a cell with version 0 among others of its row, and answers whether there was none of this qualifier.
 #[tactic(auto, using(crate::proofs::CellLemmas::len_put))]
+#[inline]
 fn put_more(cells: &mut RowCells, qual: &[u8], value: &[u8]) -> Result<bool, AllocError>
     ensures ok { OnOk result (cells.new ≡ insert cells.old qual.now (value.now, 0)) }
     ensures count { IfOk result (λ added. len cells.new ≡ len cells.old + (if added then 1 else 0)) }
@@ -231,6 +236,7 @@ fn put_more(cells: &mut RowCells, qual: &[u8], value: &[u8]) -> Result<bool, All
 }
 
 // Writes the first cell of a row, with version 0.
+#[inline(never)]
 fn put_first(
     rows: &mut RowPages,
     alloc: Global,

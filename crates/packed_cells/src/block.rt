@@ -1,7 +1,8 @@
 //! Cells in memory of their own, which contracts see as a list.
-ghost use Rattle.std.specs.Prelude.{◌≡◌, ◌≤◌, ◌<◌, [], ◌∷◌, ◌++◌, take, length, IfOk, IfSome, IsOk, OnOk, OnErr, slice_index_or, slice_set, insert};
+ghost use Rattle.std.specs.Prelude.{◌≡◌, ◌⊎◌, ◌≤◌, ◌<◌, [], ◌∷◌, ◌++◌, take, length, IfOk, IfSome, IsOk, IsTrue, OnOk, OnErr, slice_index_or, slice_set, insert, if◌then◌else◌};
 ghost use Rattle.std.specs.List.{remove as without};
 ghost use Rattle.packed_cells.specs.Packed.{stamped_at};
+ghost use Rattle.packed_cells.specs.Seeks.{IsBehindLast, IsLastStamped};
 ghost use Rattle.qual_codec.specs.declared.cells.Cell.{Cell};
 
 use crate::mixed_cells::MixedCells;
@@ -148,6 +149,20 @@ impl Block {
         self.insert_misfit(i, qual, value, version)
     }
 
+    /// Puts a cell behind the last one, where its qualifier is behind that one's, it suits the form of the others and there is room,
+    /// and answers whether it was put.
+    #[inline(always)]
+    pub fn put_behind(&mut self, qual: &[u8], value: &[u8], version: u64) -> bool
+        ensures behind { IsTrue result → IsBehindLast qual.now self.old }
+        ensures cells { self.new ≡ (if result then insert self.old (length self.old) (record { qual = qual.now; value = value.now; version = version }) else self.old) }
+    {
+        match &mut self.form {
+            Form::Narrow(cells) => cells.put_behind(qual, value, version),
+            Form::Wide(cells) => cells.put_behind(qual, value, version),
+            Form::Mixed(_) => false,
+        }
+    }
+
     /// Writes another cell over the one at `i`. It is written in its place where it has the same lengths, which can't fail;
     /// else it fails as [`Block::insert`] does.
     pub fn set(
@@ -183,6 +198,19 @@ impl Block {
             Form::Narrow(cells) => cells.stamp(i, version),
             Form::Wide(cells) => cells.stamp(i, version),
             Form::Mixed(cells) => cells.stamp(i, version),
+        }
+    }
+
+    /// Sets the version of the last cell, if it is seen at once that it has this qualifier, and answers whether it was set.
+    #[inline(always)]
+    pub fn stamp_last(&mut self, qual: &[u8], version: u64) -> bool
+        ensures found { IsTrue result → IsLastStamped qual.now version self.old self.new }
+        ensures other { IsTrue result ⊎ (self.new ≡ self.old) }
+    {
+        match &mut self.form {
+            Form::Narrow(cells) => cells.stamp_last(qual, version),
+            Form::Wide(cells) => cells.stamp_last(qual, version),
+            Form::Mixed(_) => false,
         }
     }
 

@@ -8,3 +8,4 @@ pub mod row_cells;
 pub mod seeks;
 mod small_value;
 mod strip;
+mod two_bytes;

@@ -80,8 +80,22 @@ impl RowCells {
 
     /// Writes the cell of this qualifier, over its older one too. Where that has a value of the same length, this can't
     /// fail; else it fails for want of memory, or where the block, the qualifier or the value has 4 GiB.
-    #[tactic(auto, using(crate::proofs::Order::rises_set, crate::proofs::Order::rises_insert, crate::proofs::Keyed::set_is_put, crate::proofs::Keyed::insert_is_put))]
+    #[inline(always)]
     pub fn put(&mut self, qual: &[u8], value: &[u8], version: u64) -> Result<(), AllocError>
+        ensures ok { OnOk result (self.new ≡ insert self.old qual.now (value.now, version)) }
+        ensures err { OnErr result (self.new ≡ self.old) }
+        ensures in_place { (v : List ℕ) (n : ℕ) → get self.old qual.now ≡ Some (v, n) → length v ≡ length value.now → IsOk result }
+    {
+        if self.cells.put_behind(qual, value, version) {
+            return Ok(());
+        }
+        self.put_among(qual, value, version)
+    }
+
+    // The same as `put`, wherever the cell goes.
+    #[inline(never)]
+    #[tactic(auto, using(crate::proofs::Order::rises_set, crate::proofs::Order::rises_insert, crate::proofs::Keyed::set_is_put, crate::proofs::Keyed::insert_is_put))]
+    fn put_among(&mut self, qual: &[u8], value: &[u8], version: u64) -> Result<(), AllocError>
         ensures ok { OnOk result (self.new ≡ insert self.old qual.now (value.now, version)) }
         ensures err { OnErr result (self.new ≡ self.old) }
         ensures in_place { (v : List ℕ) (n : ℕ) → get self.old qual.now ≡ Some (v, n) → length v ≡ length value.now → IsOk result }
@@ -93,8 +107,20 @@ impl RowCells {
     }
 
     /// Sets the version of this qualifier's cell, if it is there. It takes no memory.
-    #[tactic(auto, using(crate::proofs::Order::rises_stamp, crate::proofs::Keyed::gap_is_stamped))]
+    #[inline]
     pub fn stamp(&mut self, qual: &[u8], version: u64)
+        ensures { self.new ≡ stamped self.old qual.now version }
+    {
+        if self.cells.stamp_last(qual, version) {
+            return;
+        }
+        self.stamp_among(qual, version);
+    }
+
+    // The same as `stamp`, wherever the cell is.
+    #[inline(never)]
+    #[tactic(auto, using(crate::proofs::Order::rises_stamp, crate::proofs::Keyed::gap_is_stamped))]
+    fn stamp_among(&mut self, qual: &[u8], version: u64)
         ensures { self.new ≡ stamped self.old qual.now version }
     {
         if let Ok(i) = seek(&self.cells, qual) {

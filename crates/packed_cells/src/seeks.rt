@@ -4,6 +4,7 @@ ghost use Rattle.list_lemmas.specs.BytesOrder.{bytes_cmp};
 ghost use Rattle.packed_cells.specs.Seeks.{Rises, AllBehind, IsCellAt, IsCellGap};
 
 use crate::block::Block;
+use crate::two_bytes::order_two;
 use std::cmp::Ordering;
 
 /// Where the qualifier's cell is, or where it would go. The last cell is tried first, since most cells come in order.
@@ -35,17 +36,8 @@ fn order(qual: &[u8], other: &[u8]) -> Ordering
     qual.cmp(other)
 }
 
-#[inline]
-fn order_two(two: [u8; 2], others: [u8; 2]) -> Ordering
-    ensures { result ≡ bytes_cmp two others }
-{
-    match two[0].cmp(&others[0]) {
-        Ordering::Equal => two[1].cmp(&others[1]),
-        first => first,
-    }
-}
-
 // The same as `seek`, where the cells from `end` on are behind the qualifier.
+#[inline(never)]
 fn search(cells: &Block, qual: &[u8], end: usize) -> Result<usize, usize>
     requires rises { Rises cells.now }
     requires end { end ≤ length cells.now }

@@ -1,12 +1,14 @@
 //! Cells of one size, one behind the other.
-ghost use Rattle.std.specs.Prelude.{◌≡◌, ◌≤◌, ◌<◌, ◌↔◌, ℕ, true, [], ◌∷◌, length, IfOk, IfSome, IsSome, OnErr, slice_index_or, slice_set, insert, if◌then◌else◌};
+ghost use Rattle.std.specs.Prelude.{◌≡◌, ◌⊎◌, ◌≤◌, ◌<◌, ◌-◌, ◌↔◌, ℕ, true, [], ◌∷◌, length, IfOk, IfSome, IsSome, IsTrue, OnErr, slice_index_or, slice_set, insert, if◌then◌else◌};
 ghost use Rattle.std.specs.List.{remove as without};
 ghost use Rattle.packed_cells.specs.Packed.{stamped_at};
+ghost use Rattle.packed_cells.specs.Seeks.{IsBehindLast, IsCellAt, IsLastStamped};
 ghost use Rattle.packed_cells.specs.Strips.{slot_cell};
 ghost use Rattle.qual_codec.specs.declared.cells.Cell.{Cell};
 
 use crate::room::place;
 use crate::small_value::SmallValue;
+use crate::two_bytes::order_two;
 use std::alloc::{AllocError, Global};
 use std::marker::Model;
 
@@ -119,6 +121,33 @@ impl<V: SmallValue> Strip<V> {
         Ok(true)
     }
 
+    /// Puts a cell behind the last one, where its qualifier is behind that one's, it suits and there is room, and answers whether
+    /// it was put.
+    #[inline(always)]
+    pub fn put_behind(&mut self, qual: &[u8], value: &[u8], version: u64) -> bool
+        ensures behind { IsTrue result → IsBehindLast qual.now self.old }
+        ensures cells { self.new ≡ (if result then insert self.old (length self.old) (record { qual = qual.now; value = value.now; version = version }) else self.old) }
+    {
+        let Some(slot) = slot_of(qual, value, version) else {
+            return false;
+        };
+        if self.slots.len() == self.slots.capacity() || !self.ends_before(slot.qual) {
+            return false;
+        }
+        self.slots.push(slot).is_ok()
+    }
+
+    // Whether there is a last cell, and its qualifier is before this one.
+    #[inline(always)]
+    fn ends_before(&self, two: [u8; 2]) -> bool
+        ensures { IsTrue result → IsBehindLast two self.now }
+    {
+        match self.slots.last() {
+            Some(last) => order_two(two, last.qual).is_gt(),
+            None => false,
+        }
+    }
+
     /// Writes another cell over the one at `i`, and answers whether it suits: one that doesn't isn't written.
     pub fn set(&mut self, i: usize, qual: &[u8], value: &[u8], version: u64) -> bool
         requires { i < length self.old }
@@ -148,6 +177,34 @@ impl<V: SmallValue> Strip<V> {
             version: version.to_le_bytes(),
             ..slot
         };
+    }
+
+    /// Sets the version of the last cell, if it has this qualifier, and answers whether it has.
+    #[inline(always)]
+    pub fn stamp_last(&mut self, qual: &[u8], version: u64) -> bool
+        ensures found { IsTrue result → IsLastStamped qual.now version self.old self.new }
+        ensures other { IsTrue result ⊎ (self.new ≡ self.old) }
+    {
+        let Some(two) = qual.as_array::<2>() else {
+            return false;
+        };
+        if !self.ends_with(*two) {
+            return false;
+        }
+        let last = self.slots.len() - 1;
+        self.stamp(last, version);
+        true
+    }
+
+    // Whether there is a last cell, and it has this qualifier.
+    #[inline(always)]
+    fn ends_with(&self, two: [u8; 2]) -> bool
+        ensures { IsTrue result → IsCellAt two self.now (length self.now - 1) }
+    {
+        match self.slots.last() {
+            Some(last) => order_two(two, last.qual).is_eq(),
+            None => false,
+        }
     }
 
     /// Takes the cell at `i` out.

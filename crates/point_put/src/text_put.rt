@@ -22,7 +22,7 @@ use std::alloc::{AllocError, Global};
 use tsd_base::point_text::read_point;
 use tsd_base::text_parts::{TextParts, parts_of};
 use tsd_hooks::UidRule;
-use uid_table::known_series::{KnownSeries, hash_texts};
+use uid_table::known_series::KnownSeries;
 use uid_table::placed_point::PlacedPoint;
 use uid_table::uids::Uids;
 
@@ -156,7 +156,7 @@ fn know<R: Rows + Drop>(
         };
     };
     if let Ok(series) = series_of(alloc, parts, placed) {
-        names.add_series(alloc, series);
+        names.add_series(series);
     }
     Stored { row, base }
 }
@@ -173,13 +173,12 @@ fn series_of(
 {
     let metric = Bytes::of(alloc, parts.metric)?;
     let tags = Bytes::of(alloc, parts.tags)?;
-    let hash = hash_texts(parts.metric, parts.tags);
     Ok(Box::new(
         alloc,
         KnownSeries {
-            metric,
             tags,
-            hash,
+            metric,
+            slot: 0,
             placed,
         },
     )?)

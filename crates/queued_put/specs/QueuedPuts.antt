@@ -1,16 +1,20 @@
 -- What is said of a point that was put, and of the queue of rows.
-use Rattle.std.specs.Prelude.{◌≡◌, ℕ, List, [], ◌∷◌, Result, Ok, Err}
+use Rattle.std.specs.Prelude.{◌≡◌, ℕ, Bool, List, [], ◌∷◌, Result, Ok, Err}
 use Rattle.tsd_base.specs.Points.{DataPoint, FailsPoint, point_of}
 use Rattle.cell_model.specs.Deeds.{Made}
 use Rattle.cell_model.specs.declared.answers.Stored.{Stored}
 use Rattle.cell_model.specs.Seen.{Seen}
-use Rattle.compactor.specs.Queues.{HasRows}
+use Rattle.compactor.specs.Queues.{AddMade, HasRows}
 use Rattle.point_put.specs.Admissions.{Admission}
 use Rattle.point_put.specs.declared.fault.PutFault.{PutFault}
 use Rattle.point_put.specs.declared.fault.PutFault.TheVariants.{OutOfMemory}
 use Rattle.point_put.specs.declared.fault.TextFault.{TextFault}
 use Rattle.point_put.specs.declared.fault.TextFault.TheVariants.{Unread, Unput}
 use Rattle.point_put.specs.PutPoint.{PutSays}
+
+-- the row was added, or was there
+abbrev pub WasAdded : List Stored → Stored → List Stored → Type 0
+WasAdded before stored after = (added : Bool) × AddMade before stored added after
 
 -- the point was accepted, and the queue got its row
 pub record PutsQueued (c : Admission) (point : DataPoint) (old : Seen) (before : List Stored) (new : Seen) (after : List Stored) : Type 0 where

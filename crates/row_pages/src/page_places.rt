@@ -74,10 +74,26 @@ pub fn place_by(pages: &[Page], guess: Option<Place>, row: &Bytes) -> Option<Pla
     place_of(pages, row)
 }
 
-/// Where a row is, if it is there, which is remembered. The place where a row was found last is tried first, and then the one that
-/// came behind it before, since a row is often asked for again, and rows often come in the same order again.
+/// Where a row is, if it is there, which is remembered. The place that came behind the last one before is tried first, since rows
+/// often come in the same order again, and then the last one.
 #[inline]
 pub fn found_place(pages: &[Page], hints: &mut Hints, row: &Bytes) -> Option<Place>
+    requires { ArePages pages.now }
+    ensures found { IfSome result (λ place. IsAt row.now pages.now place.page place.row) }
+    ensures absent { IfNone result (find bytes_cmp row.now (rows_in pages.now) ≡ None) }
+{
+    if let Some(next) = hints.next() {
+        if is_at(pages, next, row) {
+            hints.came(next);
+            return Some(next);
+        }
+    }
+    place_again(pages, hints, row)
+}
+
+/// The same as [`found_place`], where the row is mostly the one that was found last.
+#[inline]
+pub fn place_again(pages: &[Page], hints: &mut Hints, row: &Bytes) -> Option<Place>
     requires { ArePages pages.now }
     ensures found { IfSome result (λ place. IsAt row.now pages.now place.page place.row) }
     ensures absent { IfNone result (find bytes_cmp row.now (rows_in pages.now) ≡ None) }
@@ -86,16 +102,11 @@ pub fn found_place(pages: &[Page], hints: &mut Hints, row: &Bytes) -> Option<Pla
     if is_at(pages, last, row) {
         return Some(last);
     }
-    if let Some(next) = hints.next() {
-        if is_at(pages, next, row) {
-            hints.came(next);
-            return Some(next);
-        }
-    }
     search_place(pages, hints, row)
 }
 
 /// Where a row is, if it is there, by its hash or by a search.
+#[inline(never)]
 fn search_place(pages: &[Page], hints: &mut Hints, row: &Bytes) -> Option<Place>
     requires { ArePages pages.now }
     ensures found { IfSome result (λ place. IsAt row.now pages.now place.page place.row) }

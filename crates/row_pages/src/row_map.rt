@@ -9,7 +9,7 @@ ghost use Rattle.row_pages.specs.LentRows.{LendsCells};
 use crate::hints::Hints;
 use crate::page::Page;
 use crate::page_edits::{put_row, take_out};
-use crate::page_places::{found_place, place_by};
+use crate::page_places::{found_place, place_again, place_by};
 use crate::row_walk::{RowWalk, walk_below, walk_from};
 use guess_table::hash_bytes;
 use packed_cells::row_cells::RowCells;
@@ -74,12 +74,29 @@ impl RowPages {
         }
     }
 
-    /// The cells of a row to be changed, if it is there.
+    /// The cells of a row to be changed, if it is there. It is quickest where rows are asked for in the same order again.
+    #[inline]
     pub fn get_mut(&mut self, row: &Bytes) -> Option<&mut RowCells>
         ensures* writes_back { sem 𝓛 (LendsCells self.entry row.now result) }
         ensures value { option_copied_mut result ≡ get self.old row.now }
     {
         match found_place(&self.pages, &mut self.hints, row) {
+            Some(place) => {
+                let page = &mut self.pages[place.page];
+                let found = &mut page.rows[place.row];
+                Some(&mut found.1)
+            }
+            None => None,
+        }
+    }
+
+    /// The cells of a row to be changed, if it is there. It is quickest for the row that was found last.
+    #[inline]
+    pub fn get_mut_again(&mut self, row: &Bytes) -> Option<&mut RowCells>
+        ensures* writes_back { sem 𝓛 (LendsCells self.entry row.now result) }
+        ensures value { option_copied_mut result ≡ get self.old row.now }
+    {
+        match place_again(&self.pages, &mut self.hints, row) {
             Some(place) => {
                 let page = &mut self.pages[place.page];
                 let found = &mut page.rows[place.row];

@@ -1,7 +1,7 @@
 //! A fleet over an empty store of its own, from the line of its port to its last lines.
 ghost use Rattle.std.specs.Prelude.{◌≡◌, ◌≤◌, IfOk};
 ghost use Rattle.point_put.specs.Admissions.{admission};
-ghost use Rattle.tsd_fleet.specs.ServedLinks.{AllTell};
+ghost use Rattle.conn_workers.specs.ServedLinks.{AllTell};
 ghost use Rattle.serve_job.specs.FleetRuns.{EndsJob, FleetCauses, RunsFleet, WriteCause, summary_lines};
 
 use crate::summary::summary_lines;

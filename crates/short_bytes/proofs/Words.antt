@@ -1,14 +1,10 @@
 -- Equally many bytes are ordered as the numbers that they spell, and lists by their parts.
-use Rattle.std.proofs.Common.{◌≡◌, ◌≢◌, ◌≤◌, ℕ, ◌+◌, ◌*◌, ◌<◌, zero, suc, Bool, true, false, List, get_or, [], ◌∷◌, ◌++◌, length, take, drop, refl, sym, ap, ◌∙◌, arith, length-drop}
+use Rattle.std.proofs.Common.{◌≡◌, ◌≤◌, ℕ, ◌+◌, ◌*◌, ◌<◌, true, false, List, [], ◌∷◌, ◌++◌, length, take, drop, refl, sym, ap, ◌∙◌, arith, length-drop}
 use Rattle.std.proofs.Math.Seq.{take-add}
 use Rattle.std.proofs.Math.ListN.{drop_of_length-le}
 use Rattle.std.proofs.lemmas.List.{drop-drop, length-take, take-append-drop}
 use Rattle.std.proofs.lemmas.Cmp.{ranked, tied_itself, nat_list_cmp_total}
 use Rattle.std.specs.Cmp.{nat_cmp_is}
-use Rattle.std.specs.Int.{w64, from_le_bytes, to_le_bytes}
-use Rattle.std.proofs.lemmas.Nat.{le_bytes_8}
-use Rattle.std.proofs.lemmas.Bool.Decides.{nat_tests}
-use Rattle.short_bytes.specs.Alike.{is_equal, same_list}
 use Rattle.std.specs.Cmp.Lexicographic.{pointwise, texts_ties}
 use Rattle.std.specs.Int.Digits.{AllBelowBase, number_from_digits, number_from_digits_after}
 use Rattle.std.specs.Ordering.{nat_cmp, is_eq, is_ne, ordering_then}
@@ -145,33 +141,6 @@ pub word_decides : (at : ℕ) (xs ys : List ℕ) → at + 8 ≤ length xs → at
 word_decides at xs ys lx ly e = decided (at_eight at xs ys) (bytes_cmp (drop (at + 8) xs) (drop (at + 8) ys)) e ∙ sym (one_word at xs ys lx ly)
 
 -- ---- whether blocks are the same
-
-unequal_numbers : (m n : ℕ) → nat_eq m n ≡ false → m ≢ n
-unequal_numbers m n e same = grind (arith, nat_tests)
-
-below_base : (xs : List ℕ) → AllBelowBase 256 xs → (i : ℕ) → get_or xs i 0 < 256
-below_base [] h i = omega arith
-below_base (x ∷ xs) h zero = h.0
-below_base (x ∷ xs) h (suc i) = below_base xs h.1 i
-
--- eight bytes are the same where the numbers that they spell are
-pub loads_same : (xs ys : List ℕ) (m n : ℕ) → length xs ≡ 8 → length ys ≡ 8 → AllBelowBase 256 xs → AllBelowBase 256 ys
-    → m ≡ from_le_bytes w64 xs → n ≡ from_le_bytes w64 ys → nat_eq m n ≡ is_eq (bytes_cmp xs ys)
-loads_same xs ys m n lx ly a b p q = sym (at (nat_eq m n) refl)
-  where
-    at : (t : Bool) → t ≡ nat_eq m n → is_eq (bytes_cmp xs ys) ≡ t
-    at true e =
-        let equal : m ≡ n = is_equal m n (sym e) in
-        let same : xs ≡ ys = sym (le_bytes_8 xs m lx (below_base xs a) p) ∙ ap (to_le_bytes w64) equal ∙ le_bytes_8 ys n ly (below_base ys b) q in
-        ap (λ l. is_eq (bytes_cmp xs l)) (sym same) ∙ ap is_eq (tied_itself nat_list_cmp_total xs)
-    at false e = not_same (is_eq (bytes_cmp xs ys)) refl
-      where
-        not_same : (t : Bool) → t ≡ is_eq (bytes_cmp xs ys) → t ≡ false
-        not_same false h = refl
-        not_same true h =
-            let same : xs ≡ ys = same_list xs ys (texts_ties xs ys ∙ sym h) in
-            let equal : m ≡ n = p ∙ ap (from_le_bytes w64) same ∙ sym q in
-            absurd (unequal_numbers m n (sym e) equal)
 
 both_tied : (a b : Ordering) → (is_eq a && is_eq b) ≡ is_eq (ordering_then a b)
 both_tied Less b = refl

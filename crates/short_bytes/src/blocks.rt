@@ -1,11 +1,11 @@
 //! The order and equality of bytes, eight at a time.
 ghost use Rattle.std.specs.Prelude.{◌≡◌, ◌+◌, ◌≤◌, length, take, drop, nat_eq};
-ghost use Rattle.std.specs.Int.{w64, from_le_bytes};
 ghost use Rattle.std.specs.Int.Digits.{AllBelowBase, number_from_digits};
-ghost use Rattle.std.specs.Ordering.{is_eq, nat_cmp};
+ghost use Rattle.std.specs.Ordering.{nat_cmp};
 ghost use Rattle.std.specs.Cmp.Lexicographic.{slice_cmp, pointwise};
 ghost use Rattle.short_bytes.specs.Kept.{IsFilled};
 
+use crate::loads::same_eight;
 use std::cmp::Ordering;
 
 /// Eight bytes as one number, of which the first byte counts most.
@@ -74,43 +74,15 @@ pub(crate) fn order_filled(
     len.cmp(&other_len)
 }
 
-/// Eight bytes as one number, of which the first byte counts least. It is compiled into one load.
-#[inline(always)]
-fn load(list: &[u8], at: usize) -> u64
-    requires { at + 8 ≤ length list.now }
-    ensures value { result ≡ from_le_bytes w64 (take 8 (drop at list.now)) }
-    ensures bytes { AllBelowBase 256 (take 8 (drop at list.now)) }
-{
-    u64::from_le_bytes([
-        list[at],
-        list[at + 1],
-        list[at + 2],
-        list[at + 3],
-        list[at + 4],
-        list[at + 5],
-        list[at + 6],
-        list[at + 7],
-    ])
-}
-
-/// Whether eight bytes of each list are the same.
-#[inline(always)]
-fn same_words(one: &[u8], other: &[u8], at: usize) -> bool
-    requires { (at + 8 ≤ length one.now) × (at + 8 ≤ length other.now) }
-    ensures { result ≡ is_eq (slice_cmp nat_cmp (take 8 (drop at one.now)) (take 8 (drop at other.now))) }
-{
-    load(one, at) == load(other, at)
-}
-
 /// Whether two blocks are the same, by words as in `order_blocks`. It has no branches.
 #[inline(always)]
 fn same_blocks(one: &[u8; 30], other: &[u8; 30]) -> bool
     ensures { result ≡ pointwise nat_eq one.now other.now }
 {
-    same_words(one, other, 0)
-        & same_words(one, other, 8)
-        & same_words(one, other, 16)
-        & same_words(one, other, 22)
+    same_eight(one, other, 0)
+        & same_eight(one, other, 8)
+        & same_eight(one, other, 16)
+        & same_eight(one, other, 22)
 }
 
 /// Whether the bytes that count of two blocks are the same.

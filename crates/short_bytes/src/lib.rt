@@ -4,5 +4,6 @@
 mod blocks;
 pub mod comparison;
 mod fills;
+mod loads;
 pub mod same_bytes;
 pub mod short;

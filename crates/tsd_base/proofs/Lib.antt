@@ -1,3 +1,4 @@
+mod DigitRuns
 mod DotsLemmas
 mod Groups
 mod NamesLemmas

@@ -1,11 +1,10 @@
 -- Numbers in decimal digits.
-use Rattle.std.proofs.Common.{◌≡◌, ℕ, ◌-◌, ◌^◌, ◌<◌, ◌≤◌, min, Bool, true, false, List, [], ◌∷◌, length, get_or, take, drop, refl, ap, inl, inr, one-add, arith, Err, take_while, if◌then◌else◌}
-use Rattle.std.proofs.Math.Nat.{pow-le-pow_right}
+use Rattle.std.proofs.Common.{◌≡◌, ℕ, ◌-◌, ◌^◌, ◌<◌, min, Bool, true, false, List, [], ◌∷◌, length, get_or, drop, refl, ap, inl, inr, one-add, arith, Err, take_while, if◌then◌else◌}
 use Rattle.std.specs.Char.{digit_value, is_ascii_digit}
 use Rattle.std.specs.List.{list_all}
 use Rattle.std.specs.Str.Parse.{digits_value, AllDigits}
 use Rattle.std.proofs.lemmas.Bool.{cases_Bool, and_parts}
-use Rattle.std.proofs.lemmas.List.{drop_all, drop_more, length-take}
+use Rattle.std.proofs.lemmas.List.{drop_all, drop_more}
 use Rattle.std.proofs.lemmas.List.Sums.{take_while-cons}
 use Rattle.std.proofs.lemmas.Bool.Decides.{nat_tests}
 use Rattle.std.proofs.lemmas.Int.Digits.{digits_value-lt}
@@ -16,7 +15,7 @@ use Rattle.tsd_base.specs.declared.values.ValueFault.TheVariants.{Float, BadValu
 digit_value-lt : (c : ℕ) → is_ascii_digit c ≡ true → digit_value c < 10
 digit_value-lt c e = grind (arith, nat_tests)
 
-AllDigits-from_list_all : (text : List ℕ) → list_all is_ascii_digit text ≡ true → AllDigits 10 text
+pub AllDigits-from_list_all : (text : List ℕ) → list_all is_ascii_digit text ≡ true → AllDigits 10 text
 AllDigits-from_list_all [] e = tt
 AllDigits-from_list_all (c ∷ text) e = let parts = and_parts _ _ e in (digit_value-lt c parts.0, AllDigits-from_list_all text parts.1)
 
@@ -24,14 +23,6 @@ AllDigits-from_list_all (c ∷ text) e = let parts = and_parts _ _ e in (digit_v
 pub digits_value-number : (text : List ℕ) → is_number text ≡ true → digits_value 10 text < 10 ^ length text
 digits_value-number [] e = cc
 digits_value-number (c ∷ text) e = digits_value-lt 10 (c ∷ text) (AllDigits-from_list_all (c ∷ text) e)
-
--- of at most 18 digits, those before another one leave room for it
-pub digits_value-short : (text : List ℕ) (i : ℕ) → length text ≤ 18 → i < length text → list_all is_ascii_digit (take i text) ≡ true → digits_value 10 (take i text) < 10 ^ 17
-digits_value-short text i few inside e =
-    let below = digits_value-lt 10 (take i text) (AllDigits-from_list_all (take i text) e) in
-    let count : length (take i text) ≤ 17 = omega (arith, inside, few, length-take i text) in
-    let most : 10 ^ length (take i text) ≤ 10 ^ 17 = pow-le-pow_right {n = 10} (omega arith) count in
-    omega (arith, below, most)
 
 pub digits_value_three : (text : List ℕ) → is_number text ≡ true → length text ≡ 3 → digits_value 10 text < 1000
 digits_value_three text e three = rw three at (digits_value-number text e)

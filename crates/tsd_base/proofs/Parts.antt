@@ -1,13 +1,13 @@
 -- The words of bytes: of spaces, of a word before a space, and of a word at the end.
-use Rattle.std.proofs.Common.{◌≡◌, ℕ, ◌+◌, ◌<◌, ◌≤◌, Bool, true, false, not, List, [], ◌∷◌, ◌++◌, Some, None, length, get_or, take, drop, filter, position, refl, sym, ap, ◌∙◌, inl, inr, one-add, arith}
+use Rattle.std.proofs.Common.{◌≡◌, ℕ, ◌+◌, ◌-◌, ◌<◌, ◌≤◌, Bool, true, false, not, List, [], ◌∷◌, ◌++◌, Some, None, length, get_or, take, drop, filter, position, refl, sym, ap, ◌∙◌, inl, inr, one-add, arith}
 use Rattle.std.specs.List.{position_or_len, onto_first, All}
 use Rattle.std.specs.Option.{unwrap_or}
-use Rattle.std.proofs.lemmas.Bool.{cases_Bool, not-true}
-use Rattle.std.proofs.lemmas.List.{drop_all, drop_more}
+use Rattle.std.proofs.lemmas.Bool.{and_parts, cases_Bool, not-true}
+use Rattle.std.proofs.lemmas.List.{drop_all, drop_more, take_rest}
 use Rattle.std.proofs.lemmas.List.Splits.{slice_split_at, slice_split_none}
 use Rattle.std.proofs.lemmas.List.Sums.{prefix_len-le-length, passes_at_first}
 use Rattle.std.proofs.lemmas.Bool.Decides.{nat_tests}
-use Rattle.tsd_base.specs.Words.{is_empty, is_space, parts_of, words_of}
+use Rattle.tsd_base.specs.Words.{begins_with_space, is_empty, is_space, parts_of, words_of}
 
 abbrev has_bytes : List ℕ → Bool
 has_bytes word = not (is_empty word)
@@ -23,6 +23,10 @@ words_of-nil = refl
 pub words_of-space : (b : ℕ) (text : List ℕ) → is_space b ≡ true → words_of (b ∷ text) ≡ words_of text
 unfolding words_of
 words_of-space b text e = rw e
+
+pub words_of_space : (text : List ℕ) → begins_with_space text ≡ true → words_of (take (length text - 1) (drop 1 text)) ≡ words_of text
+words_of_space [] e = absurd cc
+words_of_space (b ∷ text) e = rw (take_rest (b ∷ text) 1) (sym (words_of-space b text (and_parts _ _ e).1))
 
 -- a word before a space
 pub words_of-append : (word rest : List ℕ) → All (λ b. is_space b ≡ false) word → 0 < length word → words_of (word ++ 32 ∷ rest) ≡ word ∷ words_of rest
@@ -75,6 +79,10 @@ position-None p text e = grind (arith, nat_tests)
 
 position-Some : (p : ℕ → Bool) (text : List ℕ) (at : ℕ) → Some at ≡ position p text → (at ≡ position_or_len p text) × (at < length text)
 position-Some p text at e = grind (arith, nat_tests)
+
+pub position_at_front : (text : List ℕ) → begins_with_space text ≡ false → 0 < length text → position is_other text ≡ Some 0
+position_at_front [] e some = absurd (omega arith)
+position_at_front (b ∷ text) e some = grind (arith, nat_tests)
 
 -- the place of the first element, or else the length
 pub position_or_whole : (p : ℕ → Bool) (text : List ℕ) → unwrap_or (position p text) (length text) ≡ position_or_len p text

@@ -1,5 +1,5 @@
 -- Parts of bytes between separators.
-use Rattle.std.specs.Prelude.{ℕ, Bool, true, false, not, nat_eq, List, [], ◌∷◌, filter}
+use Rattle.std.specs.Prelude.{ℕ, Bool, true, false, ◌&&◌, not, nat_eq, nat_lt, List, [], ◌∷◌, filter, length, slice_index}
 use Rattle.std.specs.List.{slice_split}
 
 -- the parts between separators, of which there is one more than separators
@@ -12,6 +12,9 @@ is_empty (b ∷ bytes) = false
 
 abbrev pub is_space : ℕ → Bool
 is_space b = nat_eq b 32
+
+abbrev pub begins_with_space : List ℕ → Bool
+begins_with_space text = nat_lt 0 (length text) && is_space (slice_index text 0)
 
 -- the words, between one or more spaces
 unfoldable pub words_of : List ℕ → List (List ℕ)

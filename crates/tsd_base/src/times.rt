@@ -19,6 +19,7 @@ pub struct BadTime;
 ///
 /// Digits alone are seconds up to 4294967295 and milliseconds from there to 4294967295999; 0 is no time. Ten digits,
 /// a dot and three digits are milliseconds of a second up to 4294967295, and not 0.
+#[inline]
 #[tactic(auto, using(crate::proofs::TimesLemmas::times))]
 pub fn read_time(text: &[u8]) -> Result<(u64, bool), BadTime>
     ensures gives { result ≡ time_of text.now }
@@ -34,6 +35,7 @@ pub fn read_time(text: &[u8]) -> Result<(u64, bool), BadTime>
 }
 
 /// Whether a text has the form of seconds, a dot and three digits.
+#[inline]
 fn is_dotted(text: &[u8]) -> bool
     ensures { result ≡ is_dotted text.now }
 {
@@ -41,6 +43,7 @@ fn is_dotted(text: &[u8]) -> bool
 }
 
 /// The time of a number: of seconds, or from 2 ^ 32 on of milliseconds.
+#[inline]
 fn whole_time(n: u64) -> Result<(u64, bool), BadTime>
     ensures { result ≡ whole_time n }
 {
@@ -53,6 +56,7 @@ fn whole_time(n: u64) -> Result<(u64, bool), BadTime>
 }
 
 /// The time of seconds and milliseconds, each in digits alone.
+#[inline(never)]
 #[tactic(auto, using(crate::proofs::TimesLemmas::times))]
 fn read_dotted(seconds: &[u8], millis: &[u8]) -> Result<(u64, bool), BadTime>
     requires { length millis.now ≡ 3 }

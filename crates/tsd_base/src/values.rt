@@ -18,6 +18,7 @@ pub enum ValueFault {
 }
 
 /// Reads a value: an optional `+` or `-`, and then one or more digits to the end.
+#[inline(always)]
 #[tactic(auto, unfolding(crate::specs::Values::value_of))]
 pub fn read_value(text: &[u8]) -> Result<i64, ValueFault>
     ensures { result ≡ value_of text.now }
@@ -33,6 +34,7 @@ pub fn read_value(text: &[u8]) -> Result<i64, ValueFault>
 }
 
 /// The value of what stands behind the sign.
+#[inline]
 #[tactic(auto, using(crate::proofs::Numerals::values))]
 fn read_unsigned(text: &[u8], negative: bool) -> Result<i64, ValueFault>
     ensures { result ≡ unsigned_of negative text.now }
@@ -44,6 +46,7 @@ fn read_unsigned(text: &[u8], negative: bool) -> Result<i64, ValueFault>
 }
 
 /// The number with its sign, where an `i64` has it.
+#[inline]
 fn signed(n: u64, negative: bool) -> Result<i64, ValueFault>
     ensures { result ≡ signed_of negative n }
 {
@@ -56,6 +59,7 @@ fn signed(n: u64, negative: bool) -> Result<i64, ValueFault>
 }
 
 /// What is wrong with a text that is not digits alone.
+#[inline(never)]
 #[tactic(auto, using(crate::proofs::Numerals::values))]
 fn fault_of(text: &[u8]) -> ValueFault
     requires { is_number text.now ≡ false }

@@ -38,6 +38,7 @@ impl ReplyBuffer {
     }
 
     /// Adds a reply, which waits where there is room and memory for it. Else all is given.
+    #[inline]
     pub fn add<K: Sink>(&mut self, sink: &mut K, reply: &[u8]) -> Result<(), Failed>
         ensures ok { OnOk result (Gives (K.held sink.old) (K.held sink.new) (self.old ++ reply.now) self.new) }
         ensures err { OnErr result (GivesSome (K.held sink.old) (K.held sink.new) (self.old ++ reply.now)) }
@@ -51,6 +52,7 @@ impl ReplyBuffer {
     }
 
     /// Gives what waits, and a reply behind it.
+    #[inline(never)]
     fn give_with<K: Sink>(&mut self, sink: &mut K, reply: &[u8]) -> Result<(), Failed>
         ensures ok { OnOk result (Gives (K.held sink.old) (K.held sink.new) (self.old ++ reply.now) self.new) }
         ensures err { OnErr result (GivesSome (K.held sink.old) (K.held sink.new) (self.old ++ reply.now)) }
@@ -89,6 +91,7 @@ impl ReplyBuffer {
     }
 
     /// Adds a reply where there is room and memory for it, and else nothing.
+    #[inline]
     fn keep(&mut self, reply: &[u8]) -> Result<(), AllocError>
         ensures ok { OnOk result (self.new ≡ self.old ++ reply.now) }
         ensures err { OnErr result (self.new ≡ self.old) }

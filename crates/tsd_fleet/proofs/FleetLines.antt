@@ -34,9 +34,10 @@ use Rattle.point_put.specs.Admissions.{Admission}
 use Rattle.tsd_daemon.specs.declared.served.Served.{Served}
 use Rattle.tsd_fleet.specs.declared.fleet_end.FleetEnd.{FleetEnd}
 use Rattle.tsd_fleet.specs.declared.fleet_end.FleetEnd.TheVariants as end
-use Rattle.tsd_fleet.specs.FleetStands.{FleetStands, Gathered, SiteCounts}
+use Rattle.site_workers.specs.GatheredLinks.{Gathered, SiteCounts}
+use Rattle.tsd_fleet.specs.FleetStands.{FleetStands}
 use Rattle.tsd_fleet.specs.FleetServes.{BeginsToListen, CountsLinks, FleetServes, HasFleetReason, HasListened, IsListenFault, IsTally, Listens, is_die, listening_line}
-use Rattle.tsd_fleet.proofs.GatheredLinks.{none_back, stands}
+use Rattle.tsd_fleet.proofs.FleetHistories.{none_back, stands}
 
 -- ---- the line
 

@@ -1,3 +1,2 @@
-mod ServedTurns
-mod GatheredLinks
+mod FleetHistories
 mod FleetLines

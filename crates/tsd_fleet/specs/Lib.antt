@@ -1,4 +1,2 @@
-pub mod ServedLinks
 pub mod FleetStands
 pub mod FleetServes
-pub mod DueRows

@@ -4,16 +4,16 @@ ghost use Rattle.std.specs.FinMap.{empty};
 ghost use Rattle.cell_model.specs.Sound.{IsBase};
 ghost use Rattle.step_count.specs.CounterRule.{store_in};
 ghost use Rattle.point_put.specs.Admissions.{admission};
-ghost use Rattle.tsd_fleet.specs.ServedLinks.{AllTell};
+ghost use Rattle.conn_workers.specs.ServedLinks.{AllTell};
 ghost use Rattle.tsd_fleet.specs.FleetServes.{BeginsToListen, CountsLinks, FleetServes, HasFleetReason, HasListened, IsListenFault, IsTally, Listens};
 
-use crate::conn_terms::ConnTerms;
 use crate::fleet_end::{FleetEnd, fleet_end};
 use crate::listening::listen;
 use crate::site_threads::serve_site;
 use cell_model::{Body, Listing, Tally};
 use cell_region::Regions;
 use cell_store::{Gate, SiteParts, StepNames};
+use conn_workers::conn_terms::ConnTerms;
 use point_put::Config;
 use std::alloc::{AllocError, Global};
 use std::marker::{Brand, Model};

@@ -1,23 +1,21 @@
 //! The connections of the doors, served over one site while rows of their points are compacted on other threads.
-ghost use Rattle.std.specs.Fork.{AcceptsEach};
 ghost use Rattle.std.specs.Prelude.{◌≡◌, ◌≤◌, IfOk, OnErr, length, vec_len};
 ghost use Rattle.step_count.specs.Tokens.{counter_of_pass, view_of_pass};
 ghost use Rattle.cell_store.specs.CallerViews.{IsCaller, numbers_of, seen_of};
 ghost use Rattle.link_workers.specs.Accepting.{HasReason};
 ghost use Rattle.point_put.specs.Admissions.{admission};
-ghost use Rattle.tsd_fleet.specs.ServedLinks.{AllTell};
-ghost use Rattle.tsd_fleet.specs.FleetStands.{Gathered, SiteCounts};
+ghost use Rattle.conn_workers.specs.ServedLinks.{AllTell};
+ghost use Rattle.site_workers.specs.GatheredLinks.{Gathered, SiteCounts};
 
-use crate::compactor_seats::{CompactorSeats, make_compactors, rejoin_clocks};
-use crate::conn_terms::ConnTerms;
 use crate::fleet::Fleet;
-use crate::row_compactor::{RowCompactor, compact_rows};
-use crate::site_service::{SiteServed, serve_connections};
-use cell_store::{Gate, Site, SitePass, StepNames};
+use cell_store::{Gate, Site, StepNames};
+use conn_workers::conn_terms::ConnTerms;
 use point_put::Config;
+use row_compactors::compactor_seats::{CompactorSeats, make_compactors, rejoin_clocks};
+use row_compactors::compactor_threads::compact_beside;
+use site_workers::site_service::{SiteServed, serve_connections};
 use std::alloc::{AllocError, Global};
 use std::sync::Wait;
-use std::thread;
 use std::thread::Threads;
 use tsd_doors::doors::Doors;
 use tsd_hooks::UidRule;
@@ -76,9 +74,8 @@ pub(crate) fn serve_site<
     let served = compact_beside(
         rt,
         &mut compactors,
-        &|_, compactor: &mut RowCompactor<SitePass<'_, J, G, T>, C>| compact_rows(rt, compactor),
         &mut || -> Result<SiteServed, AllocError>
-            requires { (vec_len rows_to ≡ fleet.now.daemons) × (1 ≤ fleet.now.daemons) × (fleet.now.daemons ≤ 8) × (fleet.now.workers ≤ 16)
+            requires { (1 ≤ vec_len rows_to) × (vec_len rows_to ≤ 8) × (fleet.now.workers ≤ 16)
                 × (admission config.now rule.now.patterns ≡ J.admission) × (C.moments clock.now ≡ J.moments) }
             ensures counter { IfOk result (λ s. counter_of_pass s.pass ≡ J.counter) }
             ensures caller { IfOk result (λ s. IsCaller J.name (view_of_pass s.pass)) }
@@ -96,7 +93,7 @@ pub(crate) fn serve_site<
             serve_connections(
                 rt,
                 alloc,
-                fleet,
+                fleet.workers,
                 site,
                 rule,
                 config,
@@ -109,37 +106,4 @@ pub(crate) fn serve_site<
     )?;
     rejoin_clocks(clock, compactors);
     Ok(served)
-}
-
-/// Calls a function on this thread, and another with each of these, each on a thread of its own.
-fn compact_beside<T: Threads + Sync, S: Send, F: Fn(usize, &mut S) + Sync, E: FnMut() -> A, A>(
-    rt: &T,
-    compactors: &mut Vec<S>,
-    compact: &F,
-    serve: &mut E,
-) -> A
-    requires accepts { AcceptsEach F.Fn compact.now compactors.old.items }
-    requires serves { E.pre serve.old }
-    ensures { E.step serve.old result serve.new }
-{
-    let (_, served) = thread::join_mut(
-        rt,
-        &mut ||
-            requires { AcceptsEach F.Fn compact.now compactors.now.items }
-        { compact_each(rt, compactors, compact) },
-        serve,
-    );
-    served
-}
-
-/// Calls a function with each of these, each on a thread of its own.
-fn compact_each<T: Threads + Sync, S: Send, F: Fn(usize, &mut S) + Sync>(
-    rt: &T,
-    compactors: &mut Vec<S>,
-    compact: &F,
-)
-    requires { AcceptsEach F.Fn compact.now compactors.old.items }
-{
-    let count = compactors.len().max(1);
-    thread::for_each_mut(rt, compactors, count, compact);
 }

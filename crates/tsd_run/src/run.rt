@@ -3,7 +3,7 @@ ghost use Rattle.std.specs.Prelude.{◌≡◌, ◌≢◌, ◌≤◌, true, false
 ghost use Rattle.tsd_hooks.specs.AllowedNames.{allowed};
 ghost use Rattle.tsd_io.specs.Causes.{Rose};
 ghost use Rattle.link_workers.specs.Accepting.{IsNoneLeft};
-ghost use Rattle.tsd_fleet.specs.ServedLinks.{AllTell};
+ghost use Rattle.conn_workers.specs.ServedLinks.{AllTell};
 ghost use Rattle.serve_job.specs.FleetRuns.{has_no_more};
 ghost use Rattle.command_words.specs.CommandWords.{asked_of};
 ghost use Rattle.command_words.specs.PlainAsked.{InRange, IsFleet, plain_patterns, plain_serve, what_asked};

@@ -1,6 +1,5 @@
 -- What is kept was kept before or put, and stays shown.
-use Rattle.std.proofs.lemmas.List.Elements.{All-set}
-use Rattle.std.proofs.Common.{set, get_or, length, ◌<◌, ◌≡◌, inl, inr, ℕ, Bool, true, List, [], Contains, rules, IfSome, Option, Some, None, refl, sym, ap, subst, ◌∙◌}
+use Rattle.std.proofs.Common.{◌≡◌, inl, inr, ℕ, Bool, true, List, [], Contains, rules, IfSome, Option, Some, None, refl, sym, ap, subst, ◌∙◌}
 use Rattle.std.specs.Borrow.{Bor}
 use Rattle.std.specs.Prelude.{option_copied, Result, Ok, Err, IfOk, OnOk, OnErr}
 use Rattle.std.specs.Map.{lookup}
@@ -158,14 +157,6 @@ series_kept s t slots on all k d lt = slot_kept s t _ on (all k d lt)
 
 pub none_kept : (s : Seen) (slots : List (Option (Box KnownSeries))) → KeepsNone slots → KeepsSeries s slots
 none_kept s slots none k d lt = subst (IsShownSlot s) (sym (none k d lt)) tt
-
--- a slot was written
-pub set_kept : (s : Seen) (old new : List (Option (Box KnownSeries))) (at : ℕ) (slot : Option (Box KnownSeries)) → new ≡ set old at slot → KeepsSeries s old → IsShownSlot s slot → KeepsSeries s new
-set_kept s old new at slot is all one = subst (KeepsSeries s) (sym is) (All-set (IsShownSlot s) old at slot one all)
-
--- what stands in a slot
-pub slot_among : (s : Seen) (slots : List (Option (Box KnownSeries))) (at : ℕ) (slot : Option (Box KnownSeries)) → ((d : Option (Box KnownSeries)) → get_or slots at d ≡ slot) → at < length slots → KeepsSeries s slots → IsShownSlot s slot
-slot_among s slots at slot is lt all = subst (IsShownSlot s) (is None) (all at None lt)
 
 -- no pair is kept
 pub no_pairs : {K V : Type 0} (P : K × V → Type 0) (c : LruCache K V) (cap : ℕ) → c ≡ lru_cache [] cap → (e : K × V) → Contains c.entries e → P e

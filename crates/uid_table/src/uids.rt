@@ -127,11 +127,11 @@ impl<R: Rows + Drop> Uids<R> {
     }
 
     /// Keeps one more series. A later one may take its place.
-    pub fn add_series(&mut self, alloc: Global, known: Box<KnownSeries>)
+    pub fn add_series(&mut self, known: Box<KnownSeries>)
         requires { IsShownSeries (R.seen self.old) known.value }
         ensures { self.new ≡ self.old }
     {
-        self.series.add(alloc, known);
+        self.series.add(known);
     }
 
     /// The id of a name, by one read, or by none where the pair is kept.

@@ -1,7 +1,7 @@
 use Rattle.std.proofs.Common.{rules}
 use Rattle.step_count.specs.Tokens.{view_of_pass}
 use Rattle.cell_store.specs.CallerViews.{numbers_of, seen_of}
-use Rattle.tsd_fleet.proofs.GatheredLinks.{extends_same, gathered_later}
+use Rattle.site_workers.proofs.CallerLemmas.{extends_same, gathered_later}
 use Rattle.tsd_fleet.proofs.site_threads.serve_site.Goals as goal
 
 pub returns-clause-gathered : goal.returns-clause-gathered

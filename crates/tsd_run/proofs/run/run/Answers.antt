@@ -1,7 +1,7 @@
 use Rattle.std.proofs.Common.{map, sym, subst}
 use Rattle.std.specs.Prelude.{string_bytes}
 use Rattle.command_words.specs.CommandWords.{Serve, asked_of}
-use Rattle.tsd_fleet.specs.ServedLinks.{AllTell}
+use Rattle.conn_workers.specs.ServedLinks.{AllTell}
 use Rattle.tsd_run.specs.declared.status.Status.{Status}
 use Rattle.tsd_run.specs.FleetStatuses.{RunsAny, ServesFleet}
 use Rattle.tsd_run.specs.Runs.{Runs}

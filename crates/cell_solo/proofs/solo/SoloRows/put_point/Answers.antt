@@ -4,7 +4,12 @@ use Rattle.cell_model.specs.declared.events.Reply.TheVariants.{Written}
 use Rattle.tsd_base.specs.Points.{data_point}
 use Rattle.cell_solo.proofs.Plays.{solo_step}
 use Rattle.cell_solo.proofs.Packing.{put_of_layout}
+use Rattle.cell_solo.proofs.RowNames.{only_known}
 use Rattle.cell_solo.proofs.solo.SoloRows.put_point.Goals as goal
+
+pub add_point-requires-clause-only : goal.add_point-requires-clause-only
+add_point-requires-clause-only g c =
+    only_known _ _ _ _ _ (data_point c.args.point.now) c.args.row.now c.args.qual.now c.args.value.now c.self.invariant c.self.view_is c.put_next.ensures.list c.requires.knows
 
 pub invariant_of-self-2 : goal.invariant_of-self-2
 invariant_of-self-2 g c =

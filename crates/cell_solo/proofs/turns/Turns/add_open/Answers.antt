@@ -5,6 +5,13 @@ use Rattle.cell_solo.specs.declared.turns.Head.TheVariants as head
 use Rattle.cell_solo.proofs.Packing.{pushed_alone, same}
 use Rattle.cell_solo.proofs.turns.Turns.add_open.Goals as goal
 
+pub invariant_of-self : goal.invariant_of-self
+invariant_of-self c =
+    let p = pushed_alone c.self.inside.heads.items c.self.inside.bytes.items c.self.inside.drops.items c.self.inside.places.list (head.Open c.args.caller) [] [] Open
+    c.push_reserved.new.self.items c.self.inside.bytes.items c.self.inside.drops.items c.self.invariant (record { bytes_are = refl; drops_are = refl }) refl refl
+    c.push_reserved.ensures.items (same _ _ refl) (same _ _ refl) in
+    p.fills
+
 pub returns-clause-list : goal.returns-clause-list
 returns-clause-list c =
     let p = pushed_alone c.self.inside.heads.items c.self.inside.bytes.items c.self.inside.drops.items c.self.inside.places.list (head.Open c.args.caller) [] [] Open

@@ -1,0 +1,2 @@
+mod ServedTurns
+mod WorkerLists

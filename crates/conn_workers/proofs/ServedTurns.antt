@@ -1,0 +1,155 @@
+-- Connections that a worker serves one after the other.
+use Rattle.std.proofs.Common.{◌≡◌, ℕ, ◌+◌, ◌-◌, ◌^◌, ◌<◌, ◌≤◌, Bool, true, false, List, [], ◌∷◌, ◌++◌, length, refl, sym, subst, ap, ◌∙◌, length-append, arith}
+use Rattle.std.specs.Prelude.{Option, None, Some, IsSome, min, filter, cond}
+use Rattle.std.proofs.lemmas.List.Elements.{filter-append}
+use Rattle.std.proofs.lemmas.Bool.{true≢false}
+use Rattle.std.specs.Io.KnownBytes.{Appends, IsAtEnd}
+use Rattle.tsd_io.specs.Causes.{Rose}
+use Rattle.tsd_doors.specs.Links.{AreFresh, IsNothing, Shut}
+use Rattle.cell_model.specs.History.{History}
+use Rattle.cell_model.specs.Lawful.{IsLawful}
+use Rattle.cell_model.specs.Seen.{Seen, Fits}
+use Rattle.point_put.specs.Admissions.{Admission}
+use Rattle.tsd_daemon.specs.declared.served.Served.{Served}
+use Rattle.tsd_daemon.specs.declared.served.Served.TheVariants as answer
+use Rattle.tsd_daemon.specs.ConnClocks.{Gave}
+use Rattle.tsd_daemon.specs.ServedConns.{ConnCauses, Fills, IsServed, Passes, Serves, ServesBytes}
+use Rattle.conn_workers.specs.ServedLinks.{AllTell, ClockFaultsWithin, HasEndCause, LinkServed, ServedInTurn, ServedLink, WorkerServed, clock_fault_count, is_clock_fault}
+use Rattle.conn_workers.specs.ServedLinks.ServedInTurn.{none_yet, then_served}
+
+-- ---- bytes and moments
+
+-- what is told from nothing on is all
+pub told_all : (told told' : Option (List ℕ)) (bytes : List ℕ) → IsSome told → IsNothing told → Appends told told' bytes → told' ≡ Some bytes
+told_all None told' bytes some none more = absurd (true≢false (sym some))
+told_all (Some xs) None bytes some none more = absurd more
+told_all (Some xs) (Some ys) bytes some none more = ap (λ (l : List ℕ). Some l) (more ∙ ap (λ (l : List ℕ). l ++ bytes) (none xs refl))
+
+-- some moments, and then more
+gave_more : (a b c : Option (List ℕ)) (xs ys : List ℕ) → Gave a xs b → Gave b ys c → Gave a (xs ++ ys) c
+gave_more a b c [] ys same more = subst (λ (o : Option (List ℕ)). Gave o ys c) same more
+gave_more a b c (x ∷ xs) ys (next, tick, given) more = (next, tick, gave_more next b c xs ys given more)
+
+-- ---- causes
+
+rose_above : (before now : ℕ) → Rose before now → 0 < now
+rose_above before now rose = omega (arith, rose)
+
+-- an end has its cause, where nothing had failed before and no step was stopped
+pub end_cause : (shut : Shut) (reads writes ticks ticks' count : ℕ) (end : Served) → (end ≡ answer.End → IsAtEnd shut.left) → ConnCauses reads shut.source_faults writes shut.sink_faults 0 0 ticks ticks' end → Fills end count → HasEndCause shut count end
+end_cause shut reads writes ticks ticks' count answer.End left causes fills = left refl
+end_cause shut reads writes ticks ticks' count answer.Exit left causes fills = tt
+end_cause shut reads writes ticks ticks' count answer.Die left causes fills = tt
+end_cause shut reads writes ticks ticks' count answer.Closed left causes fills = tt
+end_cause shut reads writes ticks ticks' count answer.ReadFault left causes fills = rose_above reads shut.source_faults causes.cause
+end_cause shut reads writes ticks ticks' count answer.WriteFault left causes fills = rose_above writes shut.sink_faults causes.cause
+end_cause shut reads writes ticks ticks' count answer.ClockFault left causes fills = tt
+end_cause shut reads writes ticks ticks' count answer.Stopped left causes fills = let rose : Rose 0 0 = causes.cause in omega (arith, rose)
+end_cause shut reads writes ticks ticks' count answer.SessionFull left causes fills = fills
+end_cause shut reads writes ticks ticks' count answer.OutOfMemory left causes fills = tt
+
+clock_rose : (reads reads' writes writes' ticks ticks' : ℕ) (end : Served) → ConnCauses reads reads' writes writes' 0 0 ticks ticks' end → is_clock_fault end ≡ true → Rose ticks ticks'
+clock_rose reads reads' writes writes' ticks ticks' answer.ClockFault causes is = causes.cause
+clock_rose reads reads' writes writes' ticks ticks' answer.End causes is = absurd (true≢false (sym is))
+clock_rose reads reads' writes writes' ticks ticks' answer.Exit causes is = absurd (true≢false (sym is))
+clock_rose reads reads' writes writes' ticks ticks' answer.Die causes is = absurd (true≢false (sym is))
+clock_rose reads reads' writes writes' ticks ticks' answer.Closed causes is = absurd (true≢false (sym is))
+clock_rose reads reads' writes writes' ticks ticks' answer.ReadFault causes is = absurd (true≢false (sym is))
+clock_rose reads reads' writes writes' ticks ticks' answer.WriteFault causes is = absurd (true≢false (sym is))
+clock_rose reads reads' writes writes' ticks ticks' answer.Stopped causes is = absurd (true≢false (sym is))
+clock_rose reads reads' writes writes' ticks ticks' answer.SessionFull causes is = absurd (true≢false (sym is))
+clock_rose reads reads' writes writes' ticks ticks' answer.OutOfMemory causes is = absurd (true≢false (sym is))
+
+-- the causes of an end where no step was ever stopped
+pub unstopped : (reads reads' writes writes' stops stops' ticks ticks' : ℕ) (end : Served) → stops ≡ 0 → stops' ≡ 0 → ConnCauses reads reads' writes writes' stops stops' ticks ticks' end → ConnCauses reads reads' writes writes' 0 0 ticks ticks' end
+unstopped reads reads' writes writes' stops stops' ticks ticks' end none none' causes =
+    subst (λ (n : ℕ). ConnCauses reads reads' writes writes' 0 n ticks ticks' end) none' (subst (λ (n : ℕ). ConnCauses reads reads' writes writes' n stops' ticks ticks' end) none causes)
+
+-- ---- how many connections ended because the clock failed
+
+abbrev bump : Bool → ℕ
+bump true = 1
+bump false = 0
+
+one_length : {X : Type 0} (b : Bool) (x : X) → length (cond b (x ∷ []) []) ≡ bump b
+one_length true x = refl
+one_length false x = refl
+
+count_more : (links : List ServedLink) (link : ServedLink) → clock_fault_count (links ++ link ∷ []) ≡ clock_fault_count links + bump (is_clock_fault link.1)
+count_more links link =
+    let test = λ (l : ServedLink). is_clock_fault l.1 in
+    ap length (filter-append test links (link ∷ [])) ∙ length-append (filter test links) (filter test (link ∷ [])) ∙ ap (λ n. clock_fault_count links + n) (one_length (is_clock_fault link.1) link)
+
+within_by : (b : Bool) (count count' old new : ℕ) → count' ≡ count + bump b → min count (2 ^ 64 - 1) ≤ old → old ≤ new → (b ≡ true → Rose old new) → min count' (2 ^ 64 - 1) ≤ new
+within_by true count count' old new is within later rose = let r = rose refl in omega (arith, is, within, later, r)
+within_by false count count' old new is within later rose = omega (arith, is, within, later)
+
+within_more : (links : List ServedLink) (link : ServedLink) (old new : ℕ) → ClockFaultsWithin links old → old ≤ new → (is_clock_fault link.1 ≡ true → Rose old new) → ClockFaultsWithin (links ++ link ∷ []) new
+within_more links link old new within later rose =
+    within_by (is_clock_fault link.1) (clock_fault_count links) _ old new (count_more links link) within later rose
+
+-- ---- one more connection
+
+-- a worker that served no connection yet, and whose clock wasn't asked
+pub none_served : (T U : Type 0) (c : Admission) (first : Option (List ℕ)) (by : Admission) (s : Seen) (now : Option (List ℕ)) (faults : ℕ) → by ≡ c → now ≡ first → WorkerServed T U c first by s now faults []
+none_served T U c first by s now faults is same = record { same = is; served = λ h law fits. none_yet s.length; times = []; clock = same; clock_faults = omega arith }
+
+-- what is to be told of one more connection, as its serving tells it
+pub record OneServed (T U : Type 0) (c : Admission) (old : Seen) (now now' : Option (List ℕ)) (faults faults' : ℕ) (new : Seen) (link : ServedLink) : Type 0 where
+  pub input : List ℕ
+  pub output : List ℕ
+  pub times : List ℕ
+  pub taken : T → link.0.taken ≡ Some input
+  pub given : U → link.0.held ≡ Some output
+  pub clock : Gave now times now'
+  pub serves : Serves c old input output times link.1 new
+  pub cause : HasEndCause link.0 (length input) link.1
+  pub later : faults ≤ faults'
+  pub rose : is_clock_fault link.1 ≡ true → Rose faults faults'
+
+pub one_more_link : (T U : Type 0) (c : Admission) (first : Option (List ℕ)) (by : Admission) (now now' : Option (List ℕ)) (old new : Seen) (faults faults' : ℕ) (link : ServedLink) → OneServed T U by old now now' faults faults' new link
+    → (links : List ServedLink) → WorkerServed T U c first by old now faults links → WorkerServed T U c first by new now' faults' (links ++ link ∷ [])
+one_more_link T U c first by now now' old new faults faults' link one links w = record {
+  same = w.same;
+  served = λ h law fits. subst (λ (k : ℕ). ServedInTurn T U c first h k (links ++ link ∷ []) new.length) (sym one.serves.since.caller) (turn h law fits);
+  times = w.times ++ one.times;
+  clock = gave_more first now now' w.times one.times w.clock one.clock;
+  clock_faults = within_more links link faults faults' w.clock_faults one.later one.rose;
+}
+  where
+    here : (h : History) → IsLawful h → Fits new h → LinkServed T U c first h old.caller old.length new.length link
+    here h law fits = record {
+      input = one.input;
+      output = one.output;
+      times = one.times;
+      taken = one.taken;
+      given = one.given;
+      clock = record { earlier = w.times; before = now; after = now'; until = w.clock; then_ = one.clock };
+      served = subst (λ (a : Admission). IsServed a h old.caller old.length new.length one.input one.output one.times link.1) w.same (one.serves.served h law fits);
+      cause = one.cause;
+    }
+
+    turn : (h : History) → IsLawful h → Fits new h → ServedInTurn T U c first h old.caller (links ++ link ∷ []) new.length
+    turn h law fits = then_served link (w.served h law (one.serves.since.extends.fits h fits)) (omega arith) one.serves.since.extends.length (omega arith) (here h law fits)
+
+-- what the serving of a connection says, where it was fresh and its caller is never stopped
+pub one_served : {I O : Type 0} (taken left : I → Option (List ℕ)) (held : O → Option (List ℕ)) (c : Admission) (inlet inlet' : I) (outlet outlet' : O) (number number' reads reads' writes writes' : ℕ) (shut_number : ℕ)
+    (now now' : Option (List ℕ)) (old new : Seen) (faults faults' : ℕ) (end : Served) → AreFresh number number reads (taken inlet) number' writes (held outlet)
+    → Passes (taken inlet) (taken inlet') (left inlet) (left inlet') (held outlet) (held outlet') now now' (ServesBytes c old end new) → (end ≡ answer.End → IsAtEnd (left inlet'))
+    → ConnCauses reads reads' writes writes' 0 0 faults faults' end
+    → OneServed (AllTell taken) (AllTell held) c old now now' faults faults' new (record { number = shut_number; source_faults = reads'; sink_faults = writes'; taken = taken inlet'; left = left inlet'; held = held outlet' }, end)
+one_served taken left held c inlet inlet' outlet outlet' number number' reads reads' writes writes' shut_number now now' old new faults faults' end fresh p left_none causes = record {
+  input = p.input;
+  output = p.output;
+  times = p.times;
+  taken = λ tell. told_all (taken inlet) (taken inlet') p.input (tell inlet) fresh.none_taken p.takes;
+  given = λ tell. told_all (held outlet) (held outlet') p.output (tell outlet) fresh.none_held p.gives;
+  clock = p.ticks;
+  serves = p.so.0;
+  cause = end_cause shut reads writes faults faults' (length p.input) end left_none causes p.so.1;
+  later = causes.clock;
+  rose = clock_rose reads reads' writes writes' faults faults' end causes;
+}
+  where
+    shut : Shut
+    shut = record { number = shut_number; source_faults = reads'; sink_faults = writes'; taken = taken inlet'; left = left inlet'; held = held outlet' }

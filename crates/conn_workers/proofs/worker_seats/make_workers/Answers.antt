@@ -1,0 +1,30 @@
+use Rattle.std.proofs.Common.{◌≡◌, []}
+use Rattle.point_put.specs.Admissions.{admission}
+use Rattle.conn_workers.specs.ServedLinks.{AllTell, WorkerServed}
+use Rattle.conn_workers.proofs.WorkerLists.{none_hold, one_more_holds, same_holds}
+use Rattle.conn_workers.proofs.worker_seats.make_workers.Goals as goal
+
+pub loop-number-init : goal.loop-number-init
+loop-number-init g c = record {
+  idle = none_hold c.in_ok-workers.workers.items (λ worker. worker.ends.items ≡ []) c.in_ok-workers.ensures.items;
+  begun = none_hold c.in_ok-workers.workers.items
+      (λ worker.
+      WorkerServed (AllTell g.D.Inlet.Source.taken) (AllTell g.D.Outlet.Sink.held) g.J.ConnTerms.admission g.J.ConnTerms.moments (admission worker.work.config worker.work.rule.now.patterns) worker.work.names
+      (g.C.Clock.moments worker.work.clock) (g.C.Clock.faults worker.work.clock) [])
+      c.in_ok-workers.ensures.items;
+}
+
+pub loop-number-preserved : goal.loop-number-preserved
+loop-number-preserved g c = record {
+  idle = one_more_holds c.loop-number.workers.items c.push.new.self.items c.make.result (λ worker. worker.ends.items ≡ []) c.in_ok-push.ensures.items c.loop-number.invariant.idle c.make.ensures.none;
+  begun = one_more_holds c.loop-number.workers.items c.push.new.self.items c.make.result
+      (λ worker.
+      WorkerServed (AllTell g.D.Inlet.Source.taken) (AllTell g.D.Outlet.Sink.held) g.J.ConnTerms.admission g.J.ConnTerms.moments (admission worker.work.config worker.work.rule.now.patterns) worker.work.names
+      (g.C.Clock.moments worker.work.clock) (g.C.Clock.faults worker.work.clock) [])
+      c.in_ok-push.ensures.items c.loop-number.invariant.begun
+      (same_holds c.in_ok-work.work c.make.result.work
+      (λ work.
+      WorkerServed (AllTell g.D.Inlet.Source.taken) (AllTell g.D.Outlet.Sink.held) g.J.ConnTerms.admission g.J.ConnTerms.moments (admission work.config work.rule.now.patterns) work.names
+      (g.C.Clock.moments work.clock) (g.C.Clock.faults work.clock) [])
+      c.make.ensures.work c.in_ok-work.ensures);
+}

@@ -1,0 +1,280 @@
+-- Connections that are given back worker by worker.
+use Rattle.std.proofs.Common.{◌≡◌, ◌≢◌, ℕ, ◌+◌, ◌-◌, ◌^◌, ◌≤◌, Bool, true, false, ◌&&◌, List, [], ◌∷◌, ◌++◌, length, ◌⊎◌, inl, inr, ⊎_elim, refl, sym, subst, ap, ◌∙◌, append_assoc, append-nil, length-append, arith}
+use Rattle.std.specs.List.{sum_by}
+use Rattle.std.specs.Prelude.{Option, None, Some, Result, Ok, Err, IfOk, OnErr, is_ok, min, filter, All, Contains, map}
+use Rattle.std.proofs.lemmas.Bool.{true≢false}
+use Rattle.std.proofs.lemmas.List.Elements.{All-head, All-nil, All-push, All-tail, Contains-append_cases, Contains-append_left, Contains-append_right, filter-append}
+use Rattle.std.proofs.lemmas.List.Sums.{sum_by-cons, sum_by_push}
+use Rattle.std.proofs.lemmas.Grind.{flat_map-append}
+use mathlib.Core.List.{map-append, map-map}
+use lib.ListN.{length-map}
+use Rattle.list_lemmas.proofs.ListMembers.{here, there, not_in, pairs_in, pairs_tail, split}
+use Rattle.list_lemmas.proofs.ListParts.{pairs_front, pairs_push}
+use Rattle.tsd_io.specs.Causes.{Rose, joined}
+use Rattle.tsd_doors.specs.Links.{Counts, Shut}
+use Rattle.link_workers.specs.declared.accept_loop.AcceptEnd.{AcceptEnd}
+use Rattle.link_workers.specs.declared.accept_loop.AcceptEnd.TheVariants as accept_end
+use Rattle.link_workers.specs.Accepting.{HasReason, IsNoneLeft, links_between, lost_by}
+use Rattle.link_workers.specs.Returns.{AccountsFor, AllEnd, many_returned}
+use Rattle.cell_model.specs.Seen.{Seen}
+use Rattle.cell_model.specs.Deeds.{Extends}
+use Rattle.step_count.specs.CounterRule.{AreDifferent}
+use Rattle.step_count.proofs.CallerLemmas.{none_different, one_different, different_among}
+use Rattle.cell_store.specs.CallerViews.{numbers_of}
+use Rattle.point_put.specs.Admissions.{Admission}
+use Rattle.tsd_daemon.specs.declared.served.Served.{Served}
+use Rattle.conn_workers.specs.ServedLinks.{ServedInTurn, ServedLink, WorkerServed, clock_fault_count, is_clock_fault}
+use Rattle.site_workers.specs.GatheredLinks.{CallerLinks, Gathered, GivenBack, SiteCounts, TakenBack, callers_of, links_of}
+
+-- a list that is told, and then more
+ends_more : (a b c : Option (List Shut)) (xs ys : List Shut) → AllEnd a b xs → AllEnd b c ys → AllEnd a c (xs ++ ys)
+ends_more None b c xs ys first more = tt
+ends_more (Some all) b c xs ys first more = let then_ : c ≡ Some ((all ++ xs) ++ ys) = subst (λ (o : Option (List Shut)). AllEnd o c ys) first more in then_ ∙ ap (λ (l : List Shut). Some l) (append_assoc all xs ys)
+
+pub none_end : (a : Option (List Shut)) → AllEnd a a []
+none_end None = tt
+none_end (Some all) = ap (λ (l : List Shut). Some l) (sym (append-nil all))
+
+count_joined : (xs ys : List ServedLink) → clock_fault_count (xs ++ ys) ≡ clock_fault_count xs + clock_fault_count ys
+count_joined xs ys =
+    let test = λ (l : ServedLink). is_clock_fault l.1 in
+    ap length (filter-append test xs ys) ∙ length-append (filter test xs) (filter test ys)
+
+-- one caller more
+links_more : (callers : List CallerLinks) (k : CallerLinks) → links_of (callers ++ k ∷ []) ≡ links_of callers ++ k.links
+links_more callers k = flat_map-append (λ (k : CallerLinks). k.links) callers (k ∷ []) ∙ ap (λ l. links_of callers ++ l) (append-nil k.links)
+
+-- a caller has none of these numbers, and they with its own are among those
+pub record IsNew (numbers all : List ℕ) (caller : ℕ) : Type 0 where
+  pub different : AreDifferent (numbers ++ caller ∷ [])
+  pub among : (number : ℕ) → Contains (numbers ++ caller ∷ []) number → Contains all number
+
+-- a caller that was absorbed is new among those that were
+pub absorbed_new : (s s' w : Seen) → numbers_of s' ≡ numbers_of s ++ numbers_of w → AreDifferent (numbers_of s') → IsNew s.absorbed s'.absorbed w.caller
+absorbed_new s s' w are different = record {
+  different = pairs_front (λ a b. a ≢ b) (s.absorbed ++ w.caller ∷ []) w.absorbed (subst AreDifferent parts (pairs_tail (λ a b. a ≢ b) s'.caller s'.absorbed different));
+  among = λ number has. subst (λ (l : List ℕ). Contains l number) (sym parts) (Contains-append_left (s.absorbed ++ w.caller ∷ []) w.absorbed number has);
+}
+  where
+    behind : s'.absorbed ≡ s.absorbed ++ w.caller ∷ w.absorbed
+    behind = cc
+
+    parts : s'.absorbed ≡ (s.absorbed ++ w.caller ∷ []) ++ w.absorbed
+    parts = behind ∙ sym (append_assoc s.absorbed (w.caller ∷ []) w.absorbed)
+
+-- and the caller itself among those that it absorbed
+pub own_new : (own s : Seen) → own.caller ≡ s.caller → AreDifferent (numbers_of s) → IsNew s.absorbed (numbers_of s) own.caller
+own_new own s same different = record {
+  different = pairs_push (λ a b. a ≢ b) s.absorbed own.caller (pairs_tail (λ a b. a ≢ b) s.caller s.absorbed different) (λ number has is. pairs_in (λ a b. a ≢ b) s.caller number s.absorbed different has (sym (is ∙ same)));
+  among = λ number has. ⊎_elim
+      (λ i. there s.caller number s.absorbed i)
+      (λ i. ⊎_elim (λ (is : own.caller ≡ number). subst (Contains (numbers_of s)) (sym same ∙ is) (here s.caller s.absorbed)) (λ none. absurd (not_in number none)) (split own.caller number [] i))
+      (Contains-append_cases s.absorbed (own.caller ∷ []) number has);
+}
+
+-- nothing was given back yet
+pub none_gathered : (T U : Type 0) (c : Admission) (moments : Option (List ℕ)) (s : Seen) (numbers : List ℕ) (back : Option (List Shut)) (faults : ℕ) (ends : List Served) → ends ≡ [] → Gathered T U c moments s numbers back back faults faults ends
+none_gathered T U c moments s numbers back faults ends none = record {
+  callers = [];
+  different = none_different;
+  among = λ number has. absurd (not_in number has);
+  served = λ h law fits. All-nil (λ (k : CallerLinks). ServedInTurn T U c moments h k.caller k.links k.last);
+  given = record { doors = none_end back; ends_are = none; clock_faults = omega arith };
+}
+
+-- more was seen, and the clock's count rose
+pub gathered_later : (T U : Type 0) (c : Admission) (moments : Option (List ℕ)) (s s' : Seen) (numbers numbers' : List ℕ) (back back' : Option (List Shut)) (faults n n' : ℕ) (ends : List Served)
+    → ((number : ℕ) → Contains numbers number → Contains numbers' number) → Extends s s' → n ≤ n' → Gathered T U c moments s numbers back back' faults n ends → Gathered T U c moments s' numbers' back back' faults n' ends
+gathered_later T U c moments s s' numbers numbers' back back' faults n n' ends more_numbers later le g = record {
+  callers = g.callers;
+  different = g.different;
+  among = λ number has. more_numbers number (g.among number has);
+  served = λ h law fits. g.served h law (later.fits h fits);
+  given = record { doors = g.given.doors; ends_are = g.given.ends_are; clock_faults = more g.given.clock_faults };
+}
+  where
+    more : min (faults + clock_fault_count (links_of g.callers)) (2 ^ 64 - 1) ≤ n → min (faults + clock_fault_count (links_of g.callers)) (2 ^ 64 - 1) ≤ n'
+    more few = omega (arith, few, le)
+
+-- the connections that a worker served were given back
+pub gathered_more : {K : Type 0} (shown : K → Shut) (T U : Type 0) (c : Admission) (moments : Option (List ℕ)) (by : Admission) (s s' w : Seen) (numbers numbers' : List ℕ) (now : Option (List ℕ)) (back b b' : Option (List Shut)) (faults n n' twin : ℕ)
+    (ends ends' : List Served) (served : List (K × Served)) → IsNew numbers numbers' w.caller → Extends s s' → Extends w s' → n' ≡ joined n twin → WorkerServed T U c moments by w now twin (map (λ one. (shown one.0, one.1)) served)
+    → AllEnd b b' (map (λ one. shown one.0) served) → ends' ≡ ends ++ map (λ one. one.1) served → Gathered T U c moments s numbers back b faults n ends → Gathered T U c moments s' numbers' back b' faults n' ends'
+gathered_more {K = K} shown T U c moments by s s' w numbers numbers' now back b b' faults n n' twin ends ends' served new mine theirs rose ws backs are g = record {
+  callers = g.callers ++ one ∷ [];
+  different = subst AreDifferent (sym numbers_are) (different_among numbers (w.caller ∷ []) (callers_of g.callers) (w.caller ∷ []) new.different g.different (one_different w.caller) g.among (λ number has. has));
+  among = λ number has. new.among number (more_in number (subst (λ (l : List ℕ). Contains l number) numbers_are has));
+  served = λ h law fits. All-push (λ (k : CallerLinks). ServedInTurn T U c moments h k.caller k.links k.last) g.callers one (g.served h law (mine.fits h fits)) (ws.served h law (theirs.fits h fits));
+  given = subst (GivenBack back b' faults n' ends') (sym (links_more g.callers one)) (record {
+    doors = subst (AllEnd back b') (ap (λ l. map (λ (l : ServedLink). l.0) (links_of g.callers) ++ l) (sym (map-map (λ (l : ServedLink). l.0) pair served)) ∙ sym (map-append (λ (l : ServedLink). l.0) (links_of g.callers) links))
+        (ends_more back b b' _ _ g.given.doors backs);
+    ends_are = are ∙ ap (λ l. l ++ map (λ (o : K × Served). o.1) served) g.given.ends_are ∙ ap (λ l. map (λ (l : ServedLink). l.1) (links_of g.callers) ++ l) (sym (map-map (λ (l : ServedLink). l.1) pair served))
+        ∙ sym (map-append (λ (l : ServedLink). l.1) (links_of g.callers) links);
+    clock_faults = counts (clock_fault_count (links_of g.callers ++ links)) (clock_fault_count (links_of g.callers)) (clock_fault_count links) (count_joined (links_of g.callers) links) g.given.clock_faults ws.clock_faults;
+  });
+}
+  where
+    pair : K × Served → ServedLink
+    pair one = (shown one.0, one.1)
+
+    links : List ServedLink
+    links = map pair served
+
+    one : CallerLinks
+    one = record { caller = w.caller; last = w.length; links = links }
+
+    numbers_are : callers_of (g.callers ++ one ∷ []) ≡ callers_of g.callers ++ w.caller ∷ []
+    numbers_are = map-append (λ (k : CallerLinks). k.caller) g.callers (one ∷ [])
+
+    more_in : (number : ℕ) → Contains (callers_of g.callers ++ w.caller ∷ []) number → Contains (numbers ++ w.caller ∷ []) number
+    more_in number has = ⊎_elim (λ i. Contains-append_left numbers (w.caller ∷ []) number (g.among number i)) (λ i. Contains-append_right numbers (w.caller ∷ []) number i) (Contains-append_cases (callers_of g.callers) (w.caller ∷ []) number has)
+
+    counts : (all k j : ℕ) → all ≡ k + j → min (faults + k) (2 ^ 64 - 1) ≤ n → min j (2 ^ 64 - 1) ≤ twin → min (faults + all) (2 ^ 64 - 1) ≤ n'
+    counts all k j is few within = omega (arith, is, few, within, rose)
+
+-- a worker's connections were given back, or for want of memory none of them was
+pub gathered_either : {K X E : Type 0} (Q : Type 0) (shown : K → Shut) (T U : Type 0) (c : Admission) (moments : Option (List ℕ)) (by : Admission) (s s' w : Seen) (numbers numbers' : List ℕ) (now : Option (List ℕ)) (back b b' : Option (List Shut)) (faults n n' twin : ℕ)
+    (ends ends' : List Served) (served : List (K × Served)) (r : Result X E) → IsNew numbers numbers' w.caller → Extends s s' → Extends w s' → n' ≡ joined n twin → n ≤ n' → WorkerServed T U c moments by w now twin (map (λ one. (shown one.0, one.1)) served)
+    → IfOk r (λ _. AllEnd b b' (map (λ one. shown one.0) served)) → IfOk r (λ _. ends' ≡ ends ++ map (λ one. one.1) served) → OnErr r ((b' ≡ b) × Q × (ends' ≡ ends)) → Gathered T U c moments s numbers back b faults n ends → Gathered T U c moments s' numbers' back b' faults n' ends'
+gathered_either Q shown T U c moments by s s' w numbers numbers' now back b b' faults n n' twin ends ends' served (Ok x) new mine theirs rose later ws backs are none g = gathered_more shown T U c moments by s s' w numbers numbers' now back b b' faults n n' twin ends ends' served new mine theirs rose ws backs are g
+gathered_either Q shown T U c moments by s s' w numbers numbers' now back b b' faults n n' twin ends ends' served (Err e) new mine theirs rose later ws backs are none g =
+    subst (λ (o : Option (List Shut)). Gathered T U c moments s' numbers' back o faults n' ends') (sym none.0) (subst (Gathered T U c moments s' numbers' back b faults n') (sym none.2)
+    (gathered_later T U c moments s s' numbers numbers' back b faults n n' ends (λ number has. new.among number (Contains-append_left numbers (w.caller ∷ []) number has)) mine later g))
+
+-- ---- counts
+
+-- none was to be given back
+pub none_taken : (ends : ℕ) (counts : Counts) → TakenBack true 0 ends ends counts counts
+none_taken ends counts = record { port = refl; accepted = refl; few = omega arith; told = refl; each = λ all. omega arith }
+
+-- those of one worker were, or for want of memory none was
+pub one_taken : {K X E : Type 0} (Q : Type 0) (r : Result X E) (b : Bool) (served : List (K × Served)) (ends ends' : List Served) (x y : Counts) → b ≡ is_ok r → length served ≤ x.out → IfOk r (λ _. y ≡ many_returned (length served) x)
+    → IfOk r (λ _. ends' ≡ ends ++ map (λ one. one.1) served) → OnErr r (Q × (y ≡ x) × (ends' ≡ ends)) → TakenBack b (length served) (length ends) (length ends') x y
+one_taken {K = K} Q (Ok v) b served ends ends' x y is few counts are none =
+    let more : length ends' ≡ length ends + length served = ap length are ∙ length-append ends (map (λ (o : K × Served). o.1) served) ∙ ap (λ n. length ends + n) (length-map served (λ (o : K × Served). o.1)) in
+    subst (λ (c : Counts). TakenBack b (length served) (length ends) (length ends') x c) (sym counts) (all_of more)
+  where
+    all_of : length ends' ≡ length ends + length served → TakenBack b (length served) (length ends) (length ends') x (many_returned (length served) x)
+    all_of more = record { port = refl; accepted = omega (arith, few); few = omega arith; told = omega (arith, more); each = λ all. refl }
+one_taken Q (Err e) b served ends ends' x y is few counts are none =
+    subst (λ (c : Counts). TakenBack b (length served) (length ends) (length ends') x c) (sym none.1) (subst (λ (l : List Served). TakenBack b (length served) (length ends) (length l) x x) (sym none.2)
+    (record { port = refl; accepted = refl; few = omega arith; told = refl; each = λ all. absurd (true≢false (sym all ∙ is)) }))
+
+and_true : (a b : Bool) → (a && b) ≡ true → (a ≡ true) × (b ≡ true)
+and_true true b is = (refl, is)
+and_true false b is = absurd (true≢false (sym is))
+
+-- some, and then more
+pub more_taken : (a b : Bool) (k j e e1 e2 : ℕ) (x y z : Counts) → TakenBack a k e e1 x y → TakenBack b j e1 e2 y z → TakenBack (a && b) (k + j) e e2 x z
+more_taken a b k j e e1 e2 x y z first then_ = record {
+  port = then_.port ∙ first.port;
+  accepted = then_.accepted ∙ first.accepted;
+  few = few first.few then_.few;
+  told = told first.told then_.told;
+  each = λ both. each (first.each (and_true a b both).0) (then_.each (and_true a b both).1);
+}
+  where
+    few : x.out ≤ y.out + k → y.out ≤ z.out + j → x.out ≤ z.out + (k + j)
+    few f s = omega (arith, f, s)
+
+    told : e1 + x.returned ≡ e + y.returned → e2 + y.returned ≡ e1 + z.returned → e2 + x.returned ≡ e + z.returned
+    told f s = omega (arith, f, s)
+
+    each : y.returned ≡ x.returned + k → z.returned ≡ y.returned + j → z.returned ≡ x.returned + (k + j)
+    each f s = omega (arith, f, s)
+
+-- ---- lists of workers
+
+-- the first of a list, and the others
+pub first_holds : {X : Type 0} (xs rest : List X) (x : X) (P : X → Type 0) → xs ≡ x ∷ rest → All P xs → P x
+first_holds xs rest x P are all = All-head P x rest (subst (All P) are all)
+
+pub others_hold : {X : Type 0} (xs rest : List X) (x : X) (P : X → Type 0) → xs ≡ x ∷ rest → All P xs → All P rest
+others_hold xs rest x P are all = All-tail P x rest (subst (All P) are all)
+
+-- the same list
+pub same_list_holds : {X : Type 0} (xs ys : List X) (P : X → Type 0) → ys ≡ xs → All P xs → All P ys
+same_list_holds xs ys P same all = subst (All P) (sym same) all
+
+pub same_list_counts : {X : Type 0} (xs ys : List X) (f : X → ℕ) (n : ℕ) → ys ≡ xs → sum_by f xs ≤ n → sum_by f ys ≤ n
+same_list_counts xs ys f n same few = subst (λ (l : List _). sum_by f l ≤ n) (sym same) few
+
+-- sums over a list, of which the first was taken
+pub first_counted : {X : Type 0} (xs rest : List X) (x : X) (f : X → ℕ) → xs ≡ x ∷ rest → sum_by f xs ≡ f x + sum_by f rest
+first_counted xs rest x f are = ap (sum_by f) are ∙ sum_by-cons f x rest
+
+pub one_more_counted : {X : Type 0} (xs : List X) (x : X) (f : X → ℕ) → sum_by f (xs ++ x ∷ []) ≡ sum_by f xs + f x
+one_more_counted xs x f = sum_by_push f xs x
+
+-- some more were taken back, by their numbers under other names
+pub more_taken_as : (a b both : Bool) (k j all e e1 e2 : ℕ) (x y z : Counts) → both ≡ (a && b) → all ≡ k + j → TakenBack a k e e1 x y → TakenBack b j e1 e2 y z → TakenBack both all e e2 x z
+more_taken_as a b both k j all e e1 e2 x y z same sum first then_ = subst (λ (t : Bool). TakenBack t all e e2 x z) (sym same) (subst (λ (n : ℕ). TakenBack (a && b) n e e2 x z) (sym sum) (more_taken a b k j e e1 e2 x y z first then_))
+
+-- ---- what was seen
+
+-- nothing more was seen
+pub extends_same : (s : Seen) → Extends s s
+extends_same s = record { base = refl; length = omega arith; kept = λ place e saw. saw; fits = λ h fits. fits }
+
+pub extends_more : (s t u : Seen) → Extends s t → Extends t u → Extends s u
+extends_more s t u first then_ = record {
+  base = then_.base ∙ first.base;
+  length = le first.length then_.length;
+  kept = λ place e saw. then_.kept place e (first.kept place e saw);
+  fits = λ h fits. first.fits h (then_.fits h fits);
+}
+  where
+    le : s.length ≤ t.length → t.length ≤ u.length → s.length ≤ u.length
+    le f g = omega (arith, f, g)
+
+-- some were taken back where no end was told before, and then more
+pub taken_from_none : (a b : Bool) (k j e e1 e2 : ℕ) (x y z : Counts) → e ≡ 0 → TakenBack a k e e1 x y → TakenBack b j e1 e2 y z → TakenBack (a && b) (k + j) 0 e2 x z
+taken_from_none a b k j e e1 e2 x y z none first then_ = more_taken a b k j 0 e1 e2 x y z (subst (λ (n : ℕ). TakenBack a k n e1 x y) none first) then_
+
+-- ---- a site's connections
+
+lost : (end : AcceptEnd) → end ≡ accept_end.OutOfMemory → lost_by end ≡ 0 → ⊥
+lost end is none = let one : lost_by end ≡ 1 = ap lost_by is in omega (arith, one, none)
+
+pub counted_links : (all : Bool) (end end' : AcceptEnd) (links ends k : ℕ) (x y z : Counts) → ((all ≡ true) × (end' ≡ end)) ⊎ (end' ≡ accept_end.OutOfMemory) → links ≡ links_between x y → AccountsFor end x y k → TakenBack all k 0 ends y z → SiteCounts end' links ends x z
+counted_links all end end' links ends k x y z how are a t = record {
+  port = t.port ∙ a.port;
+  links_are = are ∙ between a.returned t.accepted;
+  returned = returned a.returned t.told;
+  all = λ none. every how none;
+}
+  where
+    between : y.returned ≡ x.returned → z.returned + z.out ≡ y.returned + y.out → links_between x y ≡ min ((z.returned + z.out) - (x.returned + x.out)) (2 ^ 64 - 1)
+    between r o = let same : y.out - x.out ≡ (z.returned + z.out) - (x.returned + x.out) = omega (arith, r, o) in ap (λ n. min n (2 ^ 64 - 1)) same
+
+    returned : y.returned ≡ x.returned → ends + y.returned ≡ 0 + z.returned → z.returned ≡ x.returned + ends
+    returned r told = omega (arith, r, told)
+
+    sum : y.returned ≡ x.returned → y.out ≡ x.out + k → z.returned + z.out ≡ y.returned + y.out → ends + y.returned ≡ 0 + z.returned → z.returned ≡ y.returned + k → z.returned + z.out ≡ x.returned + x.out + ends
+    sum r o acc told each = omega (arith, r, o, acc, told, each)
+
+    every : ((all ≡ true) × (end' ≡ end)) ⊎ (end' ≡ accept_end.OutOfMemory) → lost_by end' ≡ 0 → z.returned + z.out ≡ x.returned + x.out + ends
+    every (inl both) none = sum a.returned (a.each (sym (ap lost_by both.1) ∙ none)) t.accepted t.told (t.each both.0)
+    every (inr out) none = absurd (lost end' out none)
+
+-- an end that was given up for want of memory has no other reason
+pub reasons : (all : Bool) (end end' : AcceptEnd) (w w' w'' : Option (List (List ℕ))) (s s' f f' f'' : ℕ) → ((all ≡ true) × (end' ≡ end)) ⊎ (end' ≡ accept_end.OutOfMemory) → w'' ≡ w' → f'' ≡ f' → HasReason end w w' s s' f f' → HasReason end' w w'' s s' f f''
+reasons all end end' w w' w'' s s' f f' f'' (inl both) ws fs r = record {
+  none = λ is. subst (IsNoneLeft w) (sym ws) (r.none (sym both.1 ∙ is));
+  stopped = λ is. r.stopped (sym both.1 ∙ is);
+  fault = λ is. subst (Rose f) (sym fs) (r.fault (sym both.1 ∙ is));
+}
+reasons all end end' w w' w'' s s' f f' f'' (inr out) ws fs r = record {
+  none = λ is. absurd (other (sym is ∙ out));
+  stopped = λ is. absurd (other_stop (sym is ∙ out));
+  fault = λ is. absurd (other_fault (sym is ∙ out));
+}
+  where
+    other : accept_end.NoneLeft ≡ accept_end.OutOfMemory → ⊥
+    other is = let one : 0 ≡ 1 = ap lost_by is in omega (arith, one)
+
+    other_stop : accept_end.Stopped ≡ accept_end.OutOfMemory → ⊥
+    other_stop is = let one : 0 ≡ 1 = ap lost_by is in omega (arith, one)
+
+    other_fault : accept_end.DoorFault ≡ accept_end.OutOfMemory → ⊥
+    other_fault is = let one : 0 ≡ 1 = ap lost_by is in omega (arith, one)

@@ -1,0 +1,60 @@
+-- What the workers of one site served, caller by caller, and what their connections were given back as.
+use Rattle.std.specs.Prelude.{◌≡◌, Bool, true, ℕ, ◌+◌, ◌-◌, ◌^◌, ◌≤◌, min, All, Contains, List, map, flat_map, Option}
+use Rattle.tsd_doors.specs.Links.{Counts, Shut, accepted}
+use Rattle.link_workers.specs.declared.accept_loop.AcceptEnd.{AcceptEnd}
+use Rattle.link_workers.specs.Accepting.{lost_by}
+use Rattle.link_workers.specs.Returns.{AllEnd}
+use Rattle.cell_model.specs.History.{History}
+use Rattle.cell_model.specs.Seen.{Seen, InEach}
+use Rattle.step_count.specs.CounterRule.{AreDifferent}
+use Rattle.point_put.specs.Admissions.{Admission}
+use Rattle.tsd_daemon.specs.declared.served.Served.{Served}
+use Rattle.conn_workers.specs.ServedLinks.{ServedInTurn, ServedLink, clock_fault_count}
+
+-- the connections that one caller served, one after the other, up to a length of the history
+pub record CallerLinks : Type 0 where
+  pub caller : ℕ
+  pub last : ℕ
+  pub links : List ServedLink
+
+-- in the history each caller served its connections so
+abbrev pub AllInTurn : Type 0 → Type 0 → Admission → Option (List ℕ) → History → List CallerLinks → Type 0
+AllInTurn inlets_tell outlets_tell c moments h callers = All (λ (k : CallerLinks). ServedInTurn inlets_tell outlets_tell c moments h k.caller k.links k.last) callers
+
+-- the number of each caller
+abbrev pub callers_of : List CallerLinks → List ℕ
+callers_of callers = map (λ (k : CallerLinks). k.caller) callers
+
+-- all connections, caller by caller
+abbrev pub links_of : List CallerLinks → List ServedLink
+links_of callers = flat_map (λ (k : CallerLinks). k.links) callers
+
+-- These connections were given back to the doors, in order, and these are their ends. As often as one of them ended because the clock failed, the clock's count
+-- rose, unless it stands at the last u64.
+pub record GivenBack (back back' : Option (List Shut)) (faults faults' : ℕ) (ends : List Served) (links : List ServedLink) : Type 0 where
+  pub doors : AllEnd back back' (map (λ (l : ServedLink). l.0) links)
+  pub ends_are : ends ≡ map (λ (l : ServedLink). l.1) links
+  pub clock_faults : min (faults + clock_fault_count links) (2 ^ 64 - 1) ≤ faults'
+
+-- In each lawful history that fits what was seen, these connections were served, each by one of some callers, of which no two are one. Their numbers are among these.
+pub record Gathered (inlets_tell outlets_tell : Type 0) (c : Admission) (moments : Option (List ℕ)) (s : Seen) (numbers : List ℕ) (back back' : Option (List Shut)) (faults faults' : ℕ) (ends : List Served) : Type 0 where
+  pub callers : List CallerLinks
+  pub different : AreDifferent (callers_of callers)
+  pub among : (number : ℕ) → Contains (callers_of callers) number → Contains numbers number
+  pub served : InEach s (λ h. AllInTurn inlets_tell outlets_tell c moments h callers)
+  pub given : GivenBack back back' faults faults' ends (links_of callers)
+
+-- Of so many connections that were out, all were given back, or for want of memory some. As many ends were added as connections were given back.
+pub record TakenBack (all : Bool) (count ends ends' : ℕ) (before now : Counts) : Type 0 where
+  pub port : now.port ≡ before.port
+  pub accepted : now.returned + now.out ≡ before.returned + before.out
+  pub few : before.out ≤ now.out + count
+  pub told : ends' + before.returned ≡ ends + now.returned
+  pub each : all ≡ true → now.returned ≡ before.returned + count
+
+-- So many connections were accepted, up to the last u64. As many were given back as there are ends, and unless memory ran out these were all.
+pub record SiteCounts (end : AcceptEnd) (links ends : ℕ) (before now : Counts) : Type 0 where
+  pub port : now.port ≡ before.port
+  pub links_are : links ≡ min (accepted now - accepted before) (2 ^ 64 - 1)
+  pub returned : now.returned ≡ before.returned + ends
+  pub all : lost_by end ≡ 0 → accepted now ≡ accepted before + ends

@@ -1,5 +1,0 @@
-use Rattle.std.specs.Prelude.{length}
-use Rattle.tsd_fleet.proofs.row_compactor.add_rows.Given as goal
-
-abbrev pub decreases-loop-stored : goal.decreases-loop-stored
-decreases-loop-stored l = length l.sent
