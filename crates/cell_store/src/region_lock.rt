@@ -153,11 +153,12 @@ fn hand_over(region: Region, own: Licence, pass: &mut Pass, regions: &mut Vec<Re
 }
 
 // How often a lock is tried before its caller sleeps.
-const TRIES: u32 = 60;
+const TRIES: u32 = 10;
 
-/// Takes the lock, and sleeps only where it was tried in vain for some 20 microseconds. Who holds it mostly gives it back within one, but
+/// Takes the lock, and sleeps only where it was tried in vain for some 10 microseconds. Who holds it mostly gives it back within one, but
 /// where a caller sleeps, a call of the system has to wake it, and all who come meanwhile sleep too. The pauses between the tries grow,
-/// since each try takes the lock's cache line from the holder.
+/// since each try takes the lock's cache line from the holder, and the region's other lines go with it: who waits longer lets the holder
+/// make more steps while they are its own.
 fn locked<'a, H, T: Wait>(lock: &'a Mutex<H>, rt: &T) -> MutexGuard<'a, H> {
     let backoff = Backoff::new();
     for _ in 0..TRIES {

@@ -59,7 +59,7 @@ rises_insert cells i q v n rises gap a b lt within d = at (tri a i) (tri b i)
     at (inr (inr p)) (inr (inr r)) = both _ _ _ _ (above cells i _ d a p gap.in_range) (above cells i _ d b r gap.in_range) (rises (a - 1) (b - 1) (omega arith) (omega (arith, inside)) d)
 
 -- an edit that leaves the qualifier leaves the order
-qual_after : (cells : List Cell) (i : ℕ) (x : Cell) → i < length cells → ((d : Cell) → x.qual ≡ (slice_index_or cells i d).qual) → (k : ℕ) (d : Cell) → (slice_index_or (slice_set cells i x) k d).qual ≡ (slice_index_or cells k d).qual
+pub qual_after : (cells : List Cell) (i : ℕ) (x : Cell) → i < length cells → ((d : Cell) → x.qual ≡ (slice_index_or cells i d).qual) → (k : ℕ) (d : Cell) → (slice_index_or (slice_set cells i x) k d).qual ≡ (slice_index_or cells k d).qual
 qual_after cells i x lt same k d = at (tri k i)
   where
     at : (k < i) ⊎ ((k ≡ i) ⊎ (i < k)) → (slice_index_or (slice_set cells i x) k d).qual ≡ (slice_index_or cells k d).qual

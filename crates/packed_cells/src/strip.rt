@@ -3,7 +3,7 @@ ghost use Rattle.std.specs.Prelude.{◌≡◌, ◌⊎◌, ◌≤◌, ◌<◌, �
 ghost use Rattle.std.specs.List.{remove as without};
 ghost use Rattle.packed_cells.specs.Packed.{stamped_at};
 ghost use Rattle.packed_cells.specs.Seeks.{IsBehindLast, IsCellAt, IsLastStamped};
-ghost use Rattle.packed_cells.specs.Strips.{slot_cell};
+ghost use Rattle.packed_cells.specs.Strips.{slot_cell, slot_cells, EndsWith};
 ghost use Rattle.qual_codec.specs.declared.cells.Cell.{Cell};
 
 use crate::room::place;
@@ -23,19 +23,25 @@ struct Slot<V> {
 
 /// Cells by index, each with a qualifier of two bytes and a small value. A cell takes 8 bytes beside these, and one for the
 /// length of its value.
+///
+/// The qualifier of the last cell stands beside them too. Most cells are put behind it, and then nothing of the cells is read, whose
+/// memory seldom is in the processor's caches.
 #[derive(Drop)]
 pub struct Strip<V: SmallValue> {
     slots: Vec<Slot<V>>,
+    last: [u8; 2],
 }
 
 impl<V: SmallValue> Model for Strip<V> {
     ghost use Rattle.std.specs.Prelude.{List};
     ghost use Rattle.qual_codec.specs.declared.cells.Cell.{Cell};
-    ghost use Rattle.packed_cells.specs.Strips.{slot_cells};
+    ghost use Rattle.packed_cells.specs.Strips.{slot_cells, EndsWith};
 
     ghost Value = { List Cell };
 
     ghost view = { λ s. slot_cells V.bytes s.slots.items };
+
+    ghost invariant = { λ s. EndsWith s.last (slot_cells V.bytes s.slots.items) };
 }
 
 // A slot for this cell, if it suits.
@@ -53,6 +59,16 @@ fn slot_of<V: SmallValue>(qual: &[u8], value: &[u8], version: u64) -> Option<Slo
     })
 }
 
+// The qualifier of the last slot, if there is one.
+fn last_of<V: SmallValue>(slots: &Vec<Slot<V>>) -> [u8; 2]
+    ensures { EndsWith result (slot_cells V.bytes slots.now.items) }
+{
+    match slots.last() {
+        Some(slot) => slot.qual,
+        None => [0; 2],
+    }
+}
+
 impl<V: SmallValue> Strip<V> {
     /// No cells.
     pub fn make(alloc: Global) -> Strip<V>
@@ -60,6 +76,7 @@ impl<V: SmallValue> Strip<V> {
     {
         Strip {
             slots: Vec::new(alloc),
+            last: [0; 2],
         }
     }
 
@@ -118,6 +135,7 @@ impl<V: SmallValue> Strip<V> {
             return Ok(false);
         };
         place(&mut self.slots, i, slot)?;
+        self.last = last_of(&self.slots);
         Ok(true)
     }
 
@@ -134,7 +152,11 @@ impl<V: SmallValue> Strip<V> {
         if self.slots.len() == self.slots.capacity() || !self.ends_before(slot.qual) {
             return false;
         }
-        self.slots.push(slot).is_ok()
+        if self.slots.push(slot).is_err() {
+            return false;
+        }
+        self.last = slot.qual;
+        true
     }
 
     // Whether there is a last cell, and its qualifier is before this one.
@@ -142,10 +164,7 @@ impl<V: SmallValue> Strip<V> {
     fn ends_before(&self, two: [u8; 2]) -> bool
         ensures { IsTrue result → IsBehindLast two self.now }
     {
-        match self.slots.last() {
-            Some(last) => order_two(two, last.qual).is_gt(),
-            None => false,
-        }
+        !self.slots.is_empty() && order_two(two, self.last).is_gt()
     }
 
     /// Writes another cell over the one at `i`, and answers whether it suits: one that doesn't isn't written.
@@ -160,6 +179,7 @@ impl<V: SmallValue> Strip<V> {
         match slot_of(qual, value, version) {
             Some(slot) => {
                 self.slots[i] = slot;
+                self.last = last_of(&self.slots);
                 true
             }
             None => false,
@@ -172,11 +192,7 @@ impl<V: SmallValue> Strip<V> {
         requires { i < length self.old }
         ensures { (d : Cell) → self.new ≡ slice_set self.old i (stamped_at (slice_index_or self.old i d) version) }
     {
-        let slot = self.slots[i];
-        self.slots[i] = Slot {
-            version: version.to_le_bytes(),
-            ..slot
-        };
+        self.slots[i].version = version.to_le_bytes();
     }
 
     /// Sets the version of the last cell, if it has this qualifier, and answers whether it has.
@@ -201,10 +217,7 @@ impl<V: SmallValue> Strip<V> {
     fn ends_with(&self, two: [u8; 2]) -> bool
         ensures { IsTrue result → IsCellAt two self.now (length self.now - 1) }
     {
-        match self.slots.last() {
-            Some(last) => order_two(two, last.qual).is_eq(),
-            None => false,
-        }
+        !self.slots.is_empty() && order_two(two, self.last).is_eq()
     }
 
     /// Takes the cell at `i` out.
@@ -213,6 +226,7 @@ impl<V: SmallValue> Strip<V> {
         ensures { self.new ≡ without self.old i }
     {
         let _ = self.slots.remove(i);
+        self.last = last_of(&self.slots);
     }
 
     /// The same cells once more. It fails only for want of memory.
@@ -221,6 +235,7 @@ impl<V: SmallValue> Strip<V> {
     {
         Ok(Strip {
             slots: Vec::from_slice(alloc, self.slots.as_slice())?,
+            last: self.last,
         })
     }
 }

@@ -43,7 +43,7 @@ pub fn store<R: Rows + Drop>(
 }
 
 /// Puts a point in the row where it is placed.
-#[inline]
+#[inline(always)]
 pub fn store_placed<R: Rows + Drop>(
     names: &mut Uids<R>,
     alloc: Global,

@@ -17,7 +17,7 @@ fn points_of(alloc: Global, base: u32, dots: &[Dot]) -> Result<Dots, AllocError>
     requires { AllPairs (λ d e. d.item.offset < e.item.offset) dots.now }
     ensures { IfOk result (λ points. points ≡ map (dot_at base) dots.now) }
 {
-    let mut points = Dots::make(alloc);
+    let mut points = Dots::with_room(alloc, dots.len())?;
     for dot in dots {
         points.push(base as u64 * 1000 + dot.item.offset as u64, dot.value)?;
     }
@@ -52,7 +52,7 @@ fn rising_points(
 ) -> Result<Option<Dots>, AllocError>
     ensures { IfOk result (λ answer. IfSome answer (KeepsPoints cells.now base first last)) }
 {
-    let mut points = Dots::make(alloc);
+    let mut points = Dots::with_room(alloc, cells.len())?;
     let mut least = 0;
     for i in 0..cells.len() {
         let cell = cells.cell(i);

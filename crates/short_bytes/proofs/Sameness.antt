@@ -29,7 +29,7 @@ numbers_tie xs ys m n there back = sym (at (nat_eq m n) refl)
         not_same false h = refl
         not_same true h = absurd (unequal_numbers m n (sym e) (back (same_list xs ys (texts_ties xs ys ∙ sym h))))
 
-below_base : (xs : List ℕ) → AllBelowBase 256 xs → (i : ℕ) → get_or xs i 0 < 256
+pub below_base : (xs : List ℕ) → AllBelowBase 256 xs → (i : ℕ) → get_or xs i 0 < 256
 below_base [] h i = omega arith
 below_base (x ∷ xs) h zero = h.0
 below_base (x ∷ xs) h (suc i) = below_base xs h.1 i

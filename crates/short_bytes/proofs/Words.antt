@@ -3,7 +3,7 @@ use Rattle.std.proofs.Common.{◌≡◌, ◌≤◌, ℕ, ◌+◌, ◌*◌, ◌<�
 use Rattle.std.proofs.Math.Seq.{take-add}
 use Rattle.std.proofs.Math.ListN.{drop_of_length-le}
 use Rattle.std.proofs.lemmas.List.{drop-drop, length-take, take-append-drop}
-use Rattle.std.proofs.lemmas.Cmp.{ranked, tied_itself, nat_list_cmp_total}
+use Rattle.std.proofs.lemmas.Cmp.{ranked}
 use Rattle.std.specs.Cmp.{nat_cmp_is}
 use Rattle.std.specs.Cmp.Lexicographic.{pointwise, texts_ties}
 use Rattle.std.specs.Int.Digits.{AllBelowBase, number_from_digits, number_from_digits_after}
@@ -73,15 +73,23 @@ front n xs ys lx ly =
     let e = parts (take n xs) (take n ys) (drop n xs) (drop n ys) (omega (arith, lx, ly, length-take n xs, length-take n ys)) in
     sym (λ i. bytes_cmp (take-append-drop n xs i) (take-append-drop n ys i)) ∙ e
 
--- the order of eight bytes from a place on
+-- the order of so many bytes from a place on
+abbrev pub at_part : ℕ → ℕ → List ℕ → List ℕ → Ordering
+at_part k at xs ys = bytes_cmp (take k (drop at xs)) (take k (drop at ys))
+
+-- and of eight
 abbrev pub at_eight : ℕ → List ℕ → List ℕ → Ordering
-at_eight at xs ys = bytes_cmp (take 8 (drop at xs)) (take 8 (drop at ys))
+at_eight at xs ys = at_part 8 at xs ys
+
+one_part : (k at : ℕ) (xs ys : List ℕ) → at + k ≤ length xs → at + k ≤ length ys
+    → bytes_cmp (drop at xs) (drop at ys) ≡ ordering_then (at_part k at xs ys) (bytes_cmp (drop (at + k) xs) (drop (at + k) ys))
+one_part k at xs ys lx ly =
+    let e = front k (drop at xs) (drop at ys) (omega (arith, lx, length-drop at xs)) (omega (arith, ly, length-drop at ys)) in
+    e ∙ (λ i. ordering_then (at_part k at xs ys) (bytes_cmp (drop-drop k at xs i) (drop-drop k at ys i)))
 
 pub one_word : (at : ℕ) (xs ys : List ℕ) → at + 8 ≤ length xs → at + 8 ≤ length ys
     → bytes_cmp (drop at xs) (drop at ys) ≡ ordering_then (at_eight at xs ys) (bytes_cmp (drop (at + 8) xs) (drop (at + 8) ys))
-one_word at xs ys lx ly =
-    let e = front 8 (drop at xs) (drop at ys) (omega (arith, lx, length-drop at xs)) (omega (arith, ly, length-drop at ys)) in
-    e ∙ (λ i. ordering_then (at_eight at xs ys) (bytes_cmp (drop-drop 8 at xs i) (drop-drop 8 at ys i)))
+one_word at xs ys lx ly = one_part 8 at xs ys lx ly
 
 -- the last two words have bytes in common: the six bytes before them, those, and the bytes behind them
 shared : (a b c : Ordering) → ordering_then (ordering_then a b) c ≡ ordering_then (ordering_then a b) (ordering_then b c)
@@ -142,17 +150,29 @@ word_decides at xs ys lx ly e = decided (at_eight at xs ys) (bytes_cmp (drop (at
 
 -- ---- whether blocks are the same
 
-both_tied : (a b : Ordering) → (is_eq a && is_eq b) ≡ is_eq (ordering_then a b)
-both_tied Less b = refl
-both_tied Equal b = refl
-both_tied Greater b = refl
+-- eight bytes three times, four and two are all
+parts_order : (xs ys : List ℕ) → length xs ≡ 30 → length ys ≡ 30
+    → bytes_cmp xs ys ≡ ordering_then (at_eight 0 xs ys) (ordering_then (at_eight 8 xs ys) (ordering_then (at_eight 16 xs ys) (ordering_then (at_part 4 24 xs ys) (at_part 2 28 xs ys))))
+parts_order xs ys lx ly =
+    let none : (zs : List ℕ) → length zs ≡ 30 → drop 30 zs ≡ [] = λ zs l. drop_of_length-le zs {i = 30} (omega (arith, l)) in
+    let last : bytes_cmp (drop 28 xs) (drop 28 ys) ≡ at_part 2 28 xs ys = one_part 2 28 xs ys (omega (arith, lx)) (omega (arith, ly)) ∙ (λ i. ordering_then (at_part 2 28 xs ys) (bytes_cmp (none xs lx i) (none ys ly i))) ∙ then_equal (at_part 2 28 xs ys) in
+    let four = one_part 4 24 xs ys (omega (arith, lx)) (omega (arith, ly)) ∙ ap (ordering_then (at_part 4 24 xs ys)) last in
+    let third = one_word 16 xs ys (omega (arith, lx)) (omega (arith, ly)) ∙ ap (ordering_then (at_eight 16 xs ys)) four in
+    let second = one_word 8 xs ys (omega (arith, lx)) (omega (arith, ly)) ∙ ap (ordering_then (at_eight 8 xs ys)) third in
+    one_word 0 xs ys (omega (arith, lx)) (omega (arith, ly)) ∙ ap (ordering_then (at_eight 0 xs ys)) second
+
+all_tied : (a b c d e : Ordering) → ((((is_eq a && is_eq b) && is_eq c) && is_eq d) && is_eq e) ≡ is_eq (ordering_then a (ordering_then b (ordering_then c (ordering_then d e))))
+all_tied Equal Equal Equal Equal e = refl
+all_tied Equal Equal Equal Less e = refl
+all_tied Equal Equal Equal Greater e = refl
+all_tied Equal Equal Less d e = refl
+all_tied Equal Equal Greater d e = refl
+all_tied Equal Less c d e = refl
+all_tied Equal Greater c d e = refl
+all_tied Less b c d e = refl
+all_tied Greater b c d e = refl
 
 pub blocks_same : (xs ys : List ℕ) → length xs ≡ 30 → length ys ≡ 30
-    → (((is_eq (at_eight 0 xs ys) && is_eq (at_eight 8 xs ys)) && is_eq (at_eight 16 xs ys)) && is_eq (at_eight 22 xs ys)) ≡ pointwise nat_eq xs ys
+    → ((((is_eq (at_eight 0 xs ys) && is_eq (at_eight 8 xs ys)) && is_eq (at_eight 16 xs ys)) && is_eq (at_part 4 24 xs ys)) && is_eq (at_part 2 28 xs ys)) ≡ pointwise nat_eq xs ys
 blocks_same xs ys lx ly =
-    let a = at_eight 0 xs ys in
-    let b = at_eight 8 xs ys in
-    let c = at_eight 16 xs ys in
-    let d = at_eight 22 xs ys in
-    let order = ap (λ o. ordering_then o d) (sym (then_assoc a b c)) ∙ sym (then_assoc a (ordering_then b c) d) ∙ ap (ordering_then a) (sym (then_assoc b c d)) ∙ sym (blocks_order xs ys lx ly) in
-    ap (λ t. (t && is_eq c) && is_eq d) (both_tied a b) ∙ ap (λ t. t && is_eq d) (both_tied (ordering_then a b) c) ∙ both_tied (ordering_then (ordering_then a b) c) d ∙ ap is_eq order ∙ sym (texts_ties xs ys)
+    all_tied (at_eight 0 xs ys) (at_eight 8 xs ys) (at_eight 16 xs ys) (at_part 4 24 xs ys) (at_part 2 28 xs ys) ∙ ap is_eq (sym (parts_order xs ys lx ly)) ∙ sym (texts_ties xs ys)

@@ -5,7 +5,7 @@ ghost use Rattle.std.specs.Ordering.{nat_cmp};
 ghost use Rattle.std.specs.Cmp.Lexicographic.{slice_cmp, pointwise};
 ghost use Rattle.short_bytes.specs.Kept.{IsFilled};
 
-use crate::loads::same_eight;
+use crate::loads::{same_eight, same_four, same_two};
 use std::cmp::Ordering;
 
 /// Eight bytes as one number, of which the first byte counts most.
@@ -74,7 +74,7 @@ pub(crate) fn order_filled(
     len.cmp(&other_len)
 }
 
-/// Whether two blocks are the same, by words as in `order_blocks`. It has no branches.
+/// Whether two blocks are the same. It has no branches, and no two numbers share a byte: then each is compiled into one load.
 #[inline(always)]
 fn same_blocks(one: &[u8; 30], other: &[u8; 30]) -> bool
     ensures { result ≡ pointwise nat_eq one.now other.now }
@@ -82,7 +82,8 @@ fn same_blocks(one: &[u8; 30], other: &[u8; 30]) -> bool
     same_eight(one, other, 0)
         & same_eight(one, other, 8)
         & same_eight(one, other, 16)
-        & same_eight(one, other, 22)
+        & same_four(one, other, 24)
+        & same_two(one, other, 28)
 }
 
 /// Whether the bytes that count of two blocks are the same.

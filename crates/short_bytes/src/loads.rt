@@ -1,9 +1,10 @@
-//! Whether bytes of two lists are the same, compared as numbers.
-ghost use Rattle.std.specs.Prelude.{◌≡◌, ◌+◌, ◌≤◌, length, take, drop};
+//! Bytes of lists as numbers, and whether those of two lists are the same.
+ghost use Rattle.std.specs.Prelude.{◌≡◌, ◌+◌, ◌≤◌, length, take, drop, IfSome};
 ghost use Rattle.std.specs.Int.{w16, w32, w64, from_le_bytes};
 ghost use Rattle.std.specs.Int.Digits.{AllBelowBase};
 ghost use Rattle.std.specs.Ordering.{is_eq, nat_cmp};
 ghost use Rattle.std.specs.Cmp.Lexicographic.{slice_cmp};
+ghost use Rattle.short_bytes.specs.Kept.{IsSpelled};
 
 /// Eight bytes as one number, of which the first byte counts least. It is compiled into one load.
 #[inline(always)]
@@ -69,4 +70,18 @@ pub(crate) fn same_two(one: &[u8], other: &[u8], at: usize) -> bool
     ensures { result ≡ is_eq (slice_cmp nat_cmp (take 2 (drop at one.now)) (take 2 (drop at other.now))) }
 {
     two(one, at) == two(other, at)
+}
+
+/// The word that 1, 2, 4 or 8 bytes spell, filled up with zeros. No other number of bytes is spelled.
+#[inline(always)]
+pub(crate) fn word_of(bytes: &[u8]) -> Option<u64>
+    ensures { IfSome result (λ word. IsSpelled bytes.now word) }
+{
+    match bytes.len() {
+        1 => Some(u64::from(bytes[0])),
+        2 => Some(u64::from(two(bytes, 0))),
+        4 => Some(u64::from(four(bytes, 0))),
+        8 => Some(eight(bytes, 0)),
+        _ => None,
+    }
 }

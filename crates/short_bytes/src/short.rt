@@ -2,9 +2,11 @@
 ghost use Rattle.std.specs.Prelude.{◌≡◌, ◌≤◌, [], length, nat_eq, IfOk, IsOk};
 ghost use Rattle.std.specs.Ordering.{nat_cmp};
 ghost use Rattle.std.specs.Cmp.Lexicographic.{slice_cmp, pointwise};
+ghost use Rattle.short_bytes.specs.Kept.{IsSpelled};
 
 use crate::blocks::{order_filled, order_lists, same_filled};
 use crate::fills::fill;
+use crate::loads::word_of;
 use std::alloc::{AllocError, Global};
 use std::cmp::Ordering;
 use std::fmt;
@@ -73,26 +75,23 @@ impl Bytes {
         requires { length bytes.now ≤ 30 }
         ensures { result ≡ bytes.now }
     {
-        match bytes.len() {
-            2 => Bytes::exactly(bytes, 2),
-            4 => Bytes::exactly(bytes, 4),
-            _ => Bytes::filled(bytes),
+        match word_of(bytes) {
+            Some(word) => Bytes::of_word(bytes, word),
+            None => Bytes::filled(bytes),
         }
     }
 
-    // Where the length is known as it is compiled, the block is written in place.
+    // The bytes that a word spells. It is written at once, whatever their number, so that nothing has to be copied behind it.
     #[inline(always)]
-    fn exactly(bytes: &[u8], n: usize) -> Bytes
-        requires { (length bytes.now ≡ n) × (n ≤ 30) }
+    fn of_word(bytes: &[u8], word: u64) -> Bytes
+        requires { IsSpelled bytes.now word }
         ensures { result ≡ bytes.now }
     {
+        let len = bytes.len() as u8;
         let mut block = [0u8; 30];
-        block[..n].copy_from_slice(&bytes[..n]);
+        block[..8].copy_from_slice(&word.to_le_bytes());
         Bytes {
-            kept: Kept::Short {
-                len: n as u8,
-                block,
-            },
+            kept: Kept::Short { len, block },
         }
     }
 

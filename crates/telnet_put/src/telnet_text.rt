@@ -45,7 +45,7 @@ fn behind_put(text: &[u8]) -> Option<&[u8]>
 }
 
 /// The command of a text, by its first word.
-#[inline(never)]
+#[inline(always)]
 fn read_words(text: &[u8]) -> Command<'_>
     ensures { request_of result ≡ request_of_words (words_of text.now) }
 {

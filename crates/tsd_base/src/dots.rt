@@ -1,5 +1,5 @@
 //! The points of one series in order of time.
-ghost use Rattle.std.specs.Prelude.{◌≡◌, ◌<◌, [], ◌∷◌, ◌++◌, All, OnOk, OnErr};
+ghost use Rattle.std.specs.Prelude.{◌≡◌, ◌<◌, [], ◌∷◌, ◌++◌, All, IfOk, OnOk, OnErr};
 ghost use Rattle.tsd_base.specs.Dots.{IsRising, IsAboveAll};
 
 use std::alloc::{AllocError, Global};
@@ -32,6 +32,15 @@ impl Dots {
         Dots {
             list: Vec::new(alloc),
         }
+    }
+
+    /// No points, with room for so many, which no push then has to make. It fails only for want of memory.
+    pub fn with_room(alloc: Global, room: usize) -> Result<Dots, AllocError>
+        ensures { IfOk result (λ dots. dots ≡ []) }
+    {
+        Ok(Dots {
+            list: Vec::with_capacity(alloc, room)?,
+        })
     }
 
     /// Adds a point behind the last one. It fails only for want of memory, and then nothing changes.

@@ -26,7 +26,7 @@ pub struct TextParts<'a> {
 }
 
 /// The parts of a text, where its second word is a time and its third one a value. No name in it is read.
-#[inline]
+#[inline(always)]
 pub fn parts_of(text: &[u8]) -> Option<TextParts<'_>>
     ensures { IfSome result (HasTextParts text.now) }
 {
