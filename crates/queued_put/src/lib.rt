@@ -5,4 +5,4 @@ pub mod queued_point;
 pub mod queued_text;
 
 pub use queued_point::put_queued;
-pub use queued_text::put_text_queued;
+pub use queued_text::queue_stored;

@@ -6,15 +6,16 @@ use Rattle.tsd_base.specs.Points.{DataPoint, FailsPoint, point_of}
 use Rattle.tsd_base.specs.declared.kinds.Kind.{Kind}
 use Rattle.tsd_base.specs.declared.points.PointFault.{PointFault}
 use Rattle.tsd_base.specs.declared.points.PointFault.TheVariants as fault
+use Rattle.row_key.specs.declared.tables.Table.TheVariants.{Points}
 use Rattle.cell_model.specs.declared.answers.RowsFault.{RowsFault}
 use Rattle.cell_model.specs.declared.answers.Stored.{Stored}
 use Rattle.cell_model.specs.declared.events.Placed.{Placed}
 use Rattle.cell_model.specs.History.{History, first}
 use Rattle.cell_model.specs.Layout.{names_of}
-use Rattle.cell_model.specs.Seen.{Seen}
+use Rattle.cell_model.specs.Seen.{Seen, IsPossible}
 use Rattle.cell_model.specs.Deeds.{Made, deeds}
 use Rattle.compactor.specs.Queues.{HasRows}
-use Rattle.compactor.proofs.CallerLemmas.{rows_none}
+use Rattle.compactor.proofs.CallerLemmas.{added_row, rows_none}
 use Rattle.point_put.specs.Admissions.{Admission}
 use Rattle.point_put.specs.Entries.{ForName, ForNames}
 use Rattle.point_put.specs.Entries.ForNames.{nil, more}
@@ -23,7 +24,10 @@ use Rattle.point_put.specs.declared.fault.TextFault.TheVariants.{Unread, Unput}
 use Rattle.point_put.specs.declared.fault.PutFault.{PutFault}
 use Rattle.point_put.specs.declared.fault.PutFault.TheVariants.{Unknown, Filtered, Exhausted, OutOfMemory, Stopped}
 use Rattle.point_put.specs.PutPoint.{PointAsked, PutSays}
-use Rattle.queued_put.specs.QueuedPuts.{FailsQueued, FailsTextQueued, PutsQueued, PutsTextQueued}
+use Rattle.point_put.specs.StoredTexts.{stored_at}
+use Rattle.point_put.specs.TextPuts.{TextSays}
+use Rattle.point_put.specs.declared.stored_text.StoredText.{StoredText}
+use Rattle.queued_put.specs.QueuedPuts.{WasAdded}
 use Rattle.telnet_put.specs.Requests.Request.{Put}
 use Rattle.queued_put.proofs.CallerLemmas.{may_have}
 use Rattle.tsd_daemon.specs.declared.counts.Counts.{Counts}
@@ -34,7 +38,7 @@ use Rattle.tsd_daemon.specs.ConnReplies.{IsTold, fixed_reply, put_line}
 use Rattle.tsd_daemon.specs.ConnRequests.{ConnRequest, point_asked}
 use Rattle.tsd_daemon.specs.ConnRequests.ConnRequest.{Telnet}
 use Rattle.tsd_daemon.specs.Exchanges.{BegunBy}
-use Rattle.tsd_daemon.specs.PutAnswers.{IsRefusal, IsUnread, put_of}
+use Rattle.tsd_daemon.specs.PutAnswers.{IsDenial, IsRefusal, IsUnread, put_of}
 use Rattle.tsd_daemon.specs.Talks.{Replied, WasBegun, counted_put}
 
 -- the request that puts a point
@@ -52,12 +56,7 @@ point_replied c counts point old new before after outcome reply stored (own, mad
   how_is = refl;
 }
 
-accepted_replied : (c : Admission) (counts : Counts) (point : DataPoint) (old new : Seen) (before after : List Stored) (answer : Answer) → PutsQueued c point old before new after → answer.reply.items ≡ [] → answer.counted ≡ counted.Accepted
-    → Replied c counts None (point_put_of point) old before answer.reply.items answer.counted new after
-accepted_replied c counts point old new before after answer p quiet how =
-    subst (λ (how : Counted). Replied c counts None (point_put_of point) old before answer.reply.items how new after) (sym how) (point_replied c counts point old new before after (Ok p.stored) answer.reply.items (p.stored ∷ []) p.says (quiet, refl) p.rows)
-
-refusal_replied : (c : Admission) (counts : Counts) (point : DataPoint) (old new : Seen) (queue : List Stored) (fault : PutFault) (reply : List ℕ) → FailsQueued c point old fault new → IsRefusal fault reply
+refusal_replied : (c : Admission) (counts : Counts) (point : DataPoint) (old new : Seen) (queue : List Stored) (fault : PutFault) (reply : List ℕ) → PutSays c point old (Err fault) new → IsRefusal fault reply
     → Replied c counts None (point_put_of point) old queue reply counted.Refused new queue
 refusal_replied c counts point old new queue (Unknown kind name) reply says told = point_replied c counts point old new queue queue (Err (Unknown kind name)) reply [] says told (rows_none queue)
 refusal_replied c counts point old new queue (Filtered kind name) reply says told = point_replied c counts point old new queue queue (Err (Filtered kind name)) reply [] says told (rows_none queue)
@@ -65,43 +64,26 @@ refusal_replied c counts point old new queue (Exhausted kind) reply says told = 
 refusal_replied c counts point old new queue OutOfMemory reply says told = absurd told
 refusal_replied c counts point old new queue Stopped reply says told = absurd told
 
-refused_replied : (c : Admission) (point : DataPoint) (old new : Seen) (before after : List Stored) (fault : PutFault) (r : Result Answer RowsFault) → FailsQueued c point old fault new → after ≡ before
-    → IfOk r (λ answer. IsRefusal fault answer.reply.items) → IfOk r (λ answer. answer.counted ≡ counted.Refused)
-    → IfOk r (λ answer. (counts : Counts) → Replied c counts None (point_put_of point) old before answer.reply.items answer.counted new after)
-refused_replied c point old new before after fault (Err e) says same told how = tt
-refused_replied c point old new before after fault (Ok answer) says same told how = λ counts.
-    subst (λ (how : Counted). Replied c counts None (point_put_of point) old before answer.reply.items how new after) (sym how)
-    (subst (λ (queue : List Stored). Replied c counts None (point_put_of point) old before answer.reply.items counted.Refused new queue) (sym same) (refusal_replied c counts point old new before fault answer.reply.items says told))
-
 -- whatever came of it, it was begun
-failed_begun : (c : Admission) (point : DataPoint) (old new : Seen) (before after : List Stored) (fault : PutFault) → FailsQueued c point old fault new → after ≡ before → WasBegun c None (point_put_of point) old before new after
-failed_begun c point old new before after fault says same = at fault says
-  where
-    begun : (outcome : Result Stored PutFault) → PutSays c point old outcome new → WasBegun c None (point_put_of point) old before new after
-    begun outcome (own, made, asked) = record {
-      since = made.since;
-      begun = λ h l f. (refl, (outcome, subst (λ own. PointAsked c point (first new.length h) own outcome) (sym (made.made h f)) (asked h l f)));
-      rows = λ h l f. may_have before [] after (deeds h old.caller old.length new.length) (subst (λ (queue : List Stored). HasRows before [] queue) (sym same) (rows_none before));
-    }
-
-    at : (fault : PutFault) → FailsQueued c point old fault new → WasBegun c None (point_put_of point) old before new after
-    at (Unknown kind name) says = begun (Err (Unknown kind name)) says
-    at (Filtered kind name) says = begun (Err (Filtered kind name)) says
-    at (Exhausted kind) says = begun (Err (Exhausted kind)) says
-    at OutOfMemory (outcome, says) = begun outcome says
-    at Stopped says = begun (Err Stopped) says
+asked_begun : (c : Admission) (point : DataPoint) (old new : Seen) (queue : List Stored) (outcome : Result Stored PutFault) → PutSays c point old outcome new → WasBegun c None (point_put_of point) old queue new queue
+asked_begun c point old new queue outcome (own, made, asked) = record {
+  since = made.since;
+  begun = λ h l f. (refl, (outcome, subst (λ own. PointAsked c point (first new.length h) own outcome) (sym (made.made h f)) (asked h l f)));
+  rows = λ h l f. may_have queue [] queue (deeds h old.caller old.length new.length) (rows_none queue);
+}
 
 -- ---- the point of a text
-pub text_accepted : (c : Admission) (counts : Counts) (text : List ℕ) (old new : Seen) (before after : List Stored) (answer : Answer) → PutsTextQueued c text old before new after → answer.reply.items ≡ [] → answer.counted ≡ counted.Accepted
-    → Replied c counts None (put_of text) old before answer.reply.items answer.counted new after
-text_accepted c counts text old new before after answer (point, is, puts) quiet how =
-    subst (λ (r : Result DataPoint PointFault). Replied c counts None (Telnet (Put r)) old before answer.reply.items answer.counted new after) (sym is) (accepted_replied c counts point old new before after answer puts quiet how)
+-- it stands in a point row
+pub stored_in_points : (c : Admission) (text : List ℕ) (old new : Seen) (stored : StoredText) → TextSays c text old (Ok stored) new → IsPossible new → (stored_at stored).row.table ≡ Points
+stored_in_points c text old new stored (point, is, (list, made, asked)) possible = (asked possible.history possible.lawful possible.fits).did.layout.in_points
 
-pub text_refused : (c : Admission) (text : List ℕ) (old new : Seen) (before after : List Stored) (fault : PutFault) (r : Result Answer RowsFault) → FailsTextQueued c text old (Unput fault) new → after ≡ before
-    → IfOk r (λ answer. IsRefusal fault answer.reply.items) → IfOk r (λ answer. answer.counted ≡ counted.Refused)
-    → IfOk r (λ answer. (counts : Counts) → Replied c counts None (put_of text) old before answer.reply.items answer.counted new after)
-text_refused c text old new before after fault r (point, is, says) same told how =
-    subst (λ (p : Result DataPoint PointFault). IfOk r (λ answer. (counts : Counts) → Replied c counts None (Telnet (Put p)) old before answer.reply.items answer.counted new after)) (sym is) (refused_replied c point old new before after fault r says same told how)
+-- it was put, and its row was added
+pub text_accepted : (c : Admission) (counts : Counts) (text : List ℕ) (old new : Seen) (before after : List Stored) (stored : StoredText) (answer : Answer) → TextSays c text old (Ok stored) new → WasAdded before (stored_at stored) after
+    → answer.reply.items ≡ [] → answer.counted ≡ counted.Accepted → Replied c counts None (put_of text) old before answer.reply.items answer.counted new after
+text_accepted c counts text old new before after stored answer (point, is, says) (added, made) quiet how =
+    subst (λ (r : Result DataPoint PointFault). Replied c counts None (Telnet (Put r)) old before answer.reply.items answer.counted new after) (sym is)
+    (subst (λ (how : Counted). Replied c counts None (point_put_of point) old before answer.reply.items how new after) (sym how)
+    (point_replied c counts point old new before after (Ok (stored_at stored)) answer.reply.items (stored_at stored ∷ []) says (quiet, refl) (added_row before (stored_at stored) added after made)))
 
 -- nothing was done for a text that has no point
 unread_replied : (c : Admission) (counts : Counts) (fault : PointFault) (old new : Seen) (before : List Stored) (reply : List ℕ) → Made old [] new → reply ≡ put_line (point_fault_text fault) → Replied c counts None (Telnet (Put (Err fault))) old before reply counted.Refused new before
@@ -126,13 +108,19 @@ unread_told c counts (fault.TagValue index f) read old new before reply is made 
 unread_told c counts (fault.Tags f) read old new before reply is made told = subst (λ (r : Result DataPoint PointFault). Replied c counts None (Telnet (Put r)) old before reply counted.Refused new before) (sym is) (unread_replied c counts _ old new before reply made told)
 unread_told c counts fault.OutOfMemory read old new before reply is made told = absurd told
 
-pub text_unread : (c : Admission) (text : List ℕ) (old new : Seen) (before after : List Stored) (fault : PointFault) (r : Result Answer RowsFault) → FailsTextQueued c text old (Unread fault) new → after ≡ before
-    → IfOk r (λ answer. IsUnread fault answer.reply.items) → IfOk r (λ answer. answer.counted ≡ counted.Refused)
-    → IfOk r (λ answer. (counts : Counts) → Replied c counts None (put_of text) old before answer.reply.items answer.counted new after)
-text_unread c text old new before after fault (Err e) says same told how = tt
-text_unread c text old new before after fault (Ok answer) (is, made) same told how = λ counts.
-    subst (λ (how : Counted). Replied c counts None (put_of text) old before answer.reply.items how new after) (sym how)
-    (subst (λ (queue : List Stored). Replied c counts None (put_of text) old before answer.reply.items counted.Refused new queue) (sym same) (unread_told c counts fault (point_of text) old new before answer.reply.items is made told))
+-- it wasn't put, which is told so
+denial_replied : (c : Admission) (counts : Counts) (text : List ℕ) (old new : Seen) (queue : List Stored) (fault : TextFault) (reply : List ℕ) → TextSays c text old (Err fault) new → IsDenial fault reply
+    → Replied c counts None (put_of text) old queue reply counted.Refused new queue
+denial_replied c counts text old new queue (Unread fault) reply (is, made) told = unread_told c counts fault (point_of text) old new queue reply is made told
+denial_replied c counts text old new queue (Unput fault) reply (point, is, says) told =
+    subst (λ (r : Result DataPoint PointFault). Replied c counts None (Telnet (Put r)) old queue reply counted.Refused new queue) (sym is) (refusal_replied c counts point old new queue fault reply says told)
+
+pub text_denied : (c : Admission) (text : List ℕ) (old new : Seen) (queue : List Stored) (fault : TextFault) (r : Result Answer RowsFault) → TextSays c text old (Err fault) new
+    → IfOk r (λ answer. IsDenial fault answer.reply.items) → IfOk r (λ answer. answer.counted ≡ counted.Refused)
+    → IfOk r (λ answer. (counts : Counts) → Replied c counts None (put_of text) old queue answer.reply.items answer.counted new queue)
+text_denied c text old new queue fault (Err e) says told how = tt
+text_denied c text old new queue fault (Ok answer) says told how = λ counts.
+    subst (λ (how : Counted). Replied c counts None (put_of text) old queue answer.reply.items how new queue) (sym how) (denial_replied c counts text old new queue fault answer.reply.items says told)
 
 -- whatever came of it, the put was begun
 none_for : (c : Admission) (names : List (Kind × List ℕ)) → ForNames c names []
@@ -143,11 +131,13 @@ begun_of : (c : Admission) (h : History) (own : List Placed) (read : Result Data
 begun_of c h own (Ok point) none = (Err OutOfMemory, subst (ForNames c (names_of point)) (sym none) (none_for c (names_of point)))
 begun_of c h own (Err fault) none = none
 
-pub text_begun : (c : Admission) (text : List ℕ) (old new : Seen) (before after : List Stored) (fault : TextFault) → FailsTextQueued c text old fault new → after ≡ before → WasBegun c None (put_of text) old before new after
-text_begun c text old new before after (Unread fault) (is, made) same = record {
+pub text_begun : (c : Admission) (text : List ℕ) (old new : Seen) (queue : List Stored) (outcome : Result StoredText TextFault) → TextSays c text old outcome new → WasBegun c None (put_of text) old queue new queue
+text_begun c text old new queue (Err (Unread fault)) (is, made) = record {
   since = made.since;
   begun = λ h l f. (refl, begun_of c (first new.length h) (deeds h old.caller old.length new.length) (point_of text) (made.made h f));
-  rows = λ h l f. may_have before [] after (deeds h old.caller old.length new.length) (subst (λ (queue : List Stored). HasRows before [] queue) (sym same) (rows_none before));
+  rows = λ h l f. may_have queue [] queue (deeds h old.caller old.length new.length) (rows_none queue);
 }
-text_begun c text old new before after (Unput fault) (point, is, says) same =
-    subst (λ (r : Result DataPoint PointFault). WasBegun c None (Telnet (Put r)) old before new after) (sym is) (failed_begun c point old new before after fault says same)
+text_begun c text old new queue (Err (Unput fault)) (point, is, says) =
+    subst (λ (r : Result DataPoint PointFault). WasBegun c None (Telnet (Put r)) old queue new queue) (sym is) (asked_begun c point old new queue (Err fault) says)
+text_begun c text old new queue (Ok stored) (point, is, says) =
+    subst (λ (r : Result DataPoint PointFault). WasBegun c None (Telnet (Put r)) old queue new queue) (sym is) (asked_begun c point old new queue (Ok (stored_at stored)) says)

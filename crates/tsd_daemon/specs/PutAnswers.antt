@@ -5,6 +5,8 @@ use Rattle.tsd_base.specs.declared.points.PointFault.TheVariants.{OutOfMemory}
 use Rattle.tsd_base.specs.Faults.{point_fault_text}
 use Rattle.tsd_base.specs.Points.{point_of}
 use Rattle.point_put.specs.declared.fault.PutFault.{PutFault}
+use Rattle.point_put.specs.declared.fault.TextFault.{TextFault}
+use Rattle.point_put.specs.declared.fault.TextFault.TheVariants.{Unread, Unput}
 use Rattle.telnet_put.specs.Requests.Request.{Put}
 use Rattle.tsd_daemon.specs.ConnReplies.{IsTold, put_line}
 use Rattle.tsd_daemon.specs.ConnRequests.{ConnRequest}
@@ -22,3 +24,8 @@ IsRefusal fault reply = IsTold (Err fault) reply []
 abbrev pub IsUnread : PointFault → List ℕ → Type 0
 IsUnread OutOfMemory reply = ⊥
 IsUnread fault reply = reply ≡ put_line (point_fault_text fault)
+
+-- what is told of a text whose point wasn't put
+abbrev pub IsDenial : TextFault → List ℕ → Type 0
+IsDenial (Unread fault) reply = IsUnread fault reply
+IsDenial (Unput fault) reply = IsRefusal fault reply

@@ -2,9 +2,10 @@
 ghost use Rattle.std.specs.Prelude.{◌≡◌, [], None, Err, IfOk, OnErr};
 ghost use Rattle.cell_model.specs.Stops.{CountsStops, is_stop};
 ghost use Rattle.point_put.specs.Admissions.{admission};
+ghost use Rattle.point_put.specs.declared.fault.TextFault.TheVariants.{Unput};
 ghost use Rattle.tsd_daemon.specs.declared.counts.Counts.{Counts};
 ghost use Rattle.tsd_daemon.specs.declared.counts.Counted.TheVariants as counted;
-ghost use Rattle.tsd_daemon.specs.PutAnswers.{IsRefusal, IsUnread, put_of};
+ghost use Rattle.tsd_daemon.specs.PutAnswers.{IsDenial, IsRefusal, IsUnread, put_of};
 ghost use Rattle.tsd_daemon.specs.Talks.{Replied, WasBegun};
 
 use crate::counts::Counted;
@@ -12,8 +13,8 @@ use crate::telnet_reply::{refused_line, unread_line};
 use cell_model::answers::RowsFault;
 use cell_model::rows::Rows;
 use compactor::queue::Queue;
-use point_put::{Config, PutFault, TextFault};
-use queued_put::put_text_queued;
+use point_put::{Config, PutFault, TextFault, put_text};
+use queued_put::queue_stored;
 use std::alloc::Global;
 use tsd_base::points::PointFault;
 use tsd_hooks::UidRule;
@@ -40,10 +41,12 @@ pub fn answer_put<R: Rows + Drop>(
     ensures err { OnErr result (WasBegun (admission config.now rule.now.patterns) None (put_of text.now) (R.seen names.old) queue.old (R.seen names.new) queue.new) }
     ensures stops { CountsStops is_stop result (R.stops names.old) (R.stops names.new) }
 {
-    match put_text_queued(alloc, names, rule, config, queue, text) {
-        Ok(()) => Ok(accepted(alloc)),
-        Err(TextFault::Unput { fault }) => refused(alloc, &fault),
-        Err(TextFault::Unread { fault }) => unread(alloc, &fault),
+    match put_text(alloc, names, rule, config, text) {
+        Ok(stored) => match queue_stored(names, queue, stored) {
+            Ok(()) => Ok(accepted(alloc)),
+            Err(_) => Err(RowsFault::OutOfMemory),
+        },
+        Err(fault) => denied(alloc, &fault),
     }
 }
 
@@ -55,6 +58,19 @@ fn accepted(alloc: Global) -> Answer
     Answer {
         reply: Vec::new(alloc),
         counted: Counted::Accepted,
+    }
+}
+
+/// The answer to a text whose point wasn't put. It stays out of the way of the others.
+#[inline(never)]
+fn denied(alloc: Global, fault: &TextFault) -> Result<Answer, RowsFault>
+    ensures ok { IfOk result (λ answer. IsDenial fault.now answer.reply.items) }
+    ensures counted { IfOk result (λ answer. answer.counted ≡ counted.Refused) }
+    ensures stopped { result ≡ Err RowsFault.Stopped → fault.now ≡ Unput PutFault.Stopped }
+{
+    match fault {
+        TextFault::Unput { fault } => refused(alloc, fault),
+        TextFault::Unread { fault } => unread(alloc, fault),
     }
 }
 

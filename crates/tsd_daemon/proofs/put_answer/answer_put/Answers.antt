@@ -1,44 +1,35 @@
-use Rattle.std.proofs.Common.{subst}
+use Rattle.std.proofs.Common.{subst, sym}
+use Rattle.std.specs.Prelude.{None, Ok, Err}
 use Rattle.point_put.specs.Admissions.{admission}
-use Rattle.point_put.specs.declared.fault.TextFault.{TextFault}
-use Rattle.point_put.specs.declared.fault.TextFault.TheVariants.{Unread, Unput}
-use Rattle.queued_put.specs.QueuedPuts.{FailsTextQueued}
+use Rattle.tsd_daemon.specs.PutAnswers.{put_of}
+use Rattle.tsd_daemon.specs.Talks.{Replied, WasBegun}
 use Rattle.tsd_daemon.proofs.Giving.{at_err}
-use Rattle.tsd_daemon.proofs.Points.{text_accepted, text_begun, text_refused, text_unread}
+use Rattle.tsd_daemon.proofs.Points.{stored_in_points, text_accepted, text_begun, text_denied}
 use Rattle.tsd_daemon.proofs.put_answer.answer_put.Goals as goal
 
-pub returns-in-Ok-clause-ok : goal.returns-in-Ok-clause-ok
-returns-in-Ok-clause-ok g c = λ counts.
-    text_accepted (admission c.args.config.now c.args.rule.now.patterns) counts c.args.text.now (g.R.Rows.seen c.args.names.now) (g.R.Rows.seen c.put_text_queued.new.names) c.args.queue.now c.put_text_queued.new.queue c.accepted.result c.in-Ok.ensures.ok c.accepted.ensures.reply c.accepted.ensures.counted
+pub queue_stored-requires-clause-points : goal.queue_stored-requires-clause-points
+queue_stored-requires-clause-points g c =
+    stored_in_points (admission c.args.config.now c.args.rule.now.patterns) c.args.text.now (g.R.Rows.seen c.args.names.now) (g.R.Rows.seen c.put_text.new.names) c.in-Ok.stored c.in-Ok.ensures.says c.in-Ok.ensures.leaves.possible
 
-pub returns-in-Err-Unput-clause-ok : goal.returns-in-Err-Unput-clause-ok
-returns-in-Err-Unput-clause-ok g c =
+pub returns-in-Ok-queue_stored-clause-ok : goal.returns-in-Ok-queue_stored-clause-ok
+returns-in-Ok-queue_stored-clause-ok g c = λ counts.
     let a = admission c.args.config.now c.args.rule.now.patterns in
     let old = g.R.Rows.seen c.args.names.now in
-    let new = g.R.Rows.seen c.put_text_queued.new.names in
-    let says = subst (λ (f : TextFault). FailsTextQueued a c.args.text.now old f new) c.in-Err-Unput.field-0-is c.in-Err-Unput.ensures.err in
-    text_refused a c.args.text.now old new c.args.queue.now c.put_text_queued.new.queue c.in-Err-Unput.fault c.refused.result says c.in-Err-Unput.ensures.same c.refused.ensures.ok c.refused.ensures.counted
+    subst (λ names. Replied a counts None (put_of c.args.text.now) old c.args.queue.now c.accepted.result.reply.items c.accepted.result.counted (g.R.Rows.seen names) c.queue_stored.new.queue) (sym c.queue_stored.ensures.names)
+    (text_accepted a counts c.args.text.now old (g.R.Rows.seen c.put_text.new.names) c.args.queue.now c.queue_stored.new.queue c.in-Ok.stored c.accepted.result c.in-Ok.ensures.says c.in-Ok-queue_stored.ensures.ok c.accepted.ensures.reply c.accepted.ensures.counted)
 
-pub returns-in-Err-Unput-clause-err : goal.returns-in-Err-Unput-clause-err
-returns-in-Err-Unput-clause-err g c =
+pub returns-in-Err-queue_stored-clause-err : goal.returns-in-Err-queue_stored-clause-err
+returns-in-Err-queue_stored-clause-err g c =
     let a = admission c.args.config.now c.args.rule.now.patterns in
     let old = g.R.Rows.seen c.args.names.now in
-    let new = g.R.Rows.seen c.put_text_queued.new.names in
-    let says = subst (λ (f : TextFault). FailsTextQueued a c.args.text.now old f new) c.in-Err-Unput.field-0-is c.in-Err-Unput.ensures.err in
-    at_err c.refused.result (text_begun a c.args.text.now old new c.args.queue.now c.put_text_queued.new.queue (Unput c.in-Err-Unput.fault) says c.in-Err-Unput.ensures.same)
+    subst (λ names. WasBegun a None (put_of c.args.text.now) old c.args.queue.now (g.R.Rows.seen names) c.queue_stored.new.queue) (sym c.queue_stored.ensures.names)
+    (subst (λ queue. WasBegun a None (put_of c.args.text.now) old c.args.queue.now (g.R.Rows.seen c.put_text.new.names) queue) (sym c.in-Err-queue_stored.ensures.same)
+    (text_begun a c.args.text.now old (g.R.Rows.seen c.put_text.new.names) c.args.queue.now (Ok c.in-Ok.stored) c.in-Ok.ensures.says))
 
-pub returns-in-Err-Unread-clause-ok : goal.returns-in-Err-Unread-clause-ok
-returns-in-Err-Unread-clause-ok g c =
-    let a = admission c.args.config.now c.args.rule.now.patterns in
-    let old = g.R.Rows.seen c.args.names.now in
-    let new = g.R.Rows.seen c.put_text_queued.new.names in
-    let says = subst (λ (f : TextFault). FailsTextQueued a c.args.text.now old f new) c.in-Err-Unread.field-0-is c.in-Err-Unread.ensures.err in
-    text_unread a c.args.text.now old new c.args.queue.now c.put_text_queued.new.queue c.in-Err-Unread.fault c.unread.result says c.in-Err-Unread.ensures.same c.unread.ensures.ok c.unread.ensures.counted
+pub returns-in-Err-clause-ok : goal.returns-in-Err-clause-ok
+returns-in-Err-clause-ok g c =
+    text_denied (admission c.args.config.now c.args.rule.now.patterns) c.args.text.now (g.R.Rows.seen c.args.names.now) (g.R.Rows.seen c.put_text.new.names) c.args.queue.now c.in-Err.fault c.denied.result c.in-Err.ensures.says c.denied.ensures.ok c.denied.ensures.counted
 
-pub returns-in-Err-Unread-clause-err : goal.returns-in-Err-Unread-clause-err
-returns-in-Err-Unread-clause-err g c =
-    let a = admission c.args.config.now c.args.rule.now.patterns in
-    let old = g.R.Rows.seen c.args.names.now in
-    let new = g.R.Rows.seen c.put_text_queued.new.names in
-    let says = subst (λ (f : TextFault). FailsTextQueued a c.args.text.now old f new) c.in-Err-Unread.field-0-is c.in-Err-Unread.ensures.err in
-    at_err c.unread.result (text_begun a c.args.text.now old new c.args.queue.now c.put_text_queued.new.queue (Unread c.in-Err-Unread.fault) says c.in-Err-Unread.ensures.same)
+pub returns-in-Err-clause-err : goal.returns-in-Err-clause-err
+returns-in-Err-clause-err g c =
+    at_err c.denied.result (text_begun (admission c.args.config.now c.args.rule.now.patterns) c.args.text.now (g.R.Rows.seen c.args.names.now) (g.R.Rows.seen c.put_text.new.names) c.args.queue.now (Err c.in-Err.fault) c.in-Err.ensures.says)
