@@ -15,9 +15,10 @@ use crate::step_names::StepNames;
 use crate::step_order::{Order, apply, stamp};
 use cell_model::events::Reply;
 use cell_region::Region;
-use crossbeam_utils::{Backoff, CachePadded};
+use crossbeam_utils::CachePadded;
 use row_key::NAME_REGIONS;
 use std::alloc::{AllocError, Global};
+use std::hint::spin_loop;
 use std::marker::{Brand, Model, PhantomData};
 use std::sync::{Mutex, MutexGuard, Wait};
 use std::vec::IntoIter;
@@ -155,19 +156,29 @@ fn hand_over(region: Region, own: Licence, pass: &mut Pass, regions: &mut Vec<Re
 // How often a lock is tried before its caller sleeps.
 const TRIES: u32 = 10;
 
-/// Takes the lock, and sleeps only where it was tried in vain for some 10 microseconds. Who holds it mostly gives it back within one, but
-/// where a caller sleeps, a call of the system has to wake it, and all who come meanwhile sleep too. The pauses between the tries grow,
-/// since each try takes the lock's cache line from the holder, and the region's other lines go with it: who waits longer lets the holder
-/// make more steps while they are its own.
+// How many pauses of the processor there are between two tries. They take 5 to 13 microseconds where that was measured.
+const PAUSES: u32 = 1024;
+
+/// Takes the lock, and sleeps only where all tries were in vain: where a caller sleeps, a call of the system has to wake it, and all who come
+/// meanwhile sleep too. Who holds the lock mostly gives it back within a microsecond. A caller waits longer than that before it tries again,
+/// since each try takes the lock's cache line from the holder, and each change of hands the region's other lines too: so the holder makes
+/// many steps while they are its own, and two callers that put points into one region do more than if they took turns.
 fn locked<'a, H, T: Wait>(lock: &'a Mutex<H>, rt: &T) -> MutexGuard<'a, H> {
-    let backoff = Backoff::new();
     for _ in 0..TRIES {
         if let Some(guard) = lock.try_lock() {
             return guard;
         }
-        backoff.spin();
+        pause();
     }
     lock.lock(rt)
+}
+
+/// Lets a moment pass.
+#[inline(never)]
+fn pause() {
+    for _ in 0..PAUSES {
+        spin_loop();
+    }
 }
 
 /// A region behind its lock, on cache lines of its own, so that steps on different regions don't wait for each other.

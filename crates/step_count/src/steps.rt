@@ -29,7 +29,7 @@ pub struct Steps {
 pub struct Pass {
     counter: Arc<Counter, Global>,
     seat: TokenSeat,
-    // The place of the entry that it added last: the word, where nobody has added one since.
+    // The place of the last entry that it added, or that a licence's holder before it did: the word, where nobody has added one since.
     last: u64,
     ghost words: { (arc_value counter).shared.table_id.words ≡ WORDS },
     ghost seated: { seat.table_id ≡ (arc_value counter).shared.table_id },
@@ -40,6 +40,8 @@ pub struct Pass {
 #[derive(Drop)]
 pub struct Licence {
     seat: TokenSeat,
+    // The place of the last entry that whoever had it added: the word, where all entries are of its region.
+    last: u64,
     ghost empty: { seat.me.1 ≡ [] },
 }
 
@@ -197,7 +199,8 @@ impl Pass {
         ensures counter { counter_of_pass self.new ≡ counter_of_pass self.old }
         ensures view { view_of_pass self.new ≡ met (view_of_pass self.old) (view_of_licence licence) }
     {
-        let Licence { seat } = licence;
+        let Licence { seat, last } = licence;
+        self.last = self.last.max(last);
         self.counter.shared.join_seat::<Both>(&mut self.seat, seat);
     }
 
@@ -223,7 +226,10 @@ impl Pass {
     {
         let _region = region;
         let seat = self.counter.shared.split_seat::<Leaves<N>>(&mut self.seat);
-        Licence { seat }
+        Licence {
+            seat,
+            last: self.last,
+        }
     }
 
     // The licences of the first seat, in order.
