@@ -45,8 +45,8 @@ adds_new old new a b p is_point none notes adds points h =
     reads_point points (so_far a old) (so_far b new) p h is_point notes
     (λ s. adds s ∙ ap (λ (o : Option (List (ℕ × ℤ))). cond (is_same_series (series_of_point p) s) (Some (or_nil o ++ dot p ∷ [])) (values_in old s)) (sym none))
 
-pub adds_full : (old : List SeriesEntry) (new : List SeriesEntry) (a b : Seen) (p : DataPoint) (kind : Kind) → Notes a (names_of p) (Some kind) b → AddsPoint (so_far a old) p (Some kind) (so_far b new)
-adds_full old new a b p kind notes points h = reads_full points (so_far a old) (so_far b new) p kind h notes
+pub adds_full : (old : List SeriesEntry) (a b : Seen) (p : DataPoint) (kind : Kind) → Notes a (names_of p) (Some kind) b → AddsPoint (so_far a old) p (Some kind) (so_far b old)
+adds_full old a b p kind notes = (λ points h. reads_full points (so_far a old) (so_far b old) p kind h notes, refl)
 
 -- ---- a text whose parts read as a series that was there
 pub text_adds : (old new : List SeriesEntry) (a : Seen) (text : List ℕ) (parts : TextParts) → HasTextParts text parts → AddsToSeries parts old new → AddsText (so_far a old) (judged_point (point_of text)) outcome.Taken (so_far a new)

@@ -159,6 +159,15 @@ pub pushed_or : {S : Type 0} (m : IndexMap Series PendingSeries S) → IsUnique 
 pushed_or m unique i v w parts (Ok known) is one values keep = pushed_known m unique i v w parts known is one values keep
 pushed_or m unique i v w parts (Err e) is one values keep = tt
 
+-- what is held where a push failed
+pub unpushed_or : {T E : Type 0} (es : List Held) (i : ℕ) (v w : PendingSeries) (r : Result T E) → slice_get (values_of es) i ≡ Some v → OnErr r (w.values ≡ v.values) → OnErr r (all_values (set_value_at es i w) ≡ all_values es)
+unpushed_or es i v w (Ok done) is same = tt
+unpushed_or es i v w (Err e) is same = same_values es i v w is same
+
+pub unpushed_there : {T E : Type 0} (es : List Held) (i : ℕ) (v w : PendingSeries) (r : Result T E) → slice_get (values_of es) i ≡ Some v → OnErr r (w ≡ v) → OnErr r (all_values (set_value_at es i w) ≡ all_values es)
+unpushed_there es i v w (Ok done) is same = tt
+unpushed_there es i v w (Err e) is same = same_values es i v w is (ap (λ (u : PendingSeries). u.values) same)
+
 -- the value of a series that stands there
 pub standing : (es : List Held) (i : ℕ) (k : Series) (v : PendingSeries) → StandsAt es k i → slice_get (values_of es) i ≡ Some v → slice_get es i ≡ Some (k, v)
 standing es i k v s is = s.1 ∙ ap (λ (w : PendingSeries). Some (k, w)) (same_Some s.0 v (sym (value_at es i k s.0 s.1) ∙ is))

@@ -35,9 +35,9 @@ abbrev pub AddsKnown : TextParts → List SeriesEntry → Bool → List SeriesEn
 AddsKnown parts old true new = AddsToSeries parts old new
 AddsKnown parts old false new = new ≡ old
 
--- what a text was judged to be is what became of it
+-- what a text was judged to be is what became of it; one that is refused changes nothing, as a blank one
 abbrev pub AddsText : SoFar → Judged → LineOutcome → SoFar → Type 0
 AddsText old judged outcome.Blank new = (judged ≡ Blank) × (new ≡ old)
 AddsText old judged outcome.Taken new = (p : DataPoint) × (judged ≡ Taken p) × AddsPoint old p None new
 AddsText old judged (outcome.Full kind) new = (p : DataPoint) × (judged ≡ Taken p) × AddsPoint old p (Some kind) new
-AddsText old judged (outcome.Refused text) new = judged ≡ Refused text.items
+AddsText old judged (outcome.Refused text) new = (judged ≡ Refused text.items) × (new ≡ old)

@@ -34,7 +34,7 @@ pub record Gathers (points : List DataPoint) (g : SoFar) : Type 0 where
   pub series : (s : Series) → values_in g.gathered s ≡ unless_empty (values_of points s)
   pub are_points : AllByRecursion IsPoint points
 
--- one more point was read behind others; or for one of its names there is no id
+-- one more point was read behind others; or for one of its names there is no id, and then what was gathered is as it was
 abbrev pub AddsPoint : SoFar → DataPoint → Option Kind → SoFar → Type 0
 AddsPoint old p None new = (points : List DataPoint) → (g : Gathers points old) → (more : Gathers (points ++ p ∷ []) new) × (noted_all g.names (names_of p) ≡ Ok more.names)
-AddsPoint old p (Some kind) new = (points : List DataPoint) → (g : Gathers points old) → noted_all g.names (names_of p) ≡ Err kind
+AddsPoint old p (Some kind) new = ((points : List DataPoint) → (g : Gathers points old) → noted_all g.names (names_of p) ≡ Err kind) × (new.gathered ≡ old.gathered)

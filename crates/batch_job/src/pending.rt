@@ -1,5 +1,5 @@
 //! The points of all lines, series by series and form by form.
-ghost use Rattle.std.specs.Prelude.{◌≡◌, [], All, None as Nothing, Ok as Reads, Some as Found, IfOk, MatchOption, OnOk};
+ghost use Rattle.std.specs.Prelude.{◌≡◌, [], All, None as Nothing, Ok as Reads, Some as Found, IfOk, MatchOption, OnErr, OnOk};
 ghost use Rattle.tsd_base.specs.Points.{DataPoint, data_point, point_of};
 ghost use Rattle.tsd_base.specs.TextParts.{HasTextParts};
 ghost use Rattle.cell_model.specs.Seen.{Seen};
@@ -73,7 +73,8 @@ impl Gathered {
     /// Reads the text of one more line, which may be blank, a point or neither. The rule for new names is one that allows each of
     /// them.
     ///
-    /// A series is known by the text by which it came last: then neither its names nor its tags are read again.
+    /// A series is known by the text by which it came last: then neither its names nor its tags are read again. After a fault what
+    /// was gathered is as it was; some of the line's names may have got their ids.
     pub fn add_text<R: Rows + Drop>(
         &mut self,
         alloc: Global,
@@ -83,6 +84,7 @@ impl Gathered {
     ) -> Result<LineOutcome, RowsFault>
         requires allows { AllowsAll rule.now.patterns }
         ensures adds { IfOk result (λ outcome. AddsText (so_far (R.seen store.old) self.old) (judged_text text.now) outcome (so_far (R.seen store.new) self.new)) }
+        ensures err { OnErr result (self.new ≡ self.old) }
         ensures stops { CountsStops is_stop result (R.stops store.old) (R.stops store.new) }
     {
         if is_blank(text) {
@@ -107,6 +109,7 @@ impl Gathered {
         requires allows { AllowsAll rule.now.patterns }
         requires parts { HasTextParts text.now parts.now }
         ensures adds { IfOk result (λ outcome. AddsText (so_far (R.seen store.old) self.old) (judged_point (point_of text.now)) outcome (so_far (R.seen store.new) self.new)) }
+        ensures err { OnErr result (self.new ≡ self.old) }
         ensures stops { CountsStops is_stop result (R.stops store.old) (R.stops store.new) }
     {
         match self.add_next(parts) {
@@ -128,6 +131,7 @@ impl Gathered {
         requires allows { AllowsAll rule.now.patterns }
         requires parts { HasTextParts text.now parts.now }
         ensures adds { IfOk result (λ outcome. AddsText (so_far (R.seen store.old) self.old) (judged_point (point_of text.now)) outcome (so_far (R.seen store.new) self.new)) }
+        ensures err { OnErr result (self.new ≡ self.old) }
         ensures stops { CountsStops is_stop result (R.stops store.old) (R.stops store.new) }
     {
         let hash = hash_parts(parts);
@@ -142,7 +146,8 @@ impl Gathered {
     /// only for want of memory.
     #[inline]
     fn add_next(&mut self, parts: &TextParts<'_>) -> Result<bool, AllocError>
-        ensures { IfOk result (λ known. AddsKnown parts.now self.old known self.new) }
+        ensures known { IfOk result (λ known. AddsKnown parts.now self.old known self.new) }
+        ensures err { OnErr result (self.new ≡ self.old) }
     {
         match self.round.guess() {
             Some(at) => self.add_at(at, parts),
@@ -154,7 +159,8 @@ impl Gathered {
     /// want of memory.
     #[inline]
     fn add_known(&mut self, hash: u64, parts: &TextParts<'_>) -> Result<bool, AllocError>
-        ensures { IfOk result (λ known. AddsKnown parts.now self.old known self.new) }
+        ensures known { IfOk result (λ known. AddsKnown parts.now self.old known self.new) }
+        ensures err { OnErr result (self.new ≡ self.old) }
     {
         match self.places.guess(hash) {
             Some(at) => self.add_at(at, parts),
@@ -166,7 +172,8 @@ impl Gathered {
     /// fails only for want of memory.
     #[inline]
     fn add_at(&mut self, at: u32, parts: &TextParts<'_>) -> Result<bool, AllocError>
-        ensures { IfOk result (λ known. AddsKnown parts.now self.old known self.new) }
+        ensures known { IfOk result (λ known. AddsKnown parts.now self.old known self.new) }
+        ensures err { OnErr result (self.new ≡ self.old) }
     {
         self.round.came(at);
         push_known(&mut self.series, at as usize, parts)
@@ -185,6 +192,7 @@ impl Gathered {
         requires allows { AllowsAll rule.now.patterns }
         requires known { (p : DataPoint) → point_of text.now ≡ Reads p → IsKnownBy (series_of_point p) known }
         ensures adds { IfOk result (λ outcome. AddsText (so_far (R.seen store.old) self.old) (judged_point (point_of text.now)) outcome (so_far (R.seen store.new) self.new)) }
+        ensures err { OnErr result (self.new ≡ self.old) }
         ensures stops { CountsStops is_stop result (R.stops store.old) (R.stops store.new) }
     {
         match judge(alloc, text) {
@@ -213,6 +221,7 @@ impl Gathered {
         requires allows { AllowsAll rule.now.patterns }
         requires known { IsKnownBy (series_of_point (data_point point)) known }
         ensures adds { IfOk result (λ full. AddsPoint (so_far (R.seen store.old) self.old) (data_point point) full (so_far (R.seen store.new) self.new)) }
+        ensures err { OnErr result (self.new ≡ self.old) }
         ensures stops { CountsStops is_stop result (R.stops store.old) (R.stops store.new) }
     {
         let Point {
@@ -254,7 +263,8 @@ impl Gathered {
     ) -> Result<(), AllocError>
         requires new { values_in self.old series ≡ Nothing }
         requires known { IsKnownBy series known }
-        ensures { OnOk result (AddsValue series [] (time, value) self.old self.new) }
+        ensures adds { OnOk result (AddsValue series [] (time, value) self.old self.new) }
+        ensures err { OnErr result (self.new ≡ self.old) }
     {
         let at = self.series.len();
         let pending = PendingSeries::make(alloc, time, value, known)?;
@@ -289,6 +299,7 @@ fn push_known(
     parts: &TextParts<'_>,
 ) -> Result<bool, AllocError>
     ensures known { KeepTexts series.old.entries → IfOk result (λ known. AddsKnown parts.now (all_values series.old.entries) known (all_values series.new.entries)) }
+    ensures err { OnErr result (all_values series.new.entries ≡ all_values series.old.entries) }
     ensures kept { KeepTexts series.old.entries → KeepTexts series.new.entries }
 {
     match series.get_index_mut(at) {
@@ -331,6 +342,7 @@ fn push_at(
     requires at { StandsAt all.old.entries series.now at }
     requires known { IsKnownBy series.now known }
     ensures adds { OnOk result (AddsAt all.old.entries series.now (time, value) all.new.entries) }
+    ensures err { OnErr result (all_values all.new.entries ≡ all_values all.old.entries) }
     ensures kept { KeepTexts all.old.entries → KeepTexts all.new.entries }
 {
     match all.get_index_mut(at) {

@@ -10,7 +10,7 @@ use tsd_io::ports::{Failed, Sink, Source};
 use tsd_io::standard::{ReadSource, SystemClock, WriteSink};
 
 #[test]
-fn sources_in_memory(rt: HostRuntime) -> Result<(), Fail> {
+fn source_gives_each_byte_once(rt: HostRuntime) -> Result<(), Fail> {
     let no_cuts: &[usize] = &[];
     let none_fails: &[u64] = &[];
     let cases: [(&[u8], &[usize], &[u64], &[Option<&[u8]>]); 2] = [
@@ -53,7 +53,7 @@ fn sources_in_memory(rt: HostRuntime) -> Result<(), Fail> {
 }
 
 #[test]
-fn sinks_in_memory(rt: HostRuntime) -> Result<(), Fail> {
+fn sink_holds_what_was_given(rt: HostRuntime) -> Result<(), Fail> {
     let none_fails: &[u64] = &[];
     let cases: [(usize, &[u64], &[(&[u8], Option<usize>)], &[u8]); 2] = [
         (
@@ -75,7 +75,7 @@ fn sinks_in_memory(rt: HostRuntime) -> Result<(), Fail> {
 }
 
 #[test]
-fn whole_pieces(rt: HostRuntime) -> Result<(), Fail> {
+fn piece_is_given_whole_or_its_front(rt: HostRuntime) -> Result<(), Fail> {
     for (room, given, held) in [(5, Ok(()), "hello"), (3, Err(Failed), "hel")] {
         let mut sink = MemSink::make(rt.alloc(), room, Vec::new(rt.alloc()))?;
         assert_eq!(rt; give_all(&mut sink, b"hello"), given);
@@ -85,7 +85,7 @@ fn whole_pieces(rt: HostRuntime) -> Result<(), Fail> {
 }
 
 #[test]
-fn clocks_in_memory(rt: HostRuntime) -> Result<(), Fail> {
+fn clock_gives_its_moments_in_turn(rt: HostRuntime) -> Result<(), Fail> {
     let none: &[u64] = &[];
     let cases: [(&[u64], &[u64], &[Option<u64>]); 3] = [
         (&[5, 3, 7], none, &[Some(5), Some(3), Some(7), Some(7)]),
@@ -104,7 +104,7 @@ fn clocks_in_memory(rt: HostRuntime) -> Result<(), Fail> {
 }
 
 #[test]
-fn twins(rt: HostRuntime) -> Result<(), Fail> {
+fn twin_goes_on_where_its_clock_stands(rt: HostRuntime) -> Result<(), Fail> {
     let times: &[u64] = &[5, 3, 7];
     let times = times.to_vec(rt.alloc())?;
     let mut clock = MemClock::make(times, Vec::new(rt.alloc()));
@@ -117,7 +117,7 @@ fn twins(rt: HostRuntime) -> Result<(), Fail> {
 }
 
 #[test]
-fn halts_in_memory(rt: HostRuntime) -> Result<(), Fail> {
+fn halt_refuses_the_listed_steps(rt: HostRuntime) -> Result<(), Fail> {
     let refused: &[u64] = &[2, 4];
     let mut halt = MemHalt::make(refused.to_vec(rt.alloc())?);
     for may in [true, false, true, false, true] {
@@ -146,7 +146,7 @@ impl time::Clock for Standing {
 }
 
 #[test]
-fn system_clocks(rt: HostRuntime) -> Result<(), Fail> {
+fn system_clock_tells_milliseconds(rt: HostRuntime) -> Result<(), Fail> {
     let cases = [
         (
             Some(Duration::new(1_356_998_400, 7_999_999)),
@@ -217,7 +217,7 @@ const BROKEN: Turn = Err(ErrorKind::BrokenPipe);
 const FLUSHED: Turn = Ok(0);
 
 #[test]
-fn readers(rt: HostRuntime) {
+fn interrupted_read_is_tried_again(rt: HostRuntime) {
     let turns = [AGAIN, Ok(2), BROKEN, Ok(1)];
     let mut source = ReadSource::make(Scripted { turns: &turns });
     let mut into = [0; 4];
@@ -227,7 +227,7 @@ fn readers(rt: HostRuntime) {
 }
 
 #[test]
-fn writers(rt: HostRuntime) {
+fn interrupted_write_is_tried_again(rt: HostRuntime) {
     let turns = [
         AGAIN,
         Ok(2),

@@ -10,7 +10,7 @@ use tsd_io::give_all::give_all;
 use tsd_io::ports::{Failed, Sink, Source};
 
 #[test]
-fn loopback(rt: HostRuntime) -> io::Result<()> {
+fn system_doors_serve_both_ends(rt: HostRuntime) -> io::Result<()> {
     let mut doors = TcpDoors::make(rt.clone()?, rt.alloc());
     assert!(rt; doors.accept().is_err());
     let Ok(port) = doors.bind(0) else {
@@ -42,7 +42,7 @@ fn loopback(rt: HostRuntime) -> io::Result<()> {
 }
 
 #[test]
-fn in_memory(rt: HostRuntime) -> Result<(), AllocError> {
+fn memory_doors_give_each_connection_once(rt: HostRuntime) -> Result<(), AllocError> {
     let mut links = Vec::new(rt.alloc());
     links.push(link_of(rt.alloc(), b"one", 4)?)?;
     let mut failing = Vec::new(rt.alloc());

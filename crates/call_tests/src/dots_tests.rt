@@ -2,7 +2,7 @@ use std::alloc::AllocError;
 use tsd_base::dots::Dots;
 
 #[test]
-fn keeps_dots(rt: HostRuntime) -> Result<(), AllocError> {
+fn dots_stand_in_order(rt: HostRuntime) -> Result<(), AllocError> {
     let mut dots = Dots::make(rt.alloc());
     dots.push(1, -5)?;
     dots.push(7, 0)?;

@@ -27,7 +27,7 @@ fn names(alloc: Global, refused: &[u64]) -> Result<Names, AllocError> {
 }
 
 #[test]
-fn stopped_assignments(rt: HostRuntime) -> Result<(), Fail> {
+fn stopped_assignment_is_done_anew(rt: HostRuntime) -> Result<(), Fail> {
     let patterns = Patterns::none();
     let kept = patterns.again(rt.alloc())?;
     let test = Box::new(

@@ -99,7 +99,7 @@ fn both_sums<P: Ledger + Send + Sync, T: Ledger + Send + Sync, R: Threads + Wait
 }
 
 #[test]
-fn two_queues(rt: HostRuntime) -> Result<(), AllocError> {
+fn each_number_is_taken_once(rt: HostRuntime) -> Result<(), AllocError> {
     let sums = both_sums::<Brand, Brand, HostRuntime>(
         &rt,
         rt.alloc(),

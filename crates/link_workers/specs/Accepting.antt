@@ -1,5 +1,5 @@
 -- What accepting comes to, in the numbers that doors tell and in how many were put into the queues.
-use Rattle.std.specs.Prelude.{ℕ, ◌+◌, ◌-◌, ◌^◌, ◌≤◌, ◌≡◌, min, ⊤, List, [], Option, Some, None}
+use Rattle.std.specs.Prelude.{ℕ, ◌+◌, ◌-◌, ◌^◌, ◌≤◌, ◌≡◌, ◌≢◌, min, ⊤, List, [], Option, Some, None}
 use Rattle.link_workers.specs.declared.accept_loop.AcceptEnd.{AcceptEnd}
 use Rattle.link_workers.specs.declared.accept_loop.AcceptEnd.TheVariants.{NoneLeft, Stopped, DoorFault, OutOfMemory}
 use Rattle.tsd_io.specs.Causes.{Rose}
@@ -33,8 +33,14 @@ abbrev pub IsNoneLeft : Option (List (List ℕ)) → Option (List (List ℕ)) �
 IsNoneLeft None now = ⊤
 IsNoneLeft (Some before) now = now ≡ Some []
 
--- an end has its reason in what the doors tell is left, in how often the halt refused, and in how often the doors failed
+-- each end but `Stopped` comes only where the halt refused nothing
+pub record IsHeeded (end : AcceptEnd) (stops stops_now : ℕ) : Type 0 where
+  pub unless_stopped : end ≢ Stopped → stops_now ≡ stops
+
+-- an end has its reason in what the doors tell is left, in how often the halt refused, and in how often the doors failed;
+-- where it is neither `Stopped` nor want of memory, which may be found after a refusal, the halt refused nothing
 pub record HasReason (end : AcceptEnd) (waiting waiting_now : Option (List (List ℕ))) (stops stops_now faults faults_now : ℕ) : Type 0 where
   pub none : end ≡ NoneLeft → IsNoneLeft waiting waiting_now
   pub stopped : end ≡ Stopped → Rose stops stops_now
   pub fault : end ≡ DoorFault → Rose faults faults_now
+  pub heeded : end ≢ Stopped → end ≢ OutOfMemory → stops_now ≡ stops

@@ -1,6 +1,6 @@
 //! Accepting connections, which go to queues in turn.
 ghost use Rattle.std.specs.Prelude.{◌≡◌, ◌<◌, ◌≤◌, ◌+◌, ◌-◌, ◌^◌, min, IfOk, IfErr, MatchResult};
-ghost use Rattle.link_workers.specs.Accepting.{AddsUp, lost_by, links_between, HasReason, StillTells};
+ghost use Rattle.link_workers.specs.Accepting.{AddsUp, lost_by, links_between, HasReason, IsHeeded, StillTells};
 
 use crate::link::Link;
 use closable_queues::closable::ClosableQueues;
@@ -52,6 +52,7 @@ pub fn accept_links<R: Wait, D: Doors, H: Halt, P: Ledger, T: Ledger>(
     ensures back { D.back doors.new ≡ D.back doors.old }
     ensures stops { H.stops halt.old ≤ H.stops halt.new }
     ensures faults { D.faults doors.old ≤ D.faults doors.new }
+    ensures heeded { IsHeeded result.end (H.stops halt.old) (H.stops halt.new) }
     ensures reason { HasReason result.end (D.waiting doors.old) (D.waiting doors.new) (H.stops halt.old) (H.stops halt.new) (D.faults doors.old) (D.faults doors.new) }
 {
     let accepted = accept_until_end(rt, queues, doors, halt, share);
@@ -74,6 +75,7 @@ fn accept_until_end<R: Wait, D: Doors, H: Halt, P: Ledger, T: Ledger>(
     ensures back { D.back doors.new ≡ D.back doors.old }
     ensures stops { H.stops halt.old ≤ H.stops halt.new }
     ensures faults { D.faults doors.old ≤ D.faults doors.new }
+    ensures heeded { IsHeeded result.end (H.stops halt.old) (H.stops halt.new) }
     ensures reason { HasReason result.end (D.waiting doors.old) (D.waiting doors.new) (H.stops halt.old) (H.stops halt.new) (D.faults doors.old) (D.faults doors.new) }
 {
     let mut links: u64 = 0;
@@ -119,6 +121,9 @@ fn accept_link<R: Wait, D: Doors, H: Halt, P: Ledger, T: Ledger>(
     ensures stops { H.stops halt.old ≤ H.stops halt.new }
     ensures faults { D.faults doors.old ≤ D.faults doors.new }
     ensures tells { IfOk result (λ _. StillTells (D.waiting doors.old) (D.waiting doors.new)) }
+    ensures heeded { MatchResult result
+        (λ _. H.stops halt.new ≡ H.stops halt.old)
+        (λ end. IsHeeded end (H.stops halt.old) (H.stops halt.new)) }
     ensures reason { IfErr result (λ end. HasReason end (D.waiting doors.old) (D.waiting doors.new) (H.stops halt.old) (H.stops halt.new) (D.faults doors.old) (D.faults doors.new)) }
 {
     if !halt.may_step() {

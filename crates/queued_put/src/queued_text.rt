@@ -1,16 +1,13 @@
 //! The queue of rows, for a point that was put by its text.
 ghost use Rattle.std.specs.Prelude.{◌≡◌, OnOk, OnErr};
 ghost use Rattle.row_key.specs.declared.tables.Table.TheVariants.{Points};
-ghost use Rattle.uid_table.specs.KnownSeries.{IsShownSeries};
-ghost use Rattle.point_put.specs.StoredTexts.{MayBeKept, place_of, stored_at};
+ghost use Rattle.point_put.specs.StoredTexts.{MayBeKept, stored_at};
 ghost use Rattle.queued_put.specs.QueuedPuts.{WasAdded};
 
-use cell_model::answers::Stored;
 use cell_model::rows::Rows;
 use compactor::queue::Queue;
 use point_put::StoredText;
 use std::alloc::AllocError;
-use uid_table::known_series::KnownSeries;
 use uid_table::uids::Uids;
 
 /// Adds the row of a point that was put by its text to the queue, and gives the series back that the answer holds. It fails only for want
@@ -27,39 +24,9 @@ pub fn queue_stored<R: Rows + Drop>(
     ensures ok { OnOk result (WasAdded queue.old (stored_at stored) queue.new) }
     ensures same { OnErr result (queue.new ≡ queue.old) }
 {
-    match stored {
-        StoredText::Known { series } => queue_known(names, queue, series),
-        StoredText::New { stored } => queue_new(queue, &stored),
-    }
-}
-
-/// Adds the row of a point of a known series, and gives the series back.
-#[inline(always)]
-fn queue_known<R: Rows + Drop>(
-    names: &mut Uids<R>,
-    queue: &mut Queue,
-    series: Box<KnownSeries>,
-) -> Result<(), AllocError>
-    requires { IsShownSeries (R.seen names.old) series.value }
-    ensures names { names.new ≡ names.old }
-    ensures ok { OnOk result (WasAdded queue.old (place_of series.value.placed) queue.new) }
-    ensures same { OnErr result (queue.new ≡ queue.old) }
-{
-    let added = queue.add(&series.placed.row, series.placed.base);
-    names.keep_series(series);
+    let added = queue.add(stored.row(), stored.base());
+    stored.keep(names);
     match added {
-        Ok(_) => Ok(()),
-        Err(fault) => Err(fault),
-    }
-}
-
-/// Adds the row of a point whose series isn't known.
-fn queue_new(queue: &mut Queue, stored: &Stored) -> Result<(), AllocError>
-    requires { stored.now.row.table ≡ Points }
-    ensures ok { OnOk result (WasAdded queue.old stored.now queue.new) }
-    ensures same { OnErr result (queue.new ≡ queue.old) }
-{
-    match queue.add(&stored.row, stored.base) {
         Ok(_) => Ok(()),
         Err(fault) => Err(fault),
     }

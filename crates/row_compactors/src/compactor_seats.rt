@@ -48,7 +48,8 @@ pub fn make_compactors<'a, J: StepNames, G: Gate + Drop, T: Wait, C: Clock + Dro
     clock: &C,
     count: u32,
 ) -> Result<CompactorSeats<SitePass<'a, J, G, T>, C>, AllocError>
-    ensures { IfOk result (λ seats. vec_len seats.rows_to ≡ count) }
+    ensures queues { IfOk result (λ seats. vec_len seats.rows_to ≡ count) }
+    ensures workers { IfOk result (λ seats. vec_len seats.workers ≡ count) }
 {
     let mut rows_to = Vec::with_capacity(alloc, count as usize)?;
     let mut workers = Vec::with_capacity(alloc, count as usize)?;

@@ -1,5 +1,5 @@
 //! Compaction workers, and the rows that are sent to them.
-ghost use Rattle.std.specs.Prelude.{◌≡◌};
+ghost use Rattle.std.specs.Prelude.{◌≡◌, []};
 ghost use Rattle.row_compactors.specs.DueRows.{due_before};
 
 use cell_model::rows::Rows;
@@ -40,7 +40,8 @@ pub struct RowCompactor<R: Rows + Drop, C: Clock + Drop> {
 /// Where rows of points go that are to be compacted.
 pub trait RowsTo {
     /// Sends the rows of a queue, which is empty afterwards. Where there is no memory they aren't sent, and so not compacted.
-    fn send(&self, alloc: Global, queue: &mut Queue);
+    fn send(&self, alloc: Global, queue: &mut Queue)
+        ensures { queue.new ≡ [] };
 }
 
 /// A compaction worker, as those see it who send rows to it.
@@ -60,7 +61,9 @@ impl<'a, T: Wait> RowsTo for ToCompactor<'a, T> {
 }
 
 /// Sends the rows of a queue, which is empty afterwards.
-fn send_rows<T: Wait>(rt: &T, alloc: Global, queue: &mut Queue, rows_to: &Sender<Queue>) {
+fn send_rows<T: Wait>(rt: &T, alloc: Global, queue: &mut Queue, rows_to: &Sender<Queue>)
+    ensures { queue.new ≡ [] }
+{
     if queue.len() == 0 {
         return;
     }

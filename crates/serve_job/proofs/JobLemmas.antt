@@ -11,8 +11,8 @@ use Rattle.cell_model.specs.declared.answers.Tally.{Tally}
 use Rattle.tsd_daemon.specs.declared.served.Served.{Served}
 use Rattle.tsd_fleet.specs.declared.fleet_end.FleetEnd.{FleetEnd}
 use Rattle.tsd_fleet.specs.declared.fleet_end.FleetEnd.TheVariants as end
-use Rattle.tsd_fleet.specs.FleetServes.{BeginsToListen, CountsLinks, HasFleetReason, HasListened, Listens, listening_line}
-use Rattle.serve_job.specs.FleetRuns.{EndsJob, EndsSo, FleetCauses, FleetPrints, IsFirstFront, IsFleetFront, WriteCause, has_no_more, summary_lines}
+use Rattle.tsd_fleet.specs.FleetServes.{BeginsToListen, CountsLinks, HasFleetReason, HasListened, IsFirstFront, Listens, listening_line}
+use Rattle.serve_job.specs.FleetRuns.{EndsJob, EndsSo, FleetCauses, FleetPrints, IsFleetFront, WriteCause, has_no_more, summary_lines}
 
 -- ---- the last lines
 
@@ -45,9 +45,9 @@ early : {served result : FleetEnd} {held held' : Option (List ℕ)} {lines : Lis
 early e last not_write = early_by e e.so last not_write
 
 -- behind the line of the port
-after_line : {served result : FleetEnd} (links : ℕ) (tally : Tally) {held held' held2 : Option (List ℕ)} (now : Counts) → Listens held held' now
-    → EndsJob served result held' held2 (summary_lines links tally) → FleetPrints result links tally now.port held held2
-after_line {result = result} links tally {held = held} {held' = held'} {held2 = held2} now l e =
+after_line : {served result : FleetEnd} (links : ℕ) (tally : Tally) {held held' held2 : Option (List ℕ)} (asked : ℕ) (now : Counts) → Listens asked held held' now
+    → EndsJob served result held' held2 (summary_lines links tally) → FleetPrints result links tally asked now.port held held2
+after_line {result = result} links tally {held = held} {held' = held'} {held2 = held2} asked now l e =
     let line : has_no_more result ≡ false → result ≢ end.WriteFault → listening_line l.0 ++ e.printed ≡ listening_line l.0 = λ last not_write. ap (λ (x : List ℕ). listening_line l.0 ++ x) (early e last not_write) ∙ append-nil (listening_line l.0) in
     record {
       printed = listening_line l.0 ++ e.printed;
@@ -59,20 +59,20 @@ after_line {result = result} links tally {held = held} {held' = held'} {held2 = 
     }
 
 -- a front of the first line is one of all lines
-front_of_all : (given : List ℕ) (links : ℕ) (tally : Tally) (now : Counts) → IsFirstFront given now.port → IsFleetFront given now.port links tally
-front_of_all given links tally now (inl nothing) = inl nothing
-front_of_all given links tally now (inr (port, rest, is, line)) =
+front_of_all : (given : List ℕ) (links : ℕ) (tally : Tally) (asked : ℕ) (now : Counts) → IsFirstFront given asked now.port → IsFleetFront given asked now.port links tally
+front_of_all given links tally asked now (inl nothing) = inl nothing
+front_of_all given links tally asked now (inr (port, rest, is, line)) =
     inr (port, rest ++ summary_lines links tally, is, sym (append_assoc given rest (summary_lines links tally)) ∙ ap (λ (x : List ℕ). x ++ summary_lines links tally) line)
 
 -- where not even that was written whole
-after_front : {served result : FleetEnd} (links : ℕ) (tally : Tally) {held held' held2 : Option (List ℕ)} (now : Counts) → BeginsToListen held held' now
-    → (e : EndsJob served result held' held2 (summary_lines links tally)) → e.printed ≡ [] → has_no_more result ≡ false → result ≢ end.Stopped → FleetPrints result links tally now.port held held2
-after_front links tally {held = held} {held' = held'} {held2 = held2} now (given, gives, begun) e none more no_stop =
+after_front : {served result : FleetEnd} (links : ℕ) (tally : Tally) {held held' held2 : Option (List ℕ)} (asked : ℕ) (now : Counts) → BeginsToListen asked held held' now
+    → (e : EndsJob served result held' held2 (summary_lines links tally)) → e.printed ≡ [] → has_no_more result ≡ false → result ≢ end.Stopped → FleetPrints result links tally asked now.port held held2
+after_front links tally {held = held} {held' = held'} {held2 = held2} asked now (given, gives, begun) e none more no_stop =
     let all : given ++ e.printed ≡ given = ap (λ (x : List ℕ). given ++ x) none ∙ append-nil given in
     record {
       printed = given;
       gives = subst (Appends held held2) all (Appends-trans held held' held2 given e.printed gives e.gives);
-      front = front_of_all given links tally now begun;
+      front = front_of_all given links tally asked now begun;
       whole = λ is. let t : false ≡ true = sym more ∙ is in absurd cc;
       first = λ last not_write. begun;
       stopped = λ is. absurd (no_stop is);
@@ -83,14 +83,14 @@ same_end : {served result : FleetEnd} → EndsSo served result → has_no_more s
 same_end (inl same) last = same
 same_end (inr (more, why)) last = let t : false ≡ true = sym last ∙ more in absurd cc
 
-pub prints : (served result : FleetEnd) (links : ℕ) (tally : Tally) (held held' held2 : Option (List ℕ)) (now : Counts) → HasListened served held held' now
-    → EndsJob served result held' held2 (summary_lines links tally) → FleetPrints result links tally now.port held held2
-prints end.Closed result links tally held held' held2 now l e = after_line links tally now (l.closed refl) e
-prints end.Died result links tally held held' held2 now l e = after_line links tally now (l.died refl) e
-prints end.Stopped result links tally held held' held2 now l e = after_line links tally now (l.stopped refl) e
-prints end.DoorFault result links tally held held' held2 now l e = after_front links tally now l.begun e (e.nothing refl) (ap has_no_more (same_end e.so refl)) (λ is. let t : end.DoorFault ≡ end.Stopped = sym (same_end e.so refl) ∙ is in absurd cc)
-prints end.WriteFault result links tally held held' held2 now l e = after_front links tally now l.begun e (e.nothing refl) (ap has_no_more (same_end e.so refl)) (λ is. let t : end.WriteFault ≡ end.Stopped = sym (same_end e.so refl) ∙ is in absurd cc)
-prints end.OutOfMemory result links tally held held' held2 now l e = after_front links tally now l.begun e (e.nothing refl) (ap has_no_more (same_end e.so refl)) (λ is. let t : end.OutOfMemory ≡ end.Stopped = sym (same_end e.so refl) ∙ is in absurd cc)
+pub prints : (served result : FleetEnd) (links : ℕ) (tally : Tally) (held held' held2 : Option (List ℕ)) (asked : ℕ) (now : Counts) → HasListened served asked held held' now
+    → EndsJob served result held' held2 (summary_lines links tally) → FleetPrints result links tally asked now.port held held2
+prints end.Closed result links tally held held' held2 asked now l e = after_line links tally asked now (l.closed refl) e
+prints end.Died result links tally held held' held2 asked now l e = after_line links tally asked now (l.died refl) e
+prints end.Stopped result links tally held held' held2 asked now l e = after_line links tally asked now (l.stopped refl) e
+prints end.DoorFault result links tally held held' held2 asked now l e = after_front links tally asked now l.begun e (e.nothing refl) (ap has_no_more (same_end e.so refl)) (λ is. let t : end.DoorFault ≡ end.Stopped = sym (same_end e.so refl) ∙ is in absurd cc)
+prints end.WriteFault result links tally held held' held2 asked now l e = after_front links tally asked now l.begun e (e.nothing refl) (ap has_no_more (same_end e.so refl)) (λ is. let t : end.WriteFault ≡ end.Stopped = sym (same_end e.so refl) ∙ is in absurd cc)
+prints end.OutOfMemory result links tally held held' held2 asked now l e = after_front links tally asked now l.begun e (e.nothing refl) (ap has_no_more (same_end e.so refl)) (λ is. let t : end.OutOfMemory ≡ end.Stopped = sym (same_end e.so refl) ∙ is in absurd cc)
 
 -- ---- how it ended
 
@@ -111,6 +111,15 @@ ended_stopped e is = ended end.Stopped e (λ t. absurd cc) (λ t. absurd cc) is
 
 ended_door_fault : {served result : FleetEnd} → EndsSo served result → result ≡ end.DoorFault → served ≡ end.DoorFault
 ended_door_fault e is = ended end.DoorFault e (λ t. absurd cc) (λ t. absurd cc) is
+
+-- an end that no refusal and no want of memory brought about follows on none of these
+no_stop_before : {served result : FleetEnd} → EndsSo served result → result ≢ end.Stopped → served ≢ end.Stopped
+no_stop_before (inl same) no_stop is = no_stop (same ∙ is)
+no_stop_before (inr (more, why)) no_stop is = let t : true ≡ false = sym more ∙ ap has_no_more is in absurd cc
+
+enough_before : {served result : FleetEnd} → EndsSo served result → result ≢ end.OutOfMemory → served ≢ end.OutOfMemory
+enough_before (inl same) enough is = enough (same ∙ is)
+enough_before (inr (more, why)) enough is = let t : true ≡ false = sym more ∙ ap has_no_more is in absurd cc
 
 -- want of memory stays one
 pub counted : {served result : FleetEnd} {links ends : ℕ} (before now : Counts) → EndsSo served result → CountsLinks served links ends before now → CountsLinks result links ends before now
@@ -146,6 +155,7 @@ pub causes : (served result : FleetEnd) {ends : List Served} (waiting waiting' :
 causes served result waiting waiting' stops stops' doors doors' writes mid writes' e w later r = record {
   none_left = none_left result waiting waiting' e r;
   stopped = λ is. r.stopped (ended_stopped e is);
+  heeded = λ no_stop enough. r.heeded (no_stop_before e no_stop) (enough_before e enough);
   door_fault = λ is. r.door_fault (ended_door_fault e is);
   write_fault = λ is. write_rose served writes mid writes' later w.later r.write_fault (w.cause is);
 }

@@ -48,7 +48,7 @@ pub fn serve_fleet<
     requires daemons { (1 ≤ fleet.now.daemons) × (fleet.now.daemons ≤ 8) }
     requires workers { (1 ≤ fleet.now.workers) × (fleet.now.workers ≤ 16) }
     requires regions { (1 ≤ fleet.now.regions) × (fleet.now.regions ≤ 16) }
-    ensures runs { RunsFleet result.end (AllTell D.Inlet.taken) (AllTell D.Outlet.held) (admission config.now rule.now.patterns) (C.moments clock.old)
+    ensures runs { RunsFleet result.end fleet.now.port (AllTell D.Inlet.taken) (AllTell D.Outlet.held) (admission config.now rule.now.patterns) (C.moments clock.old)
         (D.back doors.old) (D.back doors.new) (D.counts doors.old) (D.counts doors.new) (C.faults clock.old) (C.faults clock.new)
         (K.held output.old) (K.held output.new) }
     ensures causes { FleetCauses result.end (D.waiting doors.old) (D.waiting doors.new) (H.stops halt) (H.stops result.halt)

@@ -262,11 +262,13 @@ pub reasons : (all : Bool) (end end' : AcceptEnd) (w w' w'' : Option (List (List
 reasons all end end' w w' w'' s s' f f' f'' (inl both) ws fs r = record {
   none = λ is. subst (IsNoneLeft w) (sym ws) (r.none (sym both.1 ∙ is));
   stopped = λ is. r.stopped (sym both.1 ∙ is);
+  heeded = λ no_stop enough. r.heeded (λ is. no_stop (both.1 ∙ is)) (λ is. enough (both.1 ∙ is));
   fault = λ is. subst (Rose f) (sym fs) (r.fault (sym both.1 ∙ is));
 }
 reasons all end end' w w' w'' s s' f f' f'' (inr out) ws fs r = record {
   none = λ is. absurd (other (sym is ∙ out));
   stopped = λ is. absurd (other_stop (sym is ∙ out));
+  heeded = λ no_stop enough. absurd (enough out);
   fault = λ is. absurd (other_fault (sym is ∙ out));
 }
   where

@@ -1,5 +1,5 @@
 //! The connections of the doors, served by workers over one site.
-ghost use Rattle.std.specs.Prelude.{◌≡◌, ◌⊎◌, ◌≤◌, ◌+◌, true, All, IfOk, OnErr, length, map, vec_len};
+ghost use Rattle.std.specs.Prelude.{◌≡◌, ◌⊎◌, ◌≤◌, ◌+◌, true, [], All, IfOk, OnErr, length, map, vec_len};
 ghost use Rattle.std.specs.List.{sum_by};
 ghost use Rattle.step_count.specs.Tokens.{counter_of_pass, view_of_pass};
 ghost use Rattle.cell_store.specs.CallerViews.{IsCaller, numbers_of, seen_of};
@@ -86,6 +86,7 @@ pub fn serve_connections<
     ensures stops_later { H.stops halt.old ≤ H.stops halt.new }
     ensures clock_later { C.faults clock.old ≤ C.faults clock.new }
     ensures doors_later { D.faults doors.old ≤ D.faults doors.new }
+    ensures dropped { rows_to.new.items ≡ [] }
     ensures doors { OnErr result (doors.new ≡ doors.old) }
     ensures clock { OnErr result (clock.new ≡ clock.old) }
     ensures halt { OnErr result (halt.new ≡ halt.old) }

@@ -34,7 +34,7 @@ impl Dots {
         }
     }
 
-    /// No points, with room for so many, which no push then has to make. It fails only for want of memory.
+    /// No points, with room for so many. It fails only for want of memory.
     pub fn with_room(alloc: Global, room: usize) -> Result<Dots, AllocError>
         ensures { IfOk result (λ dots. dots ≡ []) }
     {

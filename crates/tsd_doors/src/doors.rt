@@ -1,5 +1,5 @@
 //! Where connections come from, and what ends the wait for them.
-ghost use Rattle.std.specs.Prelude.{◌≡◌, ◌<◌, ℕ, List, Option, IfOk, IfSome, OnErr, MatchOption};
+ghost use Rattle.std.specs.Prelude.{◌≡◌, ◌≢◌, ◌<◌, ℕ, List, Option, IfOk, IfSome, OnErr, MatchOption};
 ghost use Rattle.tsd_io.specs.Causes.{HasCause};
 ghost use Rattle.tsd_doors.specs.Links.{Counts, Shut, accepted, AreFresh, GivesFirst, HasNoneLeft, Ends, counts_after_accept, with_port, one_returned};
 
@@ -47,6 +47,7 @@ pub trait Doors: Send {
     ///
     /// After `Failed` what is told is as before, and the next call may go on.
     fn bind(&mut self, port: u16) -> Result<u16, Failed>
+        ensures asked { IfOk result (λ bound. port ≢ 0 → bound ≡ port) }
         ensures ok { IfOk result (λ bound. counts self.new ≡ with_port bound (counts self.old)) }
         ensures err { OnErr result (counts self.new ≡ counts self.old) }
         ensures waiting { waiting self.new ≡ waiting self.old }

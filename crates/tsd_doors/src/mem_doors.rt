@@ -1,5 +1,5 @@
 //! Doors in memory, whose connections and failures are chosen beforehand.
-ghost use Rattle.std.specs.Prelude.{◌≡◌, ◌≤◌, ◌+◌, ◌++◌, ◌∷◌, ◌↔◌, ◌<◌, [], All, Some, None, IsErr, IfOk, IfSome, OnErr, MatchOption, Contains};
+ghost use Rattle.std.specs.Prelude.{◌≡◌, ◌≢◌, ◌≤◌, ◌+◌, ◌++◌, ◌∷◌, ◌↔◌, ◌<◌, [], All, Some, None, IsErr, IfOk, IfSome, OnErr, MatchOption, Contains};
 ghost use Rattle.std.specs.Vec.Iter.{into_iter_items};
 ghost use Rattle.tsd_io.specs.Causes.{HasCause};
 ghost use Rattle.tsd_io.specs.Memory.{one_more, faults_after};
@@ -135,14 +135,15 @@ impl Doors for MemDoors {
 
     fn bind(&mut self, port: u16) -> Result<u16, Failed>
         // As of each doors.
+        ensures asked { IfOk result (λ bound. port ≢ 0 → bound ≡ port) }
         ensures ok { IfOk result (λ bound. doors_counts self.new ≡ with_port bound (doors_counts self.old)) }
         ensures err { OnErr result (doors_counts self.new ≡ doors_counts self.old) }
         ensures waiting { doors_waiting self.new ≡ doors_waiting self.old }
         ensures back { doors_back self.new ≡ doors_back self.old }
         ensures cause { HasCause self.old.faults self.new.faults result }
 
-        // The port that was asked for; the calls on the list fail, and no others.
-        ensures asked { IfOk result (λ bound. bound ≡ port) }
+        // The port that was asked for, 0 too; the calls on the list fail, and no others.
+        ensures same { IfOk result (λ bound. bound ≡ port) }
         ensures fails { IsErr result ↔ Contains self.old.failing self.new.calls }
         ensures calls { self.new.calls ≡ one_more self.old.calls }
         ensures failing { self.new.failing ≡ self.old.failing }

@@ -1,7 +1,7 @@
 //! Doors over a listener of the system.
 //!
 //! They tell nothing of content: no proof knows what a system gives or takes.
-ghost use Rattle.std.specs.Prelude.{◌≡◌, ◌≤◌, ◌+◌, ◌-◌, ◌^◌, None, Some, IfOk, IfSome};
+ghost use Rattle.std.specs.Prelude.{◌≡◌, ◌≢◌, ◌≤◌, ◌+◌, ◌-◌, ◌^◌, None, Some, IfOk, IfSome};
 ghost use Rattle.std.specs.Option.{option_map};
 
 use crate::doors::{Bell, Doors};
@@ -157,13 +157,19 @@ fn open_at<N: Net<Listener = TcpListener, Stream = TcpStream>>(
     net: &N,
     alloc: Global,
     port: u16,
-) -> io::Result<OpenDoors> {
+) -> io::Result<OpenDoors>
+    ensures asked { IfOk result (λ doors. port ≢ 0 → doors.port ≡ port) }
+{
     let all = [
         SocketAddr::new(IpAddr::V6(Ipv6Addr::UNSPECIFIED), port),
         SocketAddr::new(IpAddr::V4(Ipv4Addr::UNSPECIFIED), port),
     ];
     let listener = TcpListener::bind(net, &all[..])?;
-    let port = listener.local_addr()?.port();
+    let port = if port == 0 {
+        listener.local_addr()?.port()
+    } else {
+        port
+    };
     let socket = TcpStream::from(OwnedFd::from(listener.try_clone()?));
     let rope = Arc::new(
         alloc,

@@ -36,26 +36,29 @@ use Rattle.tsd_fleet.specs.declared.fleet_end.FleetEnd.{FleetEnd}
 use Rattle.tsd_fleet.specs.declared.fleet_end.FleetEnd.TheVariants as end
 use Rattle.site_workers.specs.GatheredLinks.{Gathered, SiteCounts}
 use Rattle.tsd_fleet.specs.FleetStands.{FleetStands}
-use Rattle.tsd_fleet.specs.FleetServes.{BeginsToListen, CountsLinks, FleetServes, HasFleetReason, HasListened, IsListenFault, IsTally, Listens, is_die, listening_line}
+use Rattle.tsd_fleet.specs.FleetServes.{BeginsToListen, BindsAsked, CountsLinks, FleetServes, HasFleetReason, HasListened, IsListenFault, IsTally, Listens, is_die, listening_line}
 use Rattle.tsd_fleet.proofs.FleetHistories.{none_back, stands}
 
 -- ---- the line
 
 -- a front of the line was written
-pub begins_front : (held held' : Option (List ℕ)) (now : Counts) (bound n : ℕ) (piece : List ℕ) → now.port ≡ Some bound → piece ≡ listening_line bound → Appends held held' (take n piece) → BeginsToListen held held' now
-begins_front held held' now bound n piece port is more = (take n piece, more, inr (bound, drop n piece, port, take-append-drop n piece ∙ is))
+pub begins_front : (asked : ℕ) (held held' : Option (List ℕ)) (now : Counts) (bound n : ℕ) (piece : List ℕ) → BindsAsked asked now.port bound → piece ≡ listening_line bound → Appends held held' (take n piece) → BeginsToListen asked held held' now
+begins_front asked held held' now bound n piece port is more = (take n piece, more, inr (bound, drop n piece, port, take-append-drop n piece ∙ is))
 
 -- nothing was written
-pub begins_nothing : (held : Option (List ℕ)) (now : Counts) → BeginsToListen held held now
-begins_nothing held now = ([], Appends-nil held, inl refl)
+pub begins_nothing : (asked : ℕ) (held : Option (List ℕ)) (now : Counts) → BeginsToListen asked held held now
+begins_nothing asked held now = ([], Appends-nil held, inl refl)
 
 -- the port stays
-pub listens_still : (held held' : Option (List ℕ)) (x y : Counts) → y.port ≡ x.port → Listens held held' x → Listens held held' y
-listens_still held held' x y same l = (l.0, same ∙ l.1, l.2)
+still : (asked port : ℕ) (x y : Counts) → y.port ≡ x.port → BindsAsked asked x.port port → BindsAsked asked y.port port
+still asked port x y same binds = record { bound_is = same ∙ binds.bound_is; asked_is = binds.asked_is }
 
-pub begins_still : (held held' : Option (List ℕ)) (x y : Counts) → y.port ≡ x.port → BeginsToListen held held' x → BeginsToListen held held' y
-begins_still held held' x y same (given, more, inl none) = (given, more, inl none)
-begins_still held held' x y same (given, more, inr (port, rest, is, front)) = (given, more, inr (port, rest, same ∙ is, front))
+pub listens_still : (asked : ℕ) (held held' : Option (List ℕ)) (x y : Counts) → y.port ≡ x.port → Listens asked held held' x → Listens asked held held' y
+listens_still asked held held' x y same l = (l.0, still asked l.0 x y same l.1, l.2)
+
+pub begins_still : (asked : ℕ) (held held' : Option (List ℕ)) (x y : Counts) → y.port ≡ x.port → BeginsToListen asked held held' x → BeginsToListen asked held held' y
+begins_still asked held held' x y same (given, more, inl none) = (given, more, inl none)
+begins_still asked held held' x y same (given, more, inr (port, rest, is, front)) = (given, more, inr (port, rest, still asked port x y same is, front))
 
 -- ---- why it ended
 
@@ -88,12 +91,14 @@ counts_none r x y returned out = record { links_are = none; returned = omega (ar
     none = omega (arith, returned, out)
 
 pub fleet_reason : (e : AcceptEnd) (r : FleetEnd) (ends : List Served) (w w' : Option (List (List ℕ))) (s s' d d' k k' : ℕ) → (r ≡ end.Closed → (e ≡ accept_end.NoneLeft) × (list_any is_die ends ≡ Bool.false))
-    → (r ≡ end.Died → (e ≡ accept_end.NoneLeft) × (list_any is_die ends ≡ Bool.true)) → (r ≡ end.Stopped → e ≡ accept_end.Stopped) → (r ≡ end.DoorFault → e ≡ accept_end.DoorFault) → r ≢ end.WriteFault
+    → (r ≡ end.Died → (e ≡ accept_end.NoneLeft) × (list_any is_die ends ≡ Bool.true)) → (r ≡ end.Stopped → e ≡ accept_end.Stopped) → (e ≡ accept_end.Stopped → r ≡ end.Stopped) → (e ≡ accept_end.OutOfMemory → r ≡ end.OutOfMemory)
+    → (r ≡ end.DoorFault → e ≡ accept_end.DoorFault) → r ≢ end.WriteFault
     → HasReason e w w' s s' d d' → HasFleetReason r ends w w' s s' d d' k k'
-fleet_reason e r ends w w' s s' d d' k k' closed died stopped door no_write reason = record {
+fleet_reason e r ends w w' s s' d d' k k' closed died stopped stops memory door no_write reason = record {
   closed = λ is. (reason.none (closed is).0, (closed is).1);
   died = λ is. (reason.none (died is).0, (died is).1);
   stopped = λ is. reason.stopped (stopped is);
+  heeded = λ no_stop enough. reason.heeded (λ is. no_stop (stops is)) (λ is. enough (memory is));
   door_fault = λ is. reason.fault (door is);
   write_fault = λ is. absurd (no_write is);
 }
@@ -108,6 +113,7 @@ reason_from r ends v w w' s s' c d d' k k' same le reason = record {
   closed = λ is. (subst (λ (o : Option (List (List ℕ))). IsNoneLeft o w') same (reason.closed is).0, (reason.closed is).1);
   died = λ is. (subst (λ (o : Option (List (List ℕ))). IsNoneLeft o w') same (reason.died is).0, (reason.died is).1);
   stopped = λ is. reason.stopped is;
+  heeded = reason.heeded;
   door_fault = λ is. later (reason.door_fault is);
   write_fault = λ is. reason.write_fault is;
 }
@@ -116,25 +122,26 @@ reason_from r ends v w w' s s' c d d' k k' same le reason = record {
     later rose = omega (arith, le, rose)
 
 -- listening failed
-pub fault_reason : (r : FleetEnd) (ends : List Served) (w w' : Option (List (List ℕ))) (s s' d d' k k' : ℕ) → IsListenFault r d d' k k' → HasFleetReason r ends w w' s s' d d' k k'
-fault_reason r ends w w' s s' d d' k k' fault = record {
+pub fault_reason : (r : FleetEnd) (ends : List Served) (w w' : Option (List (List ℕ))) (s s' d d' k k' : ℕ) → IsListenFault r d d' k k' → s' ≡ s → HasFleetReason r ends w w' s s' d d' k k'
+fault_reason r ends w w' s s' d d' k k' fault same = record {
   closed = λ is. absurd (subst (λ (e : FleetEnd). IsListenFault e d d' k k') is fault);
   died = λ is. absurd (subst (λ (e : FleetEnd). IsListenFault e d d' k k') is fault);
   stopped = λ is. absurd (subst (λ (e : FleetEnd). IsListenFault e d d' k k') is fault);
+  heeded = λ no_stop enough. same;
   door_fault = λ is. subst (λ (e : FleetEnd). IsListenFault e d d' k k') is fault;
   write_fault = λ is. subst (λ (e : FleetEnd). IsListenFault e d d' k k') is fault;
 }
 
-pub fault_listened : (r : FleetEnd) (held held' : Option (List ℕ)) (now : Counts) (d d' k k' : ℕ) → IsListenFault r d d' k k' → BeginsToListen held held' now → HasListened r held held' now
-fault_listened r held held' now d d' k k' fault begun = record {
+pub fault_listened : (r : FleetEnd) (asked : ℕ) (held held' : Option (List ℕ)) (now : Counts) (d d' k k' : ℕ) → IsListenFault r d d' k k' → BeginsToListen asked held held' now → HasListened r asked held held' now
+fault_listened r asked held held' now d d' k k' fault begun = record {
   closed = λ is. absurd (subst (λ (e : FleetEnd). IsListenFault e d d' k k') is fault);
   died = λ is. absurd (subst (λ (e : FleetEnd). IsListenFault e d d' k k') is fault);
   stopped = λ is. absurd (subst (λ (e : FleetEnd). IsListenFault e d d' k k') is fault);
   begun = begun;
 }
 
-pub has_listened : (r : FleetEnd) (held held' : Option (List ℕ)) (now : Counts) → Listens held held' now → HasListened r held held' now
-has_listened r held held' now l = record {
+pub has_listened : (r : FleetEnd) (asked : ℕ) (held held' : Option (List ℕ)) (now : Counts) → Listens asked held held' now → HasListened r asked held held' now
+has_listened r asked held held' now l = record {
   closed = λ is. l;
   died = λ is. l;
   stopped = λ is. l;

@@ -19,13 +19,22 @@ use Rattle.tsd_fleet.specs.FleetStands.{FleetStands}
 abbrev pub listening_line : ℕ → List ℕ
 listening_line port = codes "listening " ++ decimal port ++ 10 ∷ []
 
--- this port was bound, and its line was written
-abbrev pub Listens : Option (List ℕ) → Option (List ℕ) → Counts → Type 0
-Listens held held' now = (port : ℕ) × (now.port ≡ Some port) × Appends held held' (listening_line port)
+-- this port was bound, the one that was asked for, or for 0 any
+pub record BindsAsked (asked : ℕ) (bound : Option ℕ) (port : ℕ) : Type 0 where
+  pub bound_is : bound ≡ Some port
+  pub asked_is : asked ≢ 0 → port ≡ asked
 
--- nothing was written, or a front of the line of the port that was bound
-abbrev pub BeginsToListen : Option (List ℕ) → Option (List ℕ) → Counts → Type 0
-BeginsToListen held held' now = (given : List ℕ) × Appends held held' given × ((given ≡ []) ⊎ ((port : ℕ) × (rest : List ℕ) × (now.port ≡ Some port) × (given ++ rest ≡ listening_line port)))
+-- nothing, or a front of the line of the port that was bound
+abbrev pub IsFirstFront : List ℕ → ℕ → Option ℕ → Type 0
+IsFirstFront given asked bound = (given ≡ []) ⊎ ((port : ℕ) × (rest : List ℕ) × BindsAsked asked bound port × (given ++ rest ≡ listening_line port))
+
+-- the port was bound, and its line was written
+abbrev pub Listens : ℕ → Option (List ℕ) → Option (List ℕ) → Counts → Type 0
+Listens asked held held' now = (port : ℕ) × BindsAsked asked now.port port × Appends held held' (listening_line port)
+
+-- no more than a front of the line was written
+abbrev pub BeginsToListen : ℕ → Option (List ℕ) → Option (List ℕ) → Counts → Type 0
+BeginsToListen asked held held' now = (given : List ℕ) × Appends held held' given × IsFirstFront given asked now.port
 
 -- listening failed so only for its cause
 abbrev pub IsListenFault : FleetEnd → ℕ → ℕ → ℕ → ℕ → Type 0
@@ -57,17 +66,18 @@ abbrev pub is_die : Served → Bool
 is_die answer.Die = true
 is_die other = false
 
--- a fleet ends so only for its reason
+-- a fleet ends so only for its reason, and where the halt refused it ends so, or for want of memory
 pub record HasFleetReason (result : FleetEnd) (ends : List Served) (waiting waiting' : Option (List (List ℕ))) (stops stops' doors doors' writes writes' : ℕ) : Type 0 where
   pub closed : result ≡ end.Closed → IsNoneLeft waiting waiting' × (list_any is_die ends ≡ false)
   pub died : result ≡ end.Died → IsNoneLeft waiting waiting' × (list_any is_die ends ≡ true)
   pub stopped : result ≡ end.Stopped → Rose stops stops'
+  pub heeded : result ≢ end.Stopped → result ≢ end.OutOfMemory → stops' ≡ stops
   pub door_fault : result ≡ end.DoorFault → Rose doors doors'
   pub write_fault : result ≡ end.WriteFault → Rose writes writes'
 
 -- the line of the port was written where accepting ended by itself, and in each case nothing else was written
-pub record HasListened (result : FleetEnd) (held held' : Option (List ℕ)) (now : Counts) : Type 0 where
-  pub closed : result ≡ end.Closed → Listens held held' now
-  pub died : result ≡ end.Died → Listens held held' now
-  pub stopped : result ≡ end.Stopped → Listens held held' now
-  pub begun : BeginsToListen held held' now
+pub record HasListened (result : FleetEnd) (asked : ℕ) (held held' : Option (List ℕ)) (now : Counts) : Type 0 where
+  pub closed : result ≡ end.Closed → Listens asked held held' now
+  pub died : result ≡ end.Died → Listens asked held held' now
+  pub stopped : result ≡ end.Stopped → Listens asked held held' now
+  pub begun : BeginsToListen asked held held' now

@@ -107,7 +107,7 @@ pub fn serve<
     // Why it ended, and what was written.
     ensures reason { HasFleetReason result.end result.ends.items (D.waiting doors.old) (D.waiting doors.new) (H.stops halt) (H.stops result.halt)
         (D.faults doors.old) (D.faults doors.new) (K.faults output.old) (K.faults output.new) }
-    ensures listens { HasListened result.end (K.held output.old) (K.held output.new) (D.counts doors.new) }
+    ensures listens { HasListened result.end fleet.now.port (K.held output.old) (K.held output.new) (D.counts doors.new) }
 
     // No count falls.
     ensures stops_later { H.stops halt ≤ H.stops result.halt }
@@ -175,8 +175,8 @@ fn serve_listening<
     ensures counts { IfOk result (λ s. CountsLinks s.end s.links (length s.ends.items) (D.counts doors.old) (D.counts doors.new)) }
     ensures reason { IfOk result (λ s. HasFleetReason s.end s.ends.items (D.waiting doors.old) (D.waiting doors.new) (H.stops halt.old) (H.stops halt.new)
         (D.faults doors.old) (D.faults doors.new) (K.faults output.old) (K.faults output.new)) }
-    ensures listens { IfOk result (λ s. Listens (K.held output.old) (K.held output.new) (D.counts doors.new)) }
-    ensures begins { BeginsToListen (K.held output.old) (K.held output.new) (D.counts doors.new) }
+    ensures listens { IfOk result (λ s. Listens fleet.now.port (K.held output.old) (K.held output.new) (D.counts doors.new)) }
+    ensures begins { BeginsToListen fleet.now.port (K.held output.old) (K.held output.new) (D.counts doors.new) }
     ensures failed { IfErr result (λ end. IsListenFault end (D.faults doors.old) (D.faults doors.new) (K.faults output.old) (K.faults output.new)) }
     ensures stops_later { H.stops halt.old ≤ H.stops halt.new }
     ensures clock_later { C.faults clock.old ≤ C.faults clock.new }
@@ -186,6 +186,7 @@ fn serve_listening<
     ensures returned { OnErr result ((D.counts doors.new).returned ≡ (D.counts doors.old).returned) }
     ensures out { OnErr result ((D.counts doors.new).out ≡ (D.counts doors.old).out) }
     ensures clock { OnErr result (clock.new ≡ clock.old) }
+    ensures halt { OnErr result (halt.new ≡ halt.old) }
 {
     let Ok(regions) = Regions::of(alloc, Listing::none(alloc), fleet.regions) else {
         return Err(FleetEnd::OutOfMemory);
@@ -235,6 +236,7 @@ fn serve_regions<
     ensures doors_later { D.faults doors.old ≤ D.faults doors.new }
     ensures doors { OnErr result (doors.new ≡ doors.old) }
     ensures clock { OnErr result (clock.new ≡ clock.old) }
+    ensures halt { OnErr result (halt.new ≡ halt.old) }
 {
     let parts = SiteParts::make(alloc, regions, gate)?;
     serve_parts::<Brand, T, G, C, H, D>(rt, alloc, fleet, parts, rule, config, clock, halt, doors)
@@ -276,6 +278,7 @@ fn serve_parts<
     ensures doors_later { D.faults doors.old ≤ D.faults doors.new }
     ensures doors { OnErr result (doors.new ≡ doors.old) }
     ensures clock { OnErr result (clock.new ≡ clock.old) }
+    ensures halt { OnErr result (halt.new ≡ halt.old) }
 {
     let site = parts.named::<J>();
     let served = serve_site(rt, alloc, fleet, &site, rule, config, clock, halt, doors)?;

@@ -28,6 +28,7 @@ pub(crate) fn fleet_end(end: AcceptEnd, ends: &[Served]) -> FleetEnd
     ensures closed { result ≡ FleetEnd.Closed → (end ≡ AcceptEnd.NoneLeft) × (list_any is_die ends.now ≡ false) }
     ensures died { result ≡ FleetEnd.Died → (end ≡ AcceptEnd.NoneLeft) × (list_any is_die ends.now ≡ true) }
     ensures stopped { result ≡ FleetEnd.Stopped → end ≡ AcceptEnd.Stopped }
+    ensures stops { end ≡ AcceptEnd.Stopped → result ≡ FleetEnd.Stopped }
     ensures door_fault { result ≡ FleetEnd.DoorFault → end ≡ AcceptEnd.DoorFault }
     ensures memory { end ≡ AcceptEnd.OutOfMemory → result ≡ FleetEnd.OutOfMemory }
     ensures no_write { result ≢ FleetEnd.WriteFault }

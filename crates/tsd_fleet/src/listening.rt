@@ -16,8 +16,8 @@ pub(crate) fn listen<D: Doors, K: Sink>(
     doors: &mut D,
     output: &mut K,
 ) -> Result<(), FleetEnd>
-    ensures ok { OnOk result (Listens (K.held output.old) (K.held output.new) (D.counts doors.new)) }
-    ensures begins { BeginsToListen (K.held output.old) (K.held output.new) (D.counts doors.new) }
+    ensures ok { OnOk result (Listens port (K.held output.old) (K.held output.new) (D.counts doors.new)) }
+    ensures begins { BeginsToListen port (K.held output.old) (K.held output.new) (D.counts doors.new) }
     ensures returned { (D.counts doors.new).returned ≡ (D.counts doors.old).returned }
     ensures out { (D.counts doors.new).out ≡ (D.counts doors.old).out }
     ensures waiting { D.waiting doors.new ≡ D.waiting doors.old }

@@ -93,7 +93,7 @@ point_read line number old new p is adds lines r =
     }
 
 pub point_full : (line : Line) (old new : SoFar) (p : DataPoint) (kind : Kind) (text : List ℕ) → judged line ≡ Taken p → AddsPoint old p (Some kind) new → text ≡ exhausted_text kind → (lines : List Line) → (r : IsRead lines old) → refusal r.gathers.names (judged line) ≡ Some text
-point_full line old new p kind text is adds told lines r = ap (refusal r.gathers.names) is ∙ ap full_text (adds r.points r.gathers) ∙ ap Some (sym told)
+point_full line old new p kind text is adds told lines r = ap (refusal r.gathers.names) is ∙ ap full_text (adds.0 r.points r.gathers) ∙ ap Some (sym told)
 
 -- one more line was read
 pub read_on : (bytes rest : List ℕ) (n : ℕ) (lines : List Line) (c d : SoFar) (count : ℕ) → BeginsWithLine rest n → ReadsFurther bytes rest lines c count → ReadsLine (whole_line (take n rest)) (count + 1) c d None
@@ -231,4 +231,4 @@ pub line_full : (line : Line) (number : ℕ) (old new : SoFar) (kind : Kind) (ba
 line_full line number old new kind bad short (p, is, adds) told counted = λ lines read. (point_full line old new p kind bad.text.items (short_judged line short ∙ is) adds told lines read, counted)
 
 pub line_refused : (line : Line) (number : ℕ) (old new : SoFar) (text : Vec ℕ) → length line.bytes ≤ LONGEST_LINE → AddsText old (judged_text (text_of line)) (outcome.Refused text) new → ReadsLine line number old new (Some (record { number = number; text = text }))
-line_refused line number old new text short is = λ lines read. (ap (refusal read.gathers.names) (short_judged line short ∙ is), refl)
+line_refused line number old new text short (is, same) = λ lines read. (ap (refusal read.gathers.names) (short_judged line short ∙ is), refl)

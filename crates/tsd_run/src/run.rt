@@ -70,8 +70,9 @@ pub fn run<
     ensures stopped { result.status ≡ Status.Stopped → Rose (H.stops halt) (H.stops result.halt) }
     ensures door_fault { result.status ≡ Status.DoorFault → Rose (D.faults doors.old) (D.faults doors.new) }
 
-    // A fleet is done only where no more connections came.
+    // A fleet is done only where no more connections came, and where the halt refused it is stopped, unless memory ran out.
     ensures none_left { is_serve (asked_of (map string_bytes words.now)) ≡ true → result.status ≡ Status.Done → IsNoneLeft (D.waiting doors.old) (D.waiting doors.new) }
+    ensures heeded { is_serve (asked_of (map string_bytes words.now)) ≡ true → result.status ≢ Status.Stopped → result.status ≢ Status.Memory → H.stops result.halt ≡ H.stops halt }
 {
     match read_words(alloc, words) {
         Ok(asked) => run_asked(rt, alloc, asked, input, output, clock, halt, doors),
@@ -116,6 +117,7 @@ fn run_asked<
     ensures stopped { result.status ≡ Status.Stopped → Rose (H.stops halt) (H.stops result.halt) }
     ensures door_fault { result.status ≡ Status.DoorFault → Rose (D.faults doors.old) (D.faults doors.new) }
     ensures none_left { is_serve (what_asked asked.entry) ≡ true → result.status ≡ Status.Done → IsNoneLeft (D.waiting doors.old) (D.waiting doors.new) }
+    ensures heeded { is_serve (what_asked asked.entry) ≡ true → result.status ≢ Status.Stopped → result.status ≢ Status.Memory → H.stops result.halt ≡ H.stops halt }
 {
     match asked {
         Some(Asked::Serve { serve }) => run_fleet(rt, alloc, &serve, output, clock, halt, doors),
@@ -146,6 +148,7 @@ fn run_fleet<T: Threads + Wait + Sync, K: Sink, C: Clock + Send + Drop, H: Halt 
     ensures stopped { result.status ≡ Status.Stopped → Rose (H.stops halt) (H.stops result.halt) }
     ensures door_fault { result.status ≡ Status.DoorFault → Rose (D.faults doors.old) (D.faults doors.new) }
     ensures none_left { result.status ≡ Status.Done → IsNoneLeft (D.waiting doors.old) (D.waiting doors.new) }
+    ensures heeded { result.status ≢ Status.Stopped → result.status ≢ Status.Memory → H.stops result.halt ≡ H.stops halt }
 {
     let Ok(patterns) = patterns_of(alloc, &asked.names.patterns) else {
         return no_memory(halt);
@@ -190,6 +193,7 @@ fn run_by_rule<T: Threads + Wait + Sync, K: Sink, C: Clock + Send + Drop, H: Hal
     ensures stopped { result.status ≡ Status.Stopped → Rose (H.stops halt) (H.stops result.halt) }
     ensures door_fault { result.status ≡ Status.DoorFault → Rose (D.faults doors.old) (D.faults doors.new) }
     ensures none_left { result.status ≡ Status.Done → IsNoneLeft (D.waiting doors.old) (D.waiting doors.new) }
+    ensures heeded { result.status ≢ Status.Stopped → result.status ≢ Status.Memory → H.stops result.halt ≡ H.stops halt }
 {
     let config = config_of(&asked.names);
     let fleet = Fleet {

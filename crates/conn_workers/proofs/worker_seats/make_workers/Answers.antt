@@ -1,4 +1,4 @@
-use Rattle.std.proofs.Common.{◌≡◌, []}
+use Rattle.std.proofs.Common.{◌≡◌, [], rules}
 use Rattle.point_put.specs.Admissions.{admission}
 use Rattle.conn_workers.specs.ServedLinks.{AllTell, WorkerServed}
 use Rattle.conn_workers.proofs.WorkerLists.{none_hold, one_more_holds, same_holds}
@@ -6,6 +6,7 @@ use Rattle.conn_workers.proofs.worker_seats.make_workers.Goals as goal
 
 pub loop-number-init : goal.loop-number-init
 loop-number-init g c = record {
+  len = search rules;
   idle = none_hold c.in_ok-workers.workers.items (λ worker. worker.ends.items ≡ []) c.in_ok-workers.ensures.items;
   begun = none_hold c.in_ok-workers.workers.items
       (λ worker.
@@ -16,6 +17,7 @@ loop-number-init g c = record {
 
 pub loop-number-preserved : goal.loop-number-preserved
 loop-number-preserved g c = record {
+  len = search rules;
   idle = one_more_holds c.loop-number.workers.items c.push.new.self.items c.make.result (λ worker. worker.ends.items ≡ []) c.in_ok-push.ensures.items c.loop-number.invariant.idle c.make.ensures.none;
   begun = one_more_holds c.loop-number.workers.items c.push.new.self.items c.make.result
       (λ worker.

@@ -1,10 +1,11 @@
-use Rattle.std.proofs.Common.{◌≡◌, [], All}
+use Rattle.std.proofs.Common.{◌≡◌, [], All, length}
 use Rattle.point_put.specs.Admissions.{admission}
 use Rattle.conn_workers.specs.ServedLinks.{AllTell, WorkerServed}
 use Rattle.conn_workers.proofs.worker_seats.make_workers.Given as goal
 
 abbrev pub invariant-loop-number : goal.invariant-loop-number
 invariant-loop-number g l = record {
+  len : length l.workers.items ≡ l.number;
   idle : All (λ worker. worker.ends.items ≡ []) l.workers.items;
   begun : All
       (λ worker.

@@ -9,6 +9,6 @@ invariant-loop g l = record {
   links : l.links ≡ links_between (g.D.Doors.counts l.fn.doors) (g.D.Doors.counts l.doors);
   tells : StillTells (g.D.Doors.waiting l.fn.doors) (g.D.Doors.waiting l.doors);
   back : g.D.Doors.back l.doors ≡ g.D.Doors.back l.fn.doors;
-  stops : g.H.Halt.stops l.fn.halt ≤ g.H.Halt.stops l.halt;
+  stops : g.H.Halt.stops l.halt ≡ g.H.Halt.stops l.fn.halt;
   faults : g.D.Doors.faults l.fn.doors ≤ g.D.Doors.faults l.doors;
 }

@@ -16,7 +16,7 @@ returns-clause-runs g c =
       counted = job.counted (counts c.args.doors.now) (counts c.serve-done.new.doors) e.so s.counts;
       closed = λ is. (s.reason.closed (job.ended_closed e.so is)).1;
       died = λ is. (s.reason.died (job.ended_died e.so is)).1;
-      prints = job.prints d.end c.finish-end.result d.links d.tally (held c.args.output.now) (held c.serve-done.new.output) (held c.finish-end.new.output) (counts c.serve-done.new.doors) s.listens e;
+      prints = job.prints d.end c.finish-end.result d.links d.tally (held c.args.output.now) (held c.serve-done.new.output) (held c.finish-end.new.output) c.args.fleet.now.port (counts c.serve-done.new.doors) s.listens e;
     }
 
 pub returns-clause-causes : goal.returns-clause-causes

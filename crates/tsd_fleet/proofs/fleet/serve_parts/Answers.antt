@@ -16,4 +16,4 @@ pub returns-clause-reason : goal.returns-clause-reason
 returns-clause-reason g c = λ writes writes_now.
     let e = c.fleet_end.ensures in
     reason_as _ c.deref.result.now _ _ _ _ _ _ _ _ _ c.deref.ensures.value
-    (fleet_reason c.in_ok-served.served.end _ c.deref.result.now _ _ _ _ _ _ writes writes_now e.closed e.died e.stopped e.door_fault e.no_write c.in_ok-served.ensures.reason)
+    (fleet_reason c.in_ok-served.served.end _ c.deref.result.now _ _ _ _ _ _ writes writes_now e.closed e.died e.stopped e.stops e.memory e.door_fault e.no_write c.in_ok-served.ensures.reason)

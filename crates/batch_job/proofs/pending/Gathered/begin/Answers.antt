@@ -13,8 +13,8 @@ invariant_of-self-2 c =
     (begun_texts c.self.inside.series c.args.series c.in_ok-pending.pending (ap (λ (es : List SeriesEntry). values_in es c.args.series) c.self.view_is ∙ c.requires.new) c.self.invariant
     (subst (IsKnownBy c.args.series) (sym c.in_ok-pending.ensures.text) c.requires.known))
 
-pub returns : goal.returns
-returns c =
+pub returns-clause-adds : goal.returns-clause-adds
+returns-clause-adds c =
     let fits : FitsSigned w64 c.args.value = search rules in
     let pending = c.in_ok-pending.pending in
     let values = subst (λ (v : ℤ). pending.values ≡ (c.args.time, v) ∷ []) (to_z-of_z w64 c.args.value fits) c.in_ok-pending.ensures.values in

@@ -1,4 +1,4 @@
-use Rattle.call_tests.proofs.queue_tests.two_queues.Given as goal
+use Rattle.call_tests.proofs.queue_tests.each_number_is_taken_once.Given as goal
 
 abbrev pub ghosts-both_sums-P-Ledger : goal.ghosts-both_sums-P-Ledger
 ghosts-both_sums-P-Ledger g a = record { name = a.puts.name; parts = a.puts.parts }
