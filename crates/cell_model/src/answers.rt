@@ -1,7 +1,10 @@
 //! What steps and bodies answer.
+ghost use Rattle.std.specs.Prelude.{◌≡◌};
+ghost use Rattle.cell_model.specs.declared.answers.RowsFault.TheVariants.{OutOfMemory};
 
 use crate::row::Row;
 use qual_codec::Bytes;
+use std::alloc::{AllocError, AllocFailed};
 
 /// The answer to a bump.
 #[derive(Clone, Copy, Debug, PartialEq, Eq)]
@@ -28,6 +31,22 @@ pub enum RowsFault {
     OutOfMemory,
     /// The caller was stopped before it.
     Stopped,
+}
+
+impl From<AllocError> for RowsFault {
+    ghost from_gives = { λ _ fault. fault ≡ OutOfMemory };
+
+    fn from(_failed: AllocError) -> RowsFault {
+        RowsFault::OutOfMemory
+    }
+}
+
+impl<T: Drop> From<AllocFailed<T>> for RowsFault {
+    ghost from_gives = { λ _ fault. fault ≡ OutOfMemory };
+
+    fn from(_failed: AllocFailed<T>) -> RowsFault {
+        RowsFault::OutOfMemory
+    }
 }
 
 /// A step wasn't made: the caller was stopped before it.

@@ -1,5 +1,5 @@
 //! Rows and cells, as callers see them.
-ghost use Rattle.std.specs.Prelude.{◌≡◌, ◌<◌, true, [], ◌∷◌, ◌++◌, length, slice_index_or, IfOk, OnOk, OnErr, MatchOption, Some, None};
+ghost use Rattle.std.specs.Prelude.{◌≡◌, ◌<◌, true, [], ◌∷◌, ◌++◌, length, slice_index_or, IfOk, IfSome, OnOk, OnErr, MatchOption, Some, None};
 ghost use Rattle.qual_codec.specs.declared.cells.Cell.{Cell};
 ghost use Rattle.std.specs.Ordering.{is_lt};
 ghost use Rattle.cell_model.specs.PlaceOrder.{place_cmp, table_number};
@@ -7,6 +7,8 @@ ghost use Rattle.cell_model.specs.Store.{value_among};
 ghost use Rattle.cell_model.specs.Rising.{RiseByQual, IsAboveCells, LinesRise, Adds, is_above, may_follow, place_of_line};
 
 use packed_cells::block::Block;
+use packed_cells::small_value::{Narrow, Wide};
+use packed_cells::strip::Strip;
 use qual_codec::{Bytes, CellRef};
 use row_key::Table;
 use std::alloc::{AllocError, Global};
@@ -95,6 +97,22 @@ impl Cells {
         ensures rising { RiseByQual self.now }
     {
         self.block.cell(i)
+    }
+
+    /// The strip that the cells are, if each has a qualifier of two bytes and none a value of more than 2.
+    #[inline]
+    pub fn narrow(&self) -> Option<&Strip<Narrow>>
+        ensures { IfSome result (λ strip. strip.now ≡ self.now) }
+    {
+        self.block.narrow()
+    }
+
+    /// The strip that the cells are, if each has a qualifier of two bytes and some a value of 4 or 8.
+    #[inline]
+    pub fn wide(&self) -> Option<&Strip<Wide>>
+        ensures { IfSome result (λ strip. strip.now ≡ self.now) }
+    {
+        self.block.wide()
     }
 
     /// The value at a qualifier, where a cell has it.

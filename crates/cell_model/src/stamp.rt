@@ -55,7 +55,7 @@ pub fn claim_at<B: Body>(
 }
 
 /// A put, stamped with its place: the machine's step there, whether a point is put or a merged cell.
-#[inline]
+#[inline(always)]
 pub fn put_at<B: Body>(
     body: &mut B,
     alloc: Global,

@@ -93,7 +93,7 @@ impl Body for Region {
         self.body.claim(alloc, row, qual, value)
     }
 
-    #[inline]
+    #[inline(always)]
     fn put(
         &mut self,
         alloc: Global,
@@ -111,7 +111,7 @@ impl Body for Region {
         self.body.drop_cells(row, which)
     }
 
-    #[inline]
+    #[inline(always)]
     fn stamp(&mut self, row: &Row, qual: &Bytes, place: u64) {
         self.body.stamp(row, qual, place);
     }

@@ -135,7 +135,7 @@ impl Body for Regions {
         region.claim(alloc, row, qual, value)
     }
 
-    #[inline]
+    #[inline(always)]
     fn put(
         &mut self,
         alloc: Global,
@@ -154,7 +154,7 @@ impl Body for Regions {
         region.drop_cells(row, which)
     }
 
-    #[inline]
+    #[inline(always)]
     fn stamp(&mut self, row: &Row, qual: &Bytes, place: u64) {
         let number = number_of(row.table, row.bytes.list(), self.data_regions);
         let region = &mut self.regions[number];
@@ -210,7 +210,7 @@ fn empty_regions(alloc: Global, data_regions: u32) -> Result<Vec<Region>, AllocE
 }
 
 /// The number of a row's region, which is its place among the regions.
-#[inline]
+#[inline(always)]
 fn number_of(table: Table, row: &[u8], data_regions: u32) -> usize
     requires least { 1 ≤ data_regions }
     requires most { data_regions ≤ MOST_DATA_REGIONS }

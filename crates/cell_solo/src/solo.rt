@@ -187,12 +187,8 @@ impl<B: Body + Drop> Rows for Solo<B> {
         ensures memory { IfErr result (λ fault. fault ≡ OutOfMemory) }
         ensures room { OnOk result (8 ≤ self.new.room) }
     {
-        let Ok(()) = self.turns.reserve(row.bytes.list().len()) else {
-            return Err(RowsFault::OutOfMemory);
-        };
-        let Ok(cells) = self.body.read(alloc, row) else {
-            return Err(RowsFault::OutOfMemory);
-        };
+        self.turns.reserve(row.bytes.list().len())?;
+        let cells = self.body.read(alloc, row)?;
         self.turns.add_read(self.caller, row);
         Ok(cells)
     }
@@ -211,12 +207,8 @@ impl<B: Body + Drop> Rows for Solo<B> {
         ensures room { OnOk result (8 ≤ self.new.room) }
     {
         let len = from.list().len() + to.list().len();
-        let Ok(()) = self.turns.reserve(len) else {
-            return Err(RowsFault::OutOfMemory);
-        };
-        let Ok(found) = self.body.next_row(alloc, table, from, to) else {
-            return Err(RowsFault::OutOfMemory);
-        };
+        self.turns.reserve(len)?;
+        let found = self.body.next_row(alloc, table, from, to)?;
         self.turns.add_next_row(self.caller, table, from, to);
         Ok(found)
     }
@@ -246,13 +238,9 @@ impl<B: Body + Drop> Rows for Solo<B> {
         ensures memory { IfErr result (λ fault. fault ≡ OutOfMemory) }
         ensures room { OnOk result (8 ≤ self.new.room) }
     {
-        let Ok(()) = self.turns.reserve(cell_len(row, qual, value)) else {
-            return Err(RowsFault::OutOfMemory);
-        };
+        self.turns.reserve(cell_len(row, qual, value))?;
         let place = self.turns.len() + 1;
-        let Ok(claimed) = claim_at(&mut self.body, alloc, row, qual, value, place) else {
-            return Err(RowsFault::OutOfMemory);
-        };
+        let claimed = claim_at(&mut self.body, alloc, row, qual, value, place)?;
         self.turns.add_claim(self.caller, row, qual, value);
         Ok(claimed)
     }
@@ -272,7 +260,7 @@ impl<B: Body + Drop> Rows for Solo<B> {
         ensures room { OnOk result (8 ≤ self.new.room) }
     {
         let len = point_len(row, value);
-        let Ok(()) = put_next(
+        put_next(
             &mut self.body,
             &mut self.turns,
             alloc,
@@ -280,9 +268,7 @@ impl<B: Body + Drop> Rows for Solo<B> {
             qual,
             value,
             len,
-        ) else {
-            return Err(RowsFault::OutOfMemory);
-        };
+        )?;
         self.turns.add_point(self.caller, point, row, value);
         Ok(())
     }
@@ -301,7 +287,7 @@ impl<B: Body + Drop> Rows for Solo<B> {
         ensures room { OnOk result (8 ≤ self.new.room) }
     {
         let len = cell_len(row, qual, value);
-        let Ok(()) = put_next(
+        put_next(
             &mut self.body,
             &mut self.turns,
             alloc,
@@ -309,9 +295,7 @@ impl<B: Body + Drop> Rows for Solo<B> {
             qual,
             value,
             len,
-        ) else {
-            return Err(RowsFault::OutOfMemory);
-        };
+        )?;
         self.turns.add_merged(self.caller, row, qual, value);
         Ok(())
     }

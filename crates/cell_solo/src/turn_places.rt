@@ -81,7 +81,7 @@ impl Places {
     }
 
     /// Whether there is room for this many further places, and for this many bytes of the next one.
-    #[inline]
+    #[inline(always)]
     pub fn has_room(&self, count: usize, bytes: usize) -> bool
         ensures spare { IsTrue result → count ≤ self.now.spare }
         ensures room { IsTrue result → bytes ≤ self.now.room }
@@ -95,7 +95,7 @@ impl Places {
     /// The number of the place of this point and row: the last one or one that is guessed, where the row is the same, else a new
     /// one. A place of the row has the point's names and hour. The room is that of the row, and
     /// [`crate::turn_bytes::MOST_NAMES`] for the names.
-    #[inline]
+    #[inline(always)]
     pub fn find_or_add(&mut self, point: &Point, row: &Row) -> u32
         requires spare { 1 ≤ self.old.spare }
         requires room { 4352 + length row.now.bytes ≤ self.old.room }
@@ -174,7 +174,7 @@ fn last_of(places: &[Place]) -> Option<u32> {
 }
 
 /// The number that is guessed, where its place is of this row.
-#[inline]
+#[inline(always)]
 fn confirm(places: &[Place], block: &[u8], guess: Option<u32>, row: &Row) -> Option<u32>
     requires { AreWithin places.now block.now }
     ensures { IfSome result (λ number. HasRow (places_in places.now block.now) number row.now) }

@@ -165,7 +165,7 @@ impl Turns {
 
     /// Makes room for 9 more steps, and for this many bytes of the next one. It fails for want of memory, where these are 4 GiB,
     /// or where 9 more places of points would have no number of 32 bits.
-    #[inline]
+    #[inline(always)]
     pub fn reserve(&mut self, bytes: usize) -> Result<(), AllocError>
         ensures list { self.new.list ≡ self.old.list }
         ensures spare { OnOk result (9 ≤ self.new.spare) }
@@ -182,7 +182,7 @@ impl Turns {
     }
 
     /// Whether there is room for 9 more steps, and for this many bytes of the next one.
-    #[inline]
+    #[inline(always)]
     fn has_room(&self, bytes: usize) -> bool
         ensures spare { IsTrue result → 9 ≤ self.now.spare }
         ensures room { IsTrue result → bytes ≤ self.now.room }
@@ -280,7 +280,7 @@ impl Turns {
 
     /// Adds a put of a point in its shortest value, whose qualifier is its one item. The room is that of its row and its value,
     /// and [`crate::turn_bytes::MOST_NAMES`] for its names.
-    #[inline]
+    #[inline(always)]
     pub fn add_point(&mut self, caller: u8, point: &Point, row: &Row, value: &Bytes)
         requires spare { 1 ≤ self.old.spare }
         requires room { 4352 + (length row.now.bytes + length value.now) ≤ self.old.room }

@@ -79,10 +79,6 @@ abbrev pub is_claim : Reply → Bool
 is_claim (ClaimReply claimed) = true
 is_claim _ = false
 
-abbrev pub is_written : Reply → Bool
-is_written Written = true
-is_written _ = false
-
 abbrev pub is_removed : Reply → Bool
 is_removed (Removed count) = true
 is_removed _ = false

@@ -18,10 +18,7 @@ use tsd_daemon::Served;
 use tsd_doors::doors::Doors;
 use tsd_hooks::UidRule;
 use tsd_io::clock::Clock;
-use uid_table::uids::Uids;
-
-/// How many pairs of a name and its id each worker keeps.
-const KEPT_PAIRS: u32 = 10_000;
+use uid_table::uids::{KEPT_PAIRS, Uids};
 
 /// A worker that is a new caller of the site, with a twin of the clock and a bell of the doors. It fails only for want of memory.
 pub fn make_worker<

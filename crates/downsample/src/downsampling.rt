@@ -54,6 +54,18 @@ pub fn down(alloc: Global, dots: &Dots, how: Down, start: u64, end: u64) -> Resu
     }
 }
 
+/// The most buckets in which these points can be.
+fn most_buckets(list: &[(u64, i64)], interval: u64) -> usize
+    requires { 1 ≤ interval }
+{
+    let (Some(first), Some(last)) = (list.first(), list.last()) else {
+        return 0;
+    };
+    let between = last.0.saturating_sub(first.0) / interval;
+    let most = between.saturating_add(2).min(list.len() as u64);
+    most as usize
+}
+
 /// The buckets in which there are points.
 fn of_points(
     alloc: Global,
@@ -65,7 +77,7 @@ fn of_points(
     requires interval { 1 ≤ interval }
     ensures { GivesDown result (valued function interval list.now (buckets_of interval list.now)) }
 {
-    let mut dots = Dots::make(alloc);
+    let mut dots = Dots::with_room(alloc, most_buckets(list, interval))?;
     let mut at = 0;
     while at < list.len() {
         let bucket = bucket_of(interval, list[at].0);
@@ -95,7 +107,7 @@ fn of_all(
     ensures { GivesDown result (valued function interval list.now (all_buckets interval start end)) }
 {
     let first = bucket_of(interval, start);
-    let mut dots = Dots::make(alloc);
+    let mut dots = Dots::with_room(alloc, buckets(start, end, interval) as usize)?;
     let mut at = behind_bucket(list, 0, 0, first);
     for k in 0..buckets(start, end, interval) {
         let bucket = first + k * interval;

@@ -100,10 +100,7 @@ fn assign_texts<R: Rows + Drop>(
     let mut outs = Vec::new(alloc);
     for text in texts {
         let out = assign_text(alloc, names, rule, kind, text.list())?;
-        match outs.push(out) {
-            Ok(()) => {}
-            Err(_) => return Err(RowsFault::OutOfMemory),
-        }
+        outs.push(out)?;
     }
     Ok(outs)
 }
@@ -150,10 +147,10 @@ fn bad_name(alloc: Global, kind: Kind, fault: NameFault) -> Result<IdOutcome, Ro
     let mut text = Vec::new(alloc);
     match fault {
         NameFault::OutOfMemory => Err(RowsFault::OutOfMemory),
-        fault => match fault.write_text(kind, &mut text) {
-            Ok(()) => Ok(Err(text)),
-            Err(_) => Err(RowsFault::OutOfMemory),
-        },
+        fault => {
+            fault.write_text(kind, &mut text)?;
+            Ok(Err(text))
+        }
     }
 }
 
@@ -175,10 +172,7 @@ fn told(
         Err(AssignFault::OutOfMemory) => return Err(RowsFault::OutOfMemory),
         Err(AssignFault::Stopped) => return Err(RowsFault::Stopped),
     };
-    match text {
-        Ok(text) => Ok(Err(text)),
-        Err(_) => Err(RowsFault::OutOfMemory),
-    }
+    Ok(Err(text?))
 }
 
 fn already_text(alloc: Global, id: u32) -> Result<Vec<u8>, AllocError>

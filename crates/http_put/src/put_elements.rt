@@ -47,10 +47,7 @@ pub fn put_elements<R: Rows + Drop>(
     let mut outs = Vec::new(alloc);
     for element in elements {
         let out = put_element(alloc, names, rule, config, queue, element)?;
-        match outs.push(out) {
-            Ok(()) => {}
-            Err(_) => return Err(RowsFault::OutOfMemory),
-        }
+        outs.push(out)?;
     }
     Ok(outs)
 }
@@ -103,10 +100,10 @@ fn unread(alloc: Global, fault: &ElementFault) -> Result<Option<Vec<u8>>, RowsFa
     let mut text = Vec::new(alloc);
     match fault {
         ElementFault::OutOfMemory => Err(RowsFault::OutOfMemory),
-        fault => match fault.write_text(&mut text) {
-            Ok(()) => Ok(Some(text)),
-            Err(_) => Err(RowsFault::OutOfMemory),
-        },
+        fault => {
+            fault.write_text(&mut text)?;
+            Ok(Some(text))
+        }
     }
 }
 
@@ -119,9 +116,9 @@ fn refused(alloc: Global, fault: &PutFault) -> Result<Option<Vec<u8>>, RowsFault
     match fault {
         PutFault::OutOfMemory => Err(RowsFault::OutOfMemory),
         PutFault::Stopped => Err(RowsFault::Stopped),
-        fault => match fault.write_text(&mut text) {
-            Ok(()) => Ok(Some(text)),
-            Err(_) => Err(RowsFault::OutOfMemory),
-        },
+        fault => {
+            fault.write_text(&mut text)?;
+            Ok(Some(text))
+        }
     }
 }

@@ -1,7 +1,7 @@
 -- What a series has at a time, seen from where a cursor stands.
-use Rattle.std.proofs.Common.{◌≡◌, ◌≢◌, ℕ, zero, suc, ◌+◌, ◌-◌, ◌<◌, ◌≤◌, ℤ, Bool, true, false, eqb, List, [], ◌∷◌, length, drop, get_or, Option, None, Some, refl, sym, ap, subst, ◌∙◌, ⊎_elim, drop-cons, arith}
+use Rattle.std.proofs.Common.{◌≡◌, ◌≢◌, ℕ, zero, suc, ◌+◌, ◌-◌, ◌<◌, ◌≤◌, ℤ, Bool, true, false, ◌&&◌, ltb, eqb, List, [], ◌∷◌, length, drop, get_or, Option, None, Some, is_some, refl, sym, ap, subst, ◌∙◌, ⊎_elim, drop-cons, arith}
 use Rattle.std.specs.List.{AllWithin}
-use Rattle.std.proofs.lemmas.Bool.{ne_eqb, ltb-true, lt-ltb, cond-false, cases_lt, cases_order}
+use Rattle.std.proofs.lemmas.Bool.{ne_eqb, ltb-true, ltb-false, lt-ltb, cond-false, cases_lt, cases_order}
 use Rattle.std.proofs.lemmas.List.{drop_all, get_or_default}
 use Rattle.std.proofs.lemmas.List.Elements.{recursion_from_All}
 use Rattle.std.proofs.lemmas.Map.{lookup-none}
@@ -39,6 +39,11 @@ Late u (Some next) = u ≤ next
 abbrev pub Skips : Bool → ℕ → Option ℕ → Type 0
 Skips b u None = Unit {0}
 Skips b u (Some next) = (b ≡ false) × (u < next)
+
+-- a cursor that isn't between two points, though one is left, has passed none
+not_begun : (b : Bool) → (b && true) ≡ false → b ≡ false
+not_begun true e = e
+not_begun false e = refl
 
 between_none : (o : Option (ℕ × ℤ)) (u : ℕ) → between o None u ≡ None
 between_none None u = refl
@@ -99,15 +104,6 @@ module _ (s : List (ℕ × ℤ)) (n : ℕ) (rising : IsRising s) where
     none_after : first_time (drop n s) ≡ None → nearest_after s u ≡ None
     none_after none = after_is s u None (λ v pass. let later = ltb-true _ _ pass in not_here T v before (omega (arith, later, on_or_after)) (subst (Precedes v) (sym none) tt))
 
-    gives_none_at : (b : Bool) (o : Option ℕ) → first_time (drop n s) ≡ o → Skips b u o → given_at b s u ≡ None
-    gives_none_at true None none h =
-        ap (λ o. value_or_between o s u) (not_here T u before on_or_after (subst (Precedes u) (sym none) tt)) ∙ ap (λ o. between (nearest_before s u) o u) (none_after none) ∙ between_none (nearest_before s u) u
-    gives_none_at false None none h = not_here T u before on_or_after (subst (Precedes u) (sym none) tt)
-    gives_none_at b (Some next) is h = ap (λ c. given_at c s u) h.0 ∙ not_here T u before on_or_after (subst (Precedes u) (sym is) h.1)
-
-    pub gives_none : (b : Bool) → Skips b u (first_time (drop n s)) → given_at b s u ≡ None
-    gives_none b h = gives_none_at b (first_time (drop n s)) refl h
-
   -- the point at the place
   pub gives_here : (b : Bool) (u : ℕ) (d : ℕ × ℤ) → n < length s → (get_or s n d).0 ≡ u → given_at b s u ≡ Some (get_or s n d).1
   gives_here true u d inside e = ap (λ o. value_or_between o s u) (sym (ap (value_at s) e) ∙ present s n d rising inside)
@@ -165,3 +161,19 @@ module _ (s : List (ℕ × ℤ)) (n : ℕ) (rising : IsRising s) where
               (λ (low : k < n). let b : (get_or s k e).0 < u = before k e (omega arith) low in omega (arith, b, is, later))
               (λ (high : n ≤ k). let rise : (get_or s n e).0 ≤ (get_or s k e).0 = up_to s n k e rising high within in omega (arith, first, rise, less, is, later))
               (cases_lt k n)
+
+  -- a series whose cursor isn't between two points, or of which nothing is taken between them, gives nothing before the next one
+  module _ (T u : ℕ) (before : AllWithin (λ p. p.0 < T) s 0 n) (on_or_after : T ≤ u) where
+    gives_none_at : (b : Bool) (o : Option ℕ) → first_time (drop n s) ≡ o → Skips (b && (ltb 0 n && is_some o)) u o → given_at b s u ≡ None
+    gives_none_at true None none h =
+        ap (λ o. value_or_between o s u) (not_here T u before on_or_after (subst (Precedes u) (sym none) tt)) ∙ ap (λ o. between (nearest_before s u) o u) (none_after T u before on_or_after none) ∙ between_none (nearest_before s u) u
+    gives_none_at true (Some next) is h =
+        let ahead = subst (Precedes u) (sym is) h.1 in
+        let begun = not_begun (ltb 0 n) h.0 in
+        let first : n ≡ 0 = (let least = ltb-false 0 n begun in omega (arith, least)) in
+        ap (λ o. value_or_between o s u) (not_here T u before on_or_after ahead) ∙ ap (λ o. between o (nearest_after s u) u) (none_before u (λ k d low high. let b : (get_or s k d).0 < T = before k d low high in omega (arith, b, on_or_after)) (after_stays u ahead) first)
+    gives_none_at false None none h = not_here T u before on_or_after (subst (Precedes u) (sym none) tt)
+    gives_none_at false (Some next) is h = not_here T u before on_or_after (subst (Precedes u) (sym is) h.1)
+
+    pub gives_none : (b : Bool) → Skips (b && (ltb 0 n && is_some (first_time (drop n s)))) u (first_time (drop n s)) → given_at b s u ≡ None
+    gives_none b h = gives_none_at b (first_time (drop n s)) refl h

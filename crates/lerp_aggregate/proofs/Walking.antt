@@ -1,15 +1,16 @@
 -- What a walk gives at a time.
-use Rattle.std.proofs.Common.{◌≡◌, ℕ, ◌+◌, ◌<◌, ◌≤◌, ◌^◌, min, ℤ, pos, Bool, true, false, eqb, ◌||◌, ◌⊎◌, inl, inr, List, [], ◌∷◌, ◌++◌, length, drop, get_or, Option, None, Some, is_some, refl, sym, ap, subst, ◌∙◌, ⊎_elim, All, append_assoc, append-nil, length-append, suc, arith}
-use Rattle.std.specs.List.{AllWithin, filter_map, cons_option}
+use Rattle.std.proofs.Common.{◌≡◌, ℕ, ◌+◌, ◌<◌, ◌≤◌, ◌^◌, min, ℤ, pos, Bool, true, false, eqb, ltb, ◌&&◌, ◌||◌, ◌⊎◌, inl, inr, List, [], ◌∷◌, ◌++◌, length, drop, get_or, Option, None, Some, is_some, refl, sym, ap, subst, ◌∙◌, ⊎_elim, All, append_assoc, append-nil, length-append, suc, arith}
+use Rattle.std.specs.List.{AllWithin, filter_map, cons_option, list_any}
 use Rattle.std.proofs.lemmas.Bool.{cases_lt, eqb-false, false≢true}
 use Rattle.std.proofs.lemmas.List.Elements.{filter_map-append, All-nil, All-cons, All-head, All-tail}
 use Rattle.std.proofs.lemmas.List.Folds.{list_any-append}
 use Rattle.std.proofs.lemmas.Option.{none-some, same_Some}
+use Rattle.lerp_aggregate.specs.declared.cursors.Ahead.{Ahead}
 use Rattle.lerp_aggregate.specs.declared.cursors.Cursor.{Cursor}
 use Rattle.lerp_aggregate.specs.declared.cursors.Bundle.{Bundle}
 use Rattle.lerp_aggregate.specs.declared.cursors.Walk.{Walk, One, Both'}
 use Rattle.lerp_aggregate.specs.Aggregation.{value_at, given_at}
-use Rattle.lerp_aggregate.specs.Walks.{earliest, series_of, Stands, BundleStands, first_time, earlier, next_of, is_due, walked, StandsAt, StandAt}
+use Rattle.lerp_aggregate.specs.Walks.{earliest, series_of, Stands, BundleStands, first_time, earlier, is_inside, next_of, is_due, walk_ahead, walked, StandsAt, StandAt}
 use Rattle.lerp_aggregate.specs.declared.tally.Tally.{Tally}
 use Rattle.lerp_aggregate.specs.Tally.{Counts, Adds, HasRoom}
 use Rattle.lerp_aggregate.proofs.Same.{has_time}
@@ -18,7 +19,7 @@ use Rattle.lerp_aggregate.proofs.Standing.{Precedes, Late, Skips, head_is, none_
 -- how many pairs a walk has
 abbrev pub pairs_of : Walk → ℕ
 pairs_of (One bundle) = 0
-pairs_of (Both' next p left q right) = suc (pairs_of left + pairs_of right)
+pairs_of (Both' ahead p left q right) = suc (pairs_of left + pairs_of right)
 
 -- of the earlier of two times as of both
 precedes_both : (u : ℕ) (a b : Option ℕ) → Precedes u (earlier a b) → Precedes u a × Precedes u b
@@ -36,11 +37,6 @@ late_earlier u None b h k = k
 late_earlier u (Some a) None h k = h
 late_earlier u (Some a) (Some b) h k = omega arith
 
-skips_both : (c : Bool) (u : ℕ) (a b : Option ℕ) → Skips c u (earlier a b) → Skips c u a × Skips c u b
-skips_both c u None b h = (tt, h)
-skips_both c u (Some a) None h = (h, tt)
-skips_both c u (Some a) (Some b) h = let least = h.1 in ((h.0, omega (arith, least)), (h.0, omega (arith, least)))
-
 either_is : (t : ℕ) (a b : Option ℕ) → earlier a b ≡ Some t → (a ≡ Some t) ⊎ (b ≡ Some t)
 either_is t None b e = inr e
 either_is t (Some a) None e = inl e
@@ -54,6 +50,20 @@ either_is t (Some a) (Some b) e =
 or_false : (a b : Bool) → (a || b) ≡ false → (a ≡ false) × (b ≡ false)
 or_false true b e = absurd (false≢true (sym e))
 or_false false b e = (refl, e)
+
+neither : (c i j : Bool) → (c && (i || j)) ≡ false → ((c && i) ≡ false) × ((c && j) ≡ false)
+neither true i j e = or_false i j e
+neither false i j e = (refl, refl)
+
+-- of a time that both skip
+skips_both : (c i j : Bool) (u : ℕ) (a b : Option ℕ) → Skips (c && (i || j)) u (earlier a b) → Skips (c && i) u a × Skips (c && j) u b
+skips_both c i j u None None h = (tt, tt)
+skips_both c i j u None (Some b) h = (tt, ((neither c i j h.0).1, h.1))
+skips_both c i j u (Some a) None h = (((neither c i j h.0).0, h.1), tt)
+skips_both c i j u (Some a) (Some b) h =
+    let least = h.1 in
+    let apart = neither c i j h.0 in
+    ((apart.0, omega (arith, least)), (apart.1, omega (arith, least)))
 
 or_true : (a : Bool) → (a || true) ≡ true
 or_true true = refl
@@ -75,16 +85,16 @@ late_first s u n after =
     (cases_lt n (length s))
 
 -- a cursor over a series that gives nothing at a time
-pub cursor_skips : (s : List (ℕ × ℤ)) (cursor : Cursor) (c : Bool) (time : ℕ) → StandsAt s time cursor → Skips c time cursor.next → (given_at c s time ≡ None) × StandsAt s (time + 1) cursor
+pub cursor_skips : (s : List (ℕ × ℤ)) (cursor : Cursor) (c : Bool) (time : ℕ) → StandsAt s time cursor → Skips (c && is_inside cursor) time cursor.next → (given_at c s time ≡ None) × StandsAt s (time + 1) cursor
 cursor_skips s cursor c time h skip =
     let n = cursor.place in
-    let here = subst (Skips c time) h.next skip in (
+    let here = subst (λ o. Skips (c && (ltb 0 n && is_some o)) time o) h.next skip in (
       gives_none s n h.rising time time h.before (omega arith) c here,
       record {
         rising = h.rising;
         place = h.place;
         before = before_stays s n h.rising time time h.before (omega arith);
-        after = after_stays s n h.rising time (precedes c time (first_time (drop n s)) here);
+        after = after_stays s n h.rising time (precedes (c && (ltb 0 n && is_some (first_time (drop n s)))) time (first_time (drop n s)) here);
         next = h.next;
       },
     ) where
@@ -133,12 +143,12 @@ module _ (list : List (List (ℕ × ℤ))) where
   late_all time (c ∷ cs) h =
       late_earlier time c.next (earliest cs) (cursor_late (get_or list c.index []) c time (All-head (Stands list time) c cs h).1) (late_all time cs (All-tail (Stands list time) c cs h))
 
-  pub late_bundle : (time : ℕ) (b : Bundle) → BundleStands list time b → Late time b.next
-  late_bundle time b h = subst (Late time) (sym h.0) (late_all time b.cursors.items h.1)
+  pub late_bundle : (time : ℕ) (b : Bundle) → BundleStands list time b → Late time b.ahead.next
+  late_bundle time b h = subst (λ (a : Ahead). Late time a.next) (sym h.0) (late_all time b.cursors.items h.1)
 
   pub late : (time : ℕ) (w : Walk) → StandAt list time w → Late time (next_of w)
   late time (One b) h = late_bundle time b h
-  late time (Both' next p left q right) h = subst (Late time) (sym h.0) (late_earlier time (next_of left) (next_of right) (late time left h.1) (late time right h.2))
+  late time (Both' ahead p left q right) h = subst (λ (a : Ahead). Late time a.next) (sym h.0) (late_earlier time (next_of left) (next_of right) (late time left h.1) (late time right h.2))
 
   -- they stand at a later time too, up to the next one
   onward_all : (T time : ℕ) (cs : List Cursor) → T ≤ time → All (Stands list T) cs → Late time (earliest cs) → All (Stands list time) cs
@@ -160,28 +170,28 @@ module _ (list : List (List (ℕ × ℤ))) where
       (onward_all T time cs on (All-tail (Stands list T) c cs h) both.1)
 
   pub onward : (T time : ℕ) (w : Walk) → T ≤ time → StandAt list T w → Late time (next_of w) → StandAt list time w
-  onward T time (One b) on h l = (h.0, onward_all T time b.cursors.items on h.1 (subst (Late time) h.0 l))
-  onward T time (Both' next p left q right) on h l =
-      let both = late_both time (next_of left) (next_of right) (subst (Late time) h.0 l) in
+  onward T time (One b) on h l = (h.0, onward_all T time b.cursors.items on h.1 (subst (λ (a : Ahead). Late time a.next) h.0 l))
+  onward T time (Both' ahead p left q right) on h l =
+      let both = late_both time (next_of left) (next_of right) (subst (λ (a : Ahead). Late time a.next) h.0 l) in
       (h.0, onward T time left on h.1 both.0, onward T time right on h.2 both.1)
 
   -- nothing is given at a time that is skipped
-  skipped_all : (c : Bool) (time : ℕ) (cs : List Cursor) → All (Stands list time) cs → Skips c time (earliest cs) → (filter_map (λ s. given_at c s time) (series_of list cs) ≡ []) × All (Stands list (time + 1)) cs
+  skipped_all : (c : Bool) (time : ℕ) (cs : List Cursor) → All (Stands list time) cs → Skips (c && list_any is_inside cs) time (earliest cs) → (filter_map (λ s. given_at c s time) (series_of list cs) ≡ []) × All (Stands list (time + 1)) cs
   skipped_all c time [] h s = (refl, All-nil (Stands list (time + 1)))
   skipped_all c time (cursor ∷ cs) h s =
       let here = All-head (Stands list time) cursor cs h in
-      let both = skips_both c time cursor.next (earliest cs) s in
+      let both = skips_both c (is_inside cursor) (list_any is_inside cs) time cursor.next (earliest cs) s in
       let one = cursor_skips (get_or list cursor.index []) cursor c time here.1 both.0 in
       let rest = skipped_all c time cs (All-tail (Stands list time) cursor cs h) both.1 in
       ((λ i. cons_option (one.0 i) (rest.0 i)), All-cons (Stands list (time + 1)) cursor cs (here.0, one.1) rest.1)
 
-  pub skipped_bundle : (c : Bool) (time : ℕ) (b : Bundle) → BundleStands list time b → Skips c time b.next → (filter_map (λ s. given_at c s time) (series_of list b.cursors.items) ≡ []) × BundleStands list (time + 1) b
-  skipped_bundle c time b h s = let both = skipped_all c time b.cursors.items h.1 (subst (Skips c time) h.0 s) in (both.0, (h.0, both.1))
+  pub skipped_bundle : (c : Bool) (time : ℕ) (b : Bundle) → BundleStands list time b → Skips (c && b.ahead.inside) time b.ahead.next → (filter_map (λ s. given_at c s time) (series_of list b.cursors.items) ≡ []) × BundleStands list (time + 1) b
+  skipped_bundle c time b h s = let both = skipped_all c time b.cursors.items h.1 (subst (λ (a : Ahead). Skips (c && a.inside) time a.next) h.0 s) in (both.0, (h.0, both.1))
 
-  pub skipped : (c : Bool) (time : ℕ) (w : Walk) → StandAt list time w → Skips c time (next_of w) → (filter_map (λ s. given_at c s time) (walked list w) ≡ []) × StandAt list (time + 1) w
+  pub skipped : (c : Bool) (time : ℕ) (w : Walk) → StandAt list time w → Skips (c && (walk_ahead w).inside) time (next_of w) → (filter_map (λ s. given_at c s time) (walked list w) ≡ []) × StandAt list (time + 1) w
   skipped c time (One b) h s = skipped_bundle c time b h s
-  skipped c time (Both' next p left q right) h s =
-      let both = skips_both c time (next_of left) (next_of right) (subst (Skips c time) h.0 s) in
+  skipped c time (Both' ahead p left q right) h s =
+      let both = skips_both c (walk_ahead left).inside (walk_ahead right).inside time (next_of left) (next_of right) (subst (λ (a : Ahead). Skips (c && a.inside) time a.next) h.0 s) in
       let l = skipped c time left h.1 both.0 in
       let r = skipped c time right h.2 both.1 in
       (filter_map-append (λ s. given_at c s time) (walked list left) (walked list right) ∙ (λ i. l.0 i ++ r.0 i), (h.0, l.1, r.1))
@@ -195,9 +205,9 @@ module _ (list : List (List (ℕ × ℤ))) where
       λ i. is_some (not_here (get_or list c.index []) c.place here.rising T u here.before on (subst (Precedes u) here.next both.0) i) || none_before_all T u cs on (All-tail (Stands list T) c cs h) both.1 i
 
   pub none_before_next : (T u : ℕ) (w : Walk) → T ≤ u → StandAt list T w → Precedes u (next_of w) → has_time (walked list w) u ≡ false
-  none_before_next T u (One b) on h before = none_before_all T u b.cursors.items on h.1 (subst (Precedes u) h.0 before)
-  none_before_next T u (Both' next p left q right) on h before =
-      let both = precedes_both u (next_of left) (next_of right) (subst (Precedes u) h.0 before) in
+  none_before_next T u (One b) on h before = none_before_all T u b.cursors.items on h.1 (subst (λ (a : Ahead). Precedes u a.next) h.0 before)
+  none_before_next T u (Both' ahead p left q right) on h before =
+      let both = precedes_both u (next_of left) (next_of right) (subst (λ (a : Ahead). Precedes u a.next) h.0 before) in
       list_any-append (λ series. is_some (value_at series u)) (walked list left) (walked list right) ∙ (λ i. none_before_next T u left on h.1 both.0 i || none_before_next T u right on h.2 both.1 i)
 
   -- some series has one at it
@@ -212,12 +222,12 @@ module _ (list : List (List (ℕ × ℤ))) where
       (either_is time c.next (earliest cs) is)
 
   pub some_at_next : (time : ℕ) (w : Walk) → StandAt list time w → next_of w ≡ Some time → has_time (walked list w) time ≡ true
-  some_at_next time (One b) h is = some_at_all time b.cursors.items h.1 (sym h.0 ∙ is)
-  some_at_next time (Both' next p left q right) h is =
+  some_at_next time (One b) h is = some_at_all time b.cursors.items h.1 (sym (ap (λ (a : Ahead). a.next) h.0) ∙ is)
+  some_at_next time (Both' ahead p left q right) h is =
       list_any-append (λ series. is_some (value_at series time)) (walked list left) (walked list right) ∙ ⊎_elim
       (λ (l : next_of left ≡ Some time). ap (λ b. b || has_time (walked list right) time) (some_at_next time left h.1 l))
       (λ (r : next_of right ≡ Some time). ap (λ b. has_time (walked list left) time || b) (some_at_next time right h.2 r) ∙ or_true (has_time (walked list left) time))
-      (either_is time (next_of left) (next_of right) (sym h.0 ∙ is))
+      (either_is time (next_of left) (next_of right) (sym (ap (λ (a : Ahead). a.next) h.0) ∙ is))
 
   -- and that time is below the limit
   limited_all : (T time : ℕ) (cs : List Cursor) → All (λ series. All (λ p. p.0 < 2 ^ 43) series) list → All (Stands list T) cs → earliest cs ≡ Some time → time < 2 ^ 43
@@ -236,10 +246,10 @@ module _ (list : List (List (ℕ × ℤ))) where
       (either_is time c.next (earliest cs) is)
 
   pub next_limited : (T time : ℕ) (w : Walk) → All (λ series. All (λ p. p.0 < 2 ^ 43) series) list → StandAt list T w → next_of w ≡ Some time → time < 2 ^ 43
-  next_limited T time (One b) limit h is = limited_all T time b.cursors.items limit h.1 (sym h.0 ∙ is)
-  next_limited T time (Both' next p left q right) limit h is =
+  next_limited T time (One b) limit h is = limited_all T time b.cursors.items limit h.1 (sym (ap (λ (a : Ahead). a.next) h.0) ∙ is)
+  next_limited T time (Both' ahead p left q right) limit h is =
       ⊎_elim (λ (l : next_of left ≡ Some time). next_limited T time left limit h.1 l) (λ (r : next_of right ≡ Some time). next_limited T time right limit h.2 r)
-      (either_is time (next_of left) (next_of right) (sym h.0 ∙ is))
+      (either_is time (next_of left) (next_of right) (sym (ap (λ (a : Ahead). a.next) h.0) ∙ is))
 
   -- there is room for the left half, and then for the right one
   pub room_left : (old : Tally) (left right : Walk) → HasRoom old (length (walked list left ++ walked list right)) → HasRoom old (length (walked list left))

@@ -1,16 +1,49 @@
 //! Cursors over the series of a group, and the walk over the union of their times.
-ghost use Rattle.std.specs.Prelude.{◌≡◌, ◌+◌, ◌-◌, ◌<◌, ◌≤◌, ◌^◌, ℕ, ℤ, List, ◌++◌, length, take, drop, All, Some, None, IfOk, slice_index_or, [], ◌∷◌};
-ghost use Rattle.std.specs.List.{filter_map, AllWithin};
+ghost use Rattle.std.specs.Prelude.{◌≡◌, ◌+◌, ◌-◌, ◌<◌, ◌≤◌, ◌^◌, ◌&&◌, ℕ, ℤ, List, ◌++◌, length, take, drop, All, Some, None, IfOk, slice_index_or, [], ◌∷◌};
+ghost use Rattle.std.specs.List.{filter_map, list_any, AllWithin};
 ghost use Rattle.tsd_base.specs.Dots.{IsRising};
 ghost use Rattle.lerp_aggregate.specs.Aggregation.{given_at};
 ghost use Rattle.lerp_aggregate.specs.Interpolation.{between, nearest_before, nearest_after};
 ghost use Rattle.lerp_aggregate.specs.Tally.{Adds, HasRoom};
-ghost use Rattle.lerp_aggregate.specs.Walks.{earlier, earliest, first_time, is_due, next_of, series_of, walked, BundleStands, StandAt, Stands, StandsAt};
+ghost use Rattle.lerp_aggregate.specs.Walks.{earlier, earliest, first_time, is_due, is_inside, joined, next_of, series_of, walk_ahead, walked, BundleStands, StandAt, Stands, StandsAt};
 
 use crate::interpolation::lerp_at;
 use crate::tally::Tally;
 use std::alloc::{AllocError, Global};
 use tsd_base::dots::Dots;
+
+/// What lies ahead of some cursors.
+#[derive(Clone, Copy)]
+pub struct Ahead {
+    /// The earliest time of the points that are left.
+    next: Option<u64>,
+    /// Whether a cursor stands between two points of its series.
+    inside: bool,
+}
+
+impl Ahead {
+    /// Of these cursors and of others.
+    #[inline]
+    fn join(self, other: Ahead) -> Ahead
+        ensures { result ≡ joined self other }
+    {
+        Ahead {
+            next: earlier(self.next, other.next),
+            inside: self.inside | other.inside,
+        }
+    }
+
+    /// Whether the series may give something at a time: at a point there, or between two points.
+    #[inline]
+    fn is_due(self, between: bool, time: u64) -> bool
+        ensures { result ≡ is_due self.next (between && self.inside) time }
+    {
+        match self.next {
+            Some(next) => between && self.inside || next == time,
+            None => false,
+        }
+    }
+}
 
 /// A place in a series: the points before it are done.
 #[derive(Drop)]
@@ -34,6 +67,14 @@ impl Cursor {
             place: 0,
             next: time_at(series, 0),
         }
+    }
+
+    /// Whether it stands between two points: it has passed one, and one is left.
+    #[inline]
+    fn is_inside(&self) -> bool
+        ensures { result ≡ is_inside self.now }
+    {
+        self.place > 0 && self.next.is_some()
     }
 
     /// What the series gives at a time; then the cursor is behind the point of that time.
@@ -105,7 +146,7 @@ const BUNDLE: usize = 16;
 /// The cursors of a few series that follow one another.
 #[derive(Drop)]
 pub struct Bundle {
-    next: Option<u64>,
+    ahead: Ahead,
     cursors: Vec<Cursor>,
 }
 
@@ -123,7 +164,11 @@ impl Bundle {
             next = earlier(next, cursor.next);
             cursors.push(cursor)?;
         }
-        Ok(Bundle { next, cursors })
+        let inside = any_inside(&cursors);
+        Ok(Bundle {
+            ahead: Ahead { next, inside },
+            cursors,
+        })
     }
 
     /// Counts what the series give at a time; then the cursors are behind the points of that time.
@@ -135,10 +180,19 @@ impl Bundle {
         ensures stand { BundleStands list.now (time + 1) self.new }
         ensures adds { Adds tally.old tally.new (filter_map (λ series. given_at between series time) (series_of list.now self.old.cursors.items)) }
     {
-        if is_due(self.next, between, time) {
-            self.next = turn_all(self.cursors.as_mut_slice(), list, between, time, tally);
+        if self.ahead.is_due(between, time) {
+            self.ahead.next = turn_all(self.cursors.as_mut_slice(), list, between, time, tally);
+            self.ahead.inside = any_inside(&self.cursors);
         }
     }
+}
+
+/// Whether one of these cursors stands between two points of its series. The first one that does ends the search, so
+/// where series go on side by side one look is enough.
+fn any_inside(cursors: &[Cursor]) -> bool
+    ensures { result ≡ list_any is_inside cursors.now }
+{
+    cursors.iter().any(Cursor::is_inside)
 }
 
 /// Turns each cursor, and gives the earliest time of the points that are left.
@@ -188,15 +242,15 @@ fn turn_one(
     cursor.next
 }
 
-/// The cursors of a group in a tree whose pairs know the earliest next time below them. So what is not due is left
-/// aside as a whole.
+/// The cursors of a group in a tree whose pairs know what lies ahead of those below them. So what is not due, as series
+/// that have ended or not begun, is left aside as a whole.
 #[derive(Drop)]
 pub enum Walk {
     /// Over a few series.
     One(Bundle),
     /// Over some series, and over those behind them.
     Both {
-        next: Option<u64>,
+        ahead: Ahead,
         left: Box<Walk>,
         right: Box<Walk>,
     },
@@ -229,7 +283,7 @@ impl Walk {
         ensures stand { (list : List (List (ℕ × ℤ))) (time : ℕ) → StandAt list time left → StandAt list time right → IfOk result (λ walk. StandAt list time walk) }
     {
         Ok(Walk::Both {
-            next: earlier(left.next(), right.next()),
+            ahead: left.ahead().join(right.ahead()),
             left: Box::new(alloc, left)?,
             right: Box::new(alloc, right)?,
         })
@@ -240,9 +294,17 @@ impl Walk {
     pub fn next(&self) -> Option<u64>
         ensures { result ≡ next_of self.now }
     {
+        self.ahead().next
+    }
+
+    /// What lies ahead of all cursors.
+    #[inline]
+    fn ahead(&self) -> Ahead
+        ensures { result ≡ walk_ahead self.now }
+    {
         match self {
-            Walk::One(bundle) => bundle.next,
-            Walk::Both { next, .. } => *next,
+            Walk::One(bundle) => bundle.ahead,
+            Walk::Both { ahead, .. } => *ahead,
         }
     }
 
@@ -257,25 +319,14 @@ impl Walk {
     {
         match self {
             Walk::One(bundle) => bundle.turn(list, between, time, tally),
-            Walk::Both { next, left, right } => {
-                if is_due(*next, between, time) {
+            Walk::Both { ahead, left, right } => {
+                if ahead.is_due(between, time) {
                     left.turn(list, between, time, tally);
                     right.turn(list, between, time, tally);
-                    *next = earlier(left.next(), right.next());
+                    *ahead = left.ahead().join(right.ahead());
                 }
             }
         }
-    }
-}
-
-/// Whether series with this next time may give something at a time.
-#[inline]
-fn is_due(next: Option<u64>, between: bool, time: u64) -> bool
-    ensures { result ≡ is_due next between time }
-{
-    match next {
-        Some(next) => between || next == time,
-        None => false,
     }
 }
 

@@ -1,5 +1,5 @@
 //! What the values of a group make at one time.
-ghost use Rattle.std.specs.Prelude.{◌≡◌, ◌<◌, [], ◌∷◌, List, ℤ};
+ghost use Rattle.std.specs.Prelude.{◌≡◌, ◌<◌, [], ◌∷◌, List, ℤ, int_div, pos};
 ghost use Rattle.lerp_aggregate.specs.Tally.{Adds, Counts, HasRoom, made_of};
 
 use tsd_base::kinds::Aggregator;
@@ -48,8 +48,20 @@ impl Tally {
             Aggregator::Sum | Aggregator::Zimsum => i64::try_from(self.sum).ok(),
             Aggregator::Min | Aggregator::Mimmin | Aggregator::NoneOf => Some(self.least),
             Aggregator::Max | Aggregator::Mimmax => Some(self.greatest),
-            Aggregator::Avg => Some((self.sum / i128::from(self.count)) as i64),
+            Aggregator::Avg => Some(self.average()),
             Aggregator::Count => Some(self.count as i64),
+        }
+    }
+
+    /// The sum divided by the number, toward zero. Most sums have 64 bits, which are divided sooner than 128.
+    fn average(&self) -> i64
+        requires some { 0 < self.now.count }
+        requires room { HasRoom self.now 0 }
+        ensures { result ≡ int_div self.now.sum (pos self.now.count) }
+    {
+        match i64::try_from(self.sum) {
+            Ok(sum) => sum / self.count as i64,
+            Err(_) => (self.sum / i128::from(self.count)) as i64,
         }
     }
 }

@@ -9,10 +9,7 @@ use cell_solo::Solo;
 use fused::Fused;
 use std::alloc::{AllocError, Global};
 use tsd_io::halt::Halt;
-use uid_table::Uids;
-
-/// How many pairs of a name and its id are kept beside the store.
-const KEPT_PAIRS: u32 = 10_000;
+use uid_table::uids::{KEPT_PAIRS, Uids};
 
 /// The names and points of a run, in the memory of one caller, which steps alone, and where its halt lets it.
 pub type Store<H> = Uids<Fused<Solo<Regions>, H>>;

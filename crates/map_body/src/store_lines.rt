@@ -17,7 +17,7 @@ use std::alloc::{AllocError, Global};
 pub fn copy_cells(alloc: Global, row: &RowCells) -> Result<Cells, AllocError>
     ensures { IfOk result (λ cells. cells ≡ cells_in row.now) }
 {
-    let block = row.cells().again(alloc)?;
+    let block = row.again(alloc)?;
     Ok(Cells::of(block))
 }
 
@@ -54,7 +54,8 @@ fn add_row(
     requires { LinesRise (listing.old ++ map line_of (map (placed (record { table = table; bytes = bytes.now })) (entries row.now))) }
     ensures { OnOk result (listing.new ≡ listing.old ++ map line_of (map (placed (record { table = table; bytes = bytes.now })) (entries row.now))) }
 {
-    let packed = row.cells();
+    let copy = row.again(alloc)?;
+    let packed = &copy;
     for i in 0..packed.len() {
         add_line(
             listing,

@@ -100,7 +100,7 @@ impl MapBody {
     }
 
     // Writes a cell with version 0.
-    #[inline]
+    #[inline(always)]
     fn put_cell(
         &mut self,
         alloc: Global,
@@ -190,7 +190,7 @@ impl Body for MapBody {
         Ok(Claimed::Done)
     }
 
-    #[inline]
+    #[inline(always)]
     fn put(
         &mut self,
         alloc: Global,
@@ -206,7 +206,7 @@ impl Body for MapBody {
         rows.drop_cells(&row.bytes, which.list())
     }
 
-    #[inline]
+    #[inline(always)]
     fn stamp(&mut self, row: &Row, qual: &Bytes, place: u64) {
         let rows = &mut self.tables[number(row.table)];
         rows.stamp(&row.bytes, qual.list(), place);

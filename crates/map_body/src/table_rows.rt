@@ -138,7 +138,7 @@ impl TableRows {
     }
 
     /// Writes a cell of a row with version 0, over an older one too.
-    #[inline]
+    #[inline(always)]
     pub fn put(
         &mut self,
         alloc: Global,
@@ -169,7 +169,7 @@ impl TableRows {
     }
 
     /// Sets the version of a cell, if it is there.
-    #[inline]
+    #[inline(always)]
     pub fn stamp(&mut self, row: &Bytes, qual: &[u8], version: u64)
         ensures { ChangesRow self.old self.new row.now (stamped (row_in self.old row.now) qual.now version) }
     {
@@ -185,7 +185,7 @@ fn is_below(row: &Bytes, to: &Bytes) -> bool
 }
 
 // Sets the version of a cell, if it is there.
-#[inline]
+#[inline(always)]
 fn stamp_in(rows: &mut RowPages, row: &Bytes, qual: &[u8], version: u64)
     ensures rest { ChangesRow rows.old rows.new row.now (stamped (row_in rows.old row.now) qual.now version) }
     ensures none_empty { NoneEmpty rows.old → NoneEmpty rows.new }
@@ -198,7 +198,7 @@ fn stamp_in(rows: &mut RowPages, row: &Bytes, qual: &[u8], version: u64)
 }
 
 // Writes a cell with version 0, and answers whether there was none of this row and qualifier.
-#[inline]
+#[inline(always)]
 fn put_cell(
     rows: &mut RowPages,
     alloc: Global,
@@ -224,7 +224,7 @@ fn put_cell(
 
 // Writes a cell with version 0 among others of its row, and answers whether there was none of this qualifier.
 #[tactic(auto, using(crate::proofs::CellLemmas::len_put))]
-#[inline]
+#[inline(always)]
 fn put_more(cells: &mut RowCells, qual: &[u8], value: &[u8]) -> Result<bool, AllocError>
     ensures ok { OnOk result (cells.new ≡ insert cells.old qual.now (value.now, 0)) }
     ensures count { IfOk result (λ added. len cells.new ≡ len cells.old + (if added then 1 else 0)) }

@@ -12,7 +12,7 @@ use Rattle.list_lemmas.specs.BytesOrder.{bytes_cmp}
 use Rattle.packed_cells.specs.Seeks.{Rises, IsCellAt, IsCellGap}
 use Rattle.packed_cells.proofs.Halves.{turn}
 
-tri : (a i : ℕ) → (a < i) ⊎ ((a ≡ i) ⊎ (i < a))
+pub tri : (a i : ℕ) → (a < i) ⊎ ((a ≡ i) ⊎ (i < a))
 tri zero zero = inr (inl refl)
 tri zero (suc i) = inl (omega arith)
 tri (suc a) zero = inr (inr (omega arith))

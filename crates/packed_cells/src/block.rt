@@ -51,6 +51,16 @@ impl Block {
         }
     }
 
+    /// The cells of a strip.
+    pub fn of(alloc: Global, cells: Strip<Narrow>) -> Block
+        ensures { result ≡ cells }
+    {
+        Block {
+            form: Form::Narrow(cells),
+            alloc,
+        }
+    }
+
     /// How many cells there are.
     #[inline]
     pub fn len(&self) -> usize
@@ -112,6 +122,28 @@ impl Block {
             qual: self.qual(i),
             value: self.value(i),
             version: self.version(i),
+        }
+    }
+
+    /// The strip that the cells are, if none has a value of more than 2 bytes.
+    #[inline]
+    pub fn narrow(&self) -> Option<&Strip<Narrow>>
+        ensures { IfSome result (λ strip. strip.now ≡ self.now) }
+    {
+        match &self.form {
+            Form::Narrow(cells) => Some(cells),
+            _ => None,
+        }
+    }
+
+    /// The strip that the cells are, if some has a value of 4 or 8 bytes.
+    #[inline]
+    pub fn wide(&self) -> Option<&Strip<Wide>>
+        ensures { IfSome result (λ strip. strip.now ≡ self.now) }
+    {
+        match &self.form {
+            Form::Wide(cells) => Some(cells),
+            _ => None,
         }
     }
 
@@ -189,7 +221,7 @@ impl Block {
     }
 
     /// Sets the version of the cell at `i`.
-    #[inline]
+    #[inline(always)]
     pub fn stamp(&mut self, i: usize, version: u64)
         requires { i < length self.old }
         ensures { (d : Cell) → self.new ≡ slice_set self.old i (stamped_at (slice_index_or self.old i d) version) }

@@ -1,33 +1,41 @@
 //! The cells of one row, in byte order of qualifier.
-ghost use Rattle.std.specs.Prelude.{◌≡◌, ◌↔◌, ℕ, List, Some, IsTrue, IsOk, OnOk, OnErr, length, option_map};
+ghost use Rattle.std.specs.Prelude.{◌≡◌, ◌↔◌, ℕ, List, Some, IsTrue, IfOk, IsOk, OnOk, OnErr, length, option_map, if◌then◌else◌};
 ghost use Rattle.std.specs.FinMap.{empty, get, insert, len};
 ghost use Rattle.packed_cells.specs.Seeks.{Rises};
 ghost use Rattle.packed_cells.specs.Keyed.{CellMap, cells_in, stamped, goes, without};
 
 use crate::block::Block;
-use crate::seeks::seek;
+use crate::even_cells::EvenCells;
+use crate::plain_cells::PlainCells;
 use std::alloc::{AllocError, Global};
 use std::marker::Model;
 
+// How the cells are kept: by the steps of their times while these are even, else as they come.
+#[derive(Drop)]
+enum Form {
+    Even(EvenCells),
+    Plain(PlainCells),
+}
+
 /// The cells of a row: one for each qualifier, in byte order of qualifier.
 ///
-/// Contracts see it as the finite map from each qualifier to its value and version.
+/// Contracts see it as the finite map from each qualifier to its value and version. While the cells are data points of integers
+/// of 1 or 2 bytes, one every so many seconds, they are [`EvenCells`]. The first that isn't turns the row into [`PlainCells`],
+/// which it stays.
 #[derive(Drop)]
 pub struct RowCells {
-    cells: Block,
+    form: Form,
 }
 
 impl Model for RowCells {
-    ghost use Rattle.packed_cells.specs.Seeks.{Rises};
-    ghost use Rattle.packed_cells.specs.Keyed.{CellMap, coded_cells, map_of};
+    ghost use Rattle.packed_cells.specs.Keyed.{CellMap, coded_cells};
+    ghost use Rattle.packed_cells.specs.RowForms.{form_map};
 
     ghost Value = { CellMap };
 
     ghost coded = { coded_cells };
 
-    ghost view = { λ r. map_of r.cells };
-
-    ghost invariant = { λ r. Rises r.cells };
+    ghost view = { λ r. form_map r.form };
 }
 
 impl RowCells {
@@ -36,17 +44,19 @@ impl RowCells {
         ensures { result ≡ empty }
     {
         RowCells {
-            cells: Block::make(alloc),
+            form: Form::Even(EvenCells::make(alloc)),
         }
     }
 
     /// How many cells there are.
     #[inline]
-    #[tactic(auto, using(crate::proofs::Keyed::len_is))]
     pub fn len(&self) -> usize
         ensures { result ≡ len self.now }
     {
-        self.cells.len()
+        match &self.form {
+            Form::Even(cells) => cells.len(),
+            Form::Plain(cells) => cells.len(),
+        }
     }
 
     /// Whether there is no cell.
@@ -57,14 +67,15 @@ impl RowCells {
         self.len() == 0
     }
 
-    /// The cells by index, from the least qualifier.
-    #[inline]
-    #[tactic(auto, using(crate::proofs::Keyed::cells_are))]
-    pub fn cells(&self) -> &Block
-        ensures same { result.now ≡ cells_in self.now }
-        ensures rises { Rises result.now }
+    /// A copy of the cells by index, from the least qualifier. It fails only for want of memory.
+    pub fn again(&self, alloc: Global) -> Result<Block, AllocError>
+        ensures same { IfOk result (λ cells. cells ≡ cells_in self.now) }
+        ensures rises { IfOk result (λ cells. Rises cells) }
     {
-        &self.cells
+        match &self.form {
+            Form::Even(cells) => cells.again(alloc),
+            Form::Plain(cells) => cells.again(alloc),
+        }
     }
 
     /// The value of this qualifier's cell, if it is there.
@@ -72,9 +83,9 @@ impl RowCells {
     pub fn value(&self, qual: &[u8]) -> Option<&[u8]>
         ensures { option_map (λ v. v.now) result ≡ option_map (λ c. c.0) (get self.now qual.now) }
     {
-        match seek(&self.cells, qual) {
-            Ok(i) => Some(self.cells.value(i)),
-            Err(_) => None,
+        match &self.form {
+            Form::Even(cells) => cells.value(qual),
+            Form::Plain(cells) => cells.value(qual),
         }
     }
 
@@ -86,62 +97,86 @@ impl RowCells {
         ensures err { OnErr result (self.new ≡ self.old) }
         ensures in_place { (v : List ℕ) (n : ℕ) → get self.old qual.now ≡ Some (v, n) → length v ≡ length value.now → IsOk result }
     {
-        if self.cells.put_behind(qual, value, version) {
+        if self.put_behind(qual, value, version) {
             return Ok(());
         }
         self.put_among(qual, value, version)
     }
 
+    // Puts a cell where most go, and answers whether it was put.
+    #[inline(always)]
+    fn put_behind(&mut self, qual: &[u8], value: &[u8], version: u64) -> bool
+        ensures { self.new ≡ (if result then insert self.old qual.now (value.now, version) else self.old) }
+    {
+        match &mut self.form {
+            Form::Even(cells) => cells.put_behind(qual, value, version),
+            Form::Plain(cells) => cells.put_behind(qual, value, version),
+        }
+    }
+
     // The same as `put`, wherever the cell goes.
     #[inline(never)]
-    #[tactic(auto, using(crate::proofs::Order::rises_set, crate::proofs::Order::rises_insert, crate::proofs::Keyed::set_is_put, crate::proofs::Keyed::insert_is_put))]
     fn put_among(&mut self, qual: &[u8], value: &[u8], version: u64) -> Result<(), AllocError>
         ensures ok { OnOk result (self.new ≡ insert self.old qual.now (value.now, version)) }
         ensures err { OnErr result (self.new ≡ self.old) }
         ensures in_place { (v : List ℕ) (n : ℕ) → get self.old qual.now ≡ Some (v, n) → length v ≡ length value.now → IsOk result }
     {
-        match seek(&self.cells, qual) {
-            Ok(i) => self.cells.set(i, qual, value, version),
-            Err(i) => self.cells.insert(i, qual, value, version),
+        let cells = match &mut self.form {
+            Form::Even(cells) => cells,
+            Form::Plain(cells) => return cells.put_among(qual, value, version),
+        };
+        if cells.set(qual, value, version) || cells.push(qual, value, version)? {
+            return Ok(());
         }
+        let mut plain = cells.plain()?;
+        plain.put_among(qual, value, version)?;
+        self.form = Form::Plain(plain);
+        Ok(())
     }
 
     /// Sets the version of this qualifier's cell, if it is there. It takes no memory.
-    #[inline]
+    #[inline(always)]
     pub fn stamp(&mut self, qual: &[u8], version: u64)
         ensures { self.new ≡ stamped self.old qual.now version }
     {
-        if self.cells.stamp_last(qual, version) {
+        if self.stamp_last(qual, version) {
             return;
         }
         self.stamp_among(qual, version);
     }
 
+    // Sets the version of the cell that mostly is meant, and answers whether it was set.
+    #[inline(always)]
+    fn stamp_last(&mut self, qual: &[u8], version: u64) -> bool
+        ensures { self.new ≡ (if result then stamped self.old qual.now version else self.old) }
+    {
+        match &mut self.form {
+            Form::Even(cells) => cells.stamp_last(qual, version),
+            Form::Plain(cells) => cells.stamp_last(qual, version),
+        }
+    }
+
     // The same as `stamp`, wherever the cell is.
     #[inline(never)]
-    #[tactic(auto, using(crate::proofs::Order::rises_stamp, crate::proofs::Keyed::gap_is_stamped))]
     fn stamp_among(&mut self, qual: &[u8], version: u64)
         ensures { self.new ≡ stamped self.old qual.now version }
     {
-        if let Ok(i) = seek(&self.cells, qual) {
-            self.cells.stamp(i, version);
+        match &mut self.form {
+            Form::Even(cells) => cells.stamp(qual, version),
+            Form::Plain(cells) => cells.stamp_among(qual, version),
         }
     }
 
     /// Takes this qualifier's cell out, if it is there and its version isn't above this one, and answers whether it went.
     /// It needs no memory, and gives back what few cells are left in, if there is memory for a smaller block.
-    #[tactic(auto, using(crate::proofs::Order::rises_remove, crate::proofs::Keyed::stays_at, crate::proofs::Keyed::stays_gap, crate::proofs::Keyed::kept_without))]
+    #[inline(never)]
     pub fn remove(&mut self, qual: &[u8], version: u64) -> bool
         ensures gone { result ≡ goes (get self.old qual.now) version }
         ensures rest { self.new ≡ without self.old qual.now version }
     {
-        let Ok(i) = seek(&self.cells, qual) else {
-            return false;
-        };
-        if self.cells.version(i) > version {
-            return false;
+        match &mut self.form {
+            Form::Even(cells) => cells.remove(qual, version),
+            Form::Plain(cells) => cells.remove(qual, version),
         }
-        self.cells.remove(i);
-        true
     }
 }

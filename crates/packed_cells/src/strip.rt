@@ -1,6 +1,7 @@
 //! Cells of one size, one behind the other.
-ghost use Rattle.std.specs.Prelude.{◌≡◌, ◌⊎◌, ◌≤◌, ◌<◌, ◌-◌, ◌↔◌, ℕ, true, [], ◌∷◌, length, IfOk, IfSome, IsSome, IsTrue, OnErr, slice_index_or, slice_set, insert, if◌then◌else◌};
+ghost use Rattle.std.specs.Prelude.{◌≡◌, ◌⊎◌, ◌≤◌, ◌<◌, ◌-◌, ◌↔◌, ℕ, true, [], ◌∷◌, ◌++◌, length, IfOk, IfSome, IsSome, IsTrue, OnOk, OnErr, slice_index_or, slice_set, insert, if◌then◌else◌};
 ghost use Rattle.std.specs.List.{remove as without};
+ghost use Rattle.std.specs.Int.{w64, from_le_bytes};
 ghost use Rattle.packed_cells.specs.Packed.{stamped_at};
 ghost use Rattle.packed_cells.specs.Seeks.{IsBehindLast, IsCellAt, IsLastStamped};
 ghost use Rattle.packed_cells.specs.Strips.{slot_cell, slot_cells, EndsWith};
@@ -78,6 +79,32 @@ impl<V: SmallValue> Strip<V> {
             slots: Vec::new(alloc),
             last: [0; 2],
         }
+    }
+
+    /// No cells, and room for so many. It fails only for want of memory.
+    pub fn with_room(alloc: Global, count: usize) -> Result<Strip<V>, AllocError>
+        ensures { IfOk result (λ made. made ≡ []) }
+    {
+        let mut slots = Vec::new(alloc);
+        slots.reserve_exact(count)?;
+        Ok(Strip {
+            slots,
+            last: [0; 2],
+        })
+    }
+
+    /// Adds a cell behind the last one. It fails only for want of memory.
+    #[inline(always)]
+    pub fn push(&mut self, version: [u8; 8], qual: [u8; 2], value: V) -> Result<(), AllocError>
+        ensures { OnOk result (self.new ≡ self.old ++ (record { qual = qual; value = V.bytes value; version = from_le_bytes w64 version }) ∷ []) }
+    {
+        self.slots.push(Slot {
+            version,
+            qual,
+            value,
+        })?;
+        self.last = qual;
+        Ok(())
     }
 
     /// How many cells there are.
@@ -187,7 +214,7 @@ impl<V: SmallValue> Strip<V> {
     }
 
     /// Sets the version of the cell at `i`.
-    #[inline]
+    #[inline(always)]
     pub fn stamp(&mut self, i: usize, version: u64)
         requires { i < length self.old }
         ensures { (d : Cell) → self.new ≡ slice_set self.old i (stamped_at (slice_index_or self.old i d) version) }

@@ -6,7 +6,7 @@ ghost use Rattle.query_run.specs.RowDots.{DotsAsked};
 use crate::fault::AskFault;
 use cell_model::row::Cells;
 use qual_codec::MergeFault;
-use row_key::HOUR_MILLIS;
+use row_key::{HOUR_MILLIS, LAST_OFFSET};
 use row_scan::timed_points;
 use std::alloc::Global;
 use tsd_base::dots::Dots;
@@ -26,7 +26,7 @@ pub(crate) fn row_dots(
 {
     let begin = base as u64 * 1000;
     let first = start.saturating_sub(begin) as u32;
-    let last = (end - begin).min(3_599_999) as u32;
+    let last = (end - begin).min(LAST_OFFSET as u64) as u32;
     match timed_points(alloc, cells, base, first, last) {
         Ok(points) => Ok(points),
         Err(MergeFault::Conflict { offset, a, b }) => Err(AskFault::Duplicate {

@@ -39,7 +39,7 @@ fn all_names(
     requires { ArePairs (known names.now) pairs.now }
     ensures { IfOk result (λ list. AllZip (IsNamed (known names.now)) pairs.now list.items) }
 {
-    let mut list = Vec::new(alloc);
+    let mut list = Vec::with_capacity(alloc, pairs.len())?;
     for pair in pairs {
         list.push(pair_names(alloc, names, *pair)?)?;
     }
@@ -68,7 +68,7 @@ fn renamed(alloc: Global, names: &IdNames, list: Vec<Span>) -> Result<Vec<Series
     requires pairs { (s : spans.Series) → Contains list.items s → ArePairs (known names.now) s.pairs.items }
     ensures { IfOk result (λ series. AllZip (λ s t. IsTitled (known names.now) s.pairs.items s.dots t) list.items series.items) }
 {
-    let mut series = Vec::new(alloc);
+    let mut series = Vec::with_capacity(alloc, list.len())?;
     for span in list {
         let Span { pairs, dots } = span;
         let tags = tags_of(alloc, names, pairs.as_slice())?;

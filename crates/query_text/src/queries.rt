@@ -37,14 +37,6 @@ impl NameList {
     {
         self.list.as_slice()
     }
-
-    /// The names, given back.
-    pub fn into_list(self) -> Vec<Name>
-        ensures { result.items ≡ self }
-    {
-        let NameList { list } = self;
-        list
-    }
 }
 
 /// What a filter asks of the value of its key.
@@ -96,14 +88,6 @@ impl FilterList {
     {
         self.list.as_slice()
     }
-
-    /// The filters, given back.
-    pub fn into_list(self) -> Vec<Filter>
-        ensures { result.items ≡ self }
-    {
-        let FilterList { list } = self;
-        list
-    }
 }
 
 /// A sub query: the series of one metric that pass each filter, made into groups.
@@ -145,14 +129,6 @@ impl SubList {
         ensures { result.now ≡ self.now }
     {
         self.list.as_slice()
-    }
-
-    /// The sub queries, given back.
-    pub fn into_list(self) -> Vec<Sub>
-        ensures { result.items ≡ self }
-    {
-        let SubList { list } = self;
-        list
     }
 }
 

@@ -31,20 +31,20 @@ impl Hints {
     }
 
     /// Where a row was found last.
-    #[inline]
+    #[inline(always)]
     pub fn last(&self) -> Place {
         self.last
     }
 
     /// Where the row may be that comes behind the last one.
-    #[inline]
+    #[inline(always)]
     pub fn next(&self) -> Option<Place> {
         let number = self.trail.guess()?;
         Some(place_of(number))
     }
 
     /// Remembers where a row was found that wasn't the last one, or was put.
-    #[inline]
+    #[inline(always)]
     pub fn came(&mut self, place: Place) {
         self.last = place;
         self.trail.came(number_of(place));

@@ -76,7 +76,7 @@ pub fn place_by(pages: &[Page], guess: Option<Place>, row: &Bytes) -> Option<Pla
 
 /// Where a row is, if it is there, which is remembered. The place that came behind the last one before is tried first, since rows
 /// often come in the same order again, and then the last one.
-#[inline]
+#[inline(always)]
 pub fn found_place(pages: &[Page], hints: &mut Hints, row: &Bytes) -> Option<Place>
     requires { ArePages pages.now }
     ensures found { IfSome result (λ place. IsAt row.now pages.now place.page place.row) }
@@ -92,7 +92,7 @@ pub fn found_place(pages: &[Page], hints: &mut Hints, row: &Bytes) -> Option<Pla
 }
 
 /// The same as [`found_place`], where the row is mostly the one that was found last.
-#[inline]
+#[inline(always)]
 pub fn place_again(pages: &[Page], hints: &mut Hints, row: &Bytes) -> Option<Place>
     requires { ArePages pages.now }
     ensures found { IfSome result (λ place. IsAt row.now pages.now place.page place.row) }
@@ -125,7 +125,7 @@ fn search_place(pages: &[Page], hints: &mut Hints, row: &Bytes) -> Option<Place>
 }
 
 // Whether this is the place of the row.
-#[inline]
+#[inline(always)]
 fn is_at(pages: &[Page], place: Place, row: &Bytes) -> bool
     ensures { IsTrue result → IsAt row.now pages.now place.page place.row }
 {

@@ -75,7 +75,7 @@ impl RowPages {
     }
 
     /// The cells of a row to be changed, if it is there. It is quickest where rows are asked for in the same order again.
-    #[inline]
+    #[inline(always)]
     pub fn get_mut(&mut self, row: &Bytes) -> Option<&mut RowCells>
         ensures* writes_back { sem 𝓛 (LendsCells self.entry row.now result) }
         ensures value { option_copied_mut result ≡ get self.old row.now }
@@ -91,7 +91,7 @@ impl RowPages {
     }
 
     /// The cells of a row to be changed, if it is there. It is quickest for the row that was found last.
-    #[inline]
+    #[inline(always)]
     pub fn get_mut_again(&mut self, row: &Bytes) -> Option<&mut RowCells>
         ensures* writes_back { sem 𝓛 (LendsCells self.entry row.now result) }
         ensures value { option_copied_mut result ≡ get self.old row.now }

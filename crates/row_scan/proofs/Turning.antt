@@ -1,5 +1,5 @@
 -- One turn of a scan.
-use Rattle.std.proofs.Common.{◌≡◌, ℕ, ◌-◌, ◌≤◌, List, [], ◌++◌, length, take, true, false, refl, sym, ap, subst, ◌∙◌, arith}
+use Rattle.std.proofs.Common.{◌≡◌, ℕ, ◌-◌, ◌≤◌, List, [], ◌++◌, length, take, true, false, refl, sym, ap, subst, ◌∙◌}
 use Rattle.std.proofs.Math.Seq.{take-append_seam}
 use Rattle.std.proofs.lemmas.Bool.{false≢true}
 use Rattle.std.specs.Prelude.{Option, Some, Result, Ok, Err, IsErr}
@@ -19,16 +19,11 @@ use Rattle.cell_model.specs.Lawful.{IsLawful}
 use Rattle.cell_model.specs.Ranges.{SameMetric}
 use Rattle.cell_model.specs.Readings.{point_row}
 use Rattle.cell_model.specs.Seen.{Seen, Waited, Stepped, IsPossible}
-use Rattle.cell_model.specs.Deeds.{Made}
 use Rattle.row_scan.specs.Scans.{Left, MadeSo, TurnMade}
 use Rattle.row_key.proofs.CallerLemmas.{key_length}
 use Rattle.list_lemmas.proofs.OrderedBytes.{prefix_between}
 use Rattle.row_scan.proofs.NextRow.{Between, next_between, next_has}
 use Rattle.row_scan.proofs.Lower.{first_lawful, each_entry, sound_after, wait_made, step_made}
-
--- nothing was made yet
-pub nothing_made : (s : Seen) → Made s [] s
-nothing_made s = wait_made s s (record { base = refl; caller = refl; absorbed = refl; length = omega arith; kept = λ p e saw. saw; no_own = λ p e saw own. saw; alone = refl; still = λ a. refl }) (λ p. p)
 
 -- where a step wasn't made, nothing was
 pub none_made : (left : Left) (old new : Seen) (r : Result (Option Found) RowsFault) → IsErr r → Waited old new → (IsPossible old → IsPossible new) → MadeSo old (TurnMade left r) new

@@ -7,6 +7,8 @@ ghost use Rattle.row_scan.specs.RowTimes.{KeepsPoints, dot_at};
 
 use crate::merged_points::row_points;
 use cell_model::Cells;
+use packed_cells::small_value::SmallValue;
+use packed_cells::strip::Strip;
 use qual_codec::merge::is_within;
 use qual_codec::{Dot, MergeFault, short_dot};
 use std::alloc::{AllocError, Global};
@@ -43,9 +45,9 @@ fn add_within(
 }
 
 /// The points of cells of which each is one item of two bytes, with offsets that rise from cell to cell, and None for other cells.
-fn rising_points(
+fn rising_points<V: SmallValue>(
     alloc: Global,
-    cells: &Cells,
+    cells: &Strip<V>,
     base: u32,
     first: u32,
     last: u32,
@@ -55,8 +57,7 @@ fn rising_points(
     let mut points = Dots::with_room(alloc, cells.len())?;
     let mut least = 0;
     for i in 0..cells.len() {
-        let cell = cells.cell(i);
-        let Some(dot) = short_dot(cell.qual, cell.value) else {
+        let Some(dot) = short_dot(cells.qual(i), cells.value(i)) else {
             return Ok(None);
         };
         if dot.item.offset < least {
@@ -68,10 +69,29 @@ fn rising_points(
     Ok(Some(points))
 }
 
+/// The points of cells that are a strip, with offsets that rise from cell to cell, and None for other cells.
+fn strip_points(
+    alloc: Global,
+    cells: &Cells,
+    base: u32,
+    first: u32,
+    last: u32,
+) -> Result<Option<Dots>, AllocError>
+    ensures { IfOk result (λ answer. IfSome answer (KeepsPoints cells.now base first last)) }
+{
+    if let Some(strip) = cells.narrow() {
+        return rising_points(alloc, strip, base, first, last);
+    }
+    match cells.wide() {
+        Some(strip) => rising_points(alloc, strip, base, first, last),
+        None => Ok(None),
+    }
+}
+
 /// The points of a row's cells whose offset is from `first` to `last`, both included, at rising times in milliseconds: those that
 /// [`row_points`] gives, where the row's hour begins at the second `base`. `Conflict` comes as it comes there.
 ///
-/// Cells of one item each, with offsets that rise, are read straight into the points.
+/// Cells of a strip, with offsets that rise, are read straight into the points.
 pub fn timed_points(
     alloc: Global,
     cells: &Cells,
@@ -83,7 +103,7 @@ pub fn timed_points(
     ensures kept { IfOk result (KeepsPoints cells.now base first last) }
     ensures conflict { IfErr result (TellsConflict cells.now first last) }
 {
-    if let Some(points) = rising_points(alloc, cells, base, first, last)? {
+    if let Some(points) = strip_points(alloc, cells, base, first, last)? {
         return Ok(points);
     }
     let dots = row_points(alloc, cells, first, last)?;

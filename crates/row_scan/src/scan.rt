@@ -106,9 +106,7 @@ impl Scan {
         ensures leaves { Leaves is_stop result (R.seen rows.new) (R.stops rows.old) (R.stops rows.new) }
         ensures spare { OnOk result (2 ≤ R.spare rows.new) }
     {
-        let Ok(from) = Bytes::of(alloc, self.from.as_slice()) else {
-            return Err(RowsFault::OutOfMemory);
-        };
+        let from = Bytes::of(alloc, self.from.as_slice())?;
         let found = rows.next_row(alloc, Table::Points, &from, &self.to)?;
         if let Some(found) = &found {
             self.go_behind(found.row.bytes.list());

@@ -113,13 +113,9 @@ ended_door_fault : {served result : FleetEnd} → EndsSo served result → resul
 ended_door_fault e is = ended end.DoorFault e (λ t. absurd cc) (λ t. absurd cc) is
 
 -- an end that no refusal and no want of memory brought about follows on none of these
-no_stop_before : {served result : FleetEnd} → EndsSo served result → result ≢ end.Stopped → served ≢ end.Stopped
-no_stop_before (inl same) no_stop is = no_stop (same ∙ is)
-no_stop_before (inr (more, why)) no_stop is = let t : true ≡ false = sym more ∙ ap has_no_more is in absurd cc
-
-enough_before : {served result : FleetEnd} → EndsSo served result → result ≢ end.OutOfMemory → served ≢ end.OutOfMemory
-enough_before (inl same) enough is = enough (same ∙ is)
-enough_before (inr (more, why)) enough is = let t : true ≡ false = sym more ∙ ap has_no_more is in absurd cc
+other_before : {served result : FleetEnd} (it : FleetEnd) → has_no_more it ≡ false → EndsSo served result → result ≢ it → served ≢ it
+other_before it may_have (inl same) other is = other (same ∙ is)
+other_before it may_have (inr (more, why)) other is = let t : true ≡ false = sym more ∙ ap has_no_more is ∙ may_have in absurd cc
 
 -- want of memory stays one
 pub counted : {served result : FleetEnd} {links ends : ℕ} (before now : Counts) → EndsSo served result → CountsLinks served links ends before now → CountsLinks result links ends before now
@@ -155,7 +151,7 @@ pub causes : (served result : FleetEnd) {ends : List Served} (waiting waiting' :
 causes served result waiting waiting' stops stops' doors doors' writes mid writes' e w later r = record {
   none_left = none_left result waiting waiting' e r;
   stopped = λ is. r.stopped (ended_stopped e is);
-  heeded = λ no_stop enough. r.heeded (no_stop_before e no_stop) (enough_before e enough);
+  heeded = λ no_stop enough. r.heeded (other_before end.Stopped refl e no_stop) (other_before end.OutOfMemory refl e enough);
   door_fault = λ is. r.door_fault (ended_door_fault e is);
   write_fault = λ is. write_rose served writes mid writes' later w.later r.write_fault (w.cause is);
 }

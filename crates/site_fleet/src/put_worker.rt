@@ -14,13 +14,10 @@ use std::sync::Wait;
 use step_count::Pass;
 use tsd_base::points::Point;
 use tsd_hooks::UidRule;
-use uid_table::uids::Uids;
+use uid_table::uids::{KEPT_PAIRS, Uids};
 
 /// What a put was answered.
 pub type Answer = Result<Stored, PutFault>;
-
-// How many pairs of a name and its id each worker keeps.
-const KEPT_PAIRS: u32 = 10_000;
 
 /// A caller's token, and what each of its puts was answered.
 #[derive(Drop)]

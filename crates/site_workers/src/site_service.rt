@@ -52,7 +52,7 @@ pub struct SiteServed {
 /// back to the doors, or where the end is `OutOfMemory` some. There is a queue of connections for each of these to which the rows of their
 /// points are sent, with so many workers each; they are dropped at the end.
 ///
-/// Err, for want of memory, says that nothing was done.
+/// Err, for want of memory, says that no connection was accepted; the senders are dropped then too.
 pub fn serve_connections<
     J: StepNames + ConnTerms + Send + Sync,
     G: Gate + Drop + Send + Sync,

@@ -1,8 +1,7 @@
 -- Series before and behind a place.
 use Rattle.std.proofs.Common.{◌≡◌, ◌≢◌, ◌⊎◌, inl, inr, ℕ, ℤ, ◌+◌, ◌-◌, ◌<◌, ◌≤◌, List, [], ◌∷◌, ◌++◌, length, map, reverse, refl, sym, ap, subst, ◌∙◌, slice_index_or, slice_set, arith}
-use Rattle.std.specs.Prelude.{All, Option, None, Some, slice_get, unwrap_or, take, cond, option_map, OnOk, OnErr, Result, Ok, Err, IfSome}
-use Rattle.std.proofs.lemmas.List.{append_assoc, append-nil, reverse-append, map-append, get_or-reverse, get_or-append_right, take_more, take_more_set, take_all, length-set, map-set, set-get_or, length-append, length-map, length-reverse}
-use Rattle.std.proofs.lemmas.Option.{slice_get-map, slice_get-get_or, slice_get_within, get_or_from_slice_get}
+use Rattle.std.specs.Prelude.{All, Option, None, Some, unwrap_or, take, cond, OnOk, OnErr, Result, Ok, Err, IfSome}
+use Rattle.std.proofs.lemmas.List.{append_assoc, append-nil, reverse-append, map-append, take_more, take_more_set, take_all, length-set, map-set, set-get_or}
 use Rattle.std.proofs.lemmas.List.Elements.{All-nil}
 use Rattle.std.proofs.lemmas.Map.Views.{All-values-insert_entry, IfSome-lookup_from_All}
 use Rattle.std.specs.Cmp.{IsTotalOrder, on_total, then_total, nat_cmp_total, alike_right, tied_back}
@@ -230,28 +229,7 @@ added_are_spans spans k dots a rising =
       rising = All-values-insert_entry pairs_cmp k (dots_of spans k ++ dots) IsRising spans a.rising rising;
     }
 
--- ---- look-ups
-
--- the series behind the place are found from the end
-pub at_behind : (before behind : List Series) (i : ℕ) (s : Series) → length before ≤ i → i < length (spans_of before behind)
-    → s ≡ slice_index_or behind (length behind - 1 - (i - length before)) s
-    → slice_get (spans_of before behind) i ≡ Some (span_of s)
-at_behind before behind i s from below is =
-    let all : List Series = before ++ reverse behind
-    in let count : length (spans_of before behind) ≡ length before + length behind =
-    length-map all span_of ∙ length-append before (reverse behind) ∙ ap (λ n. length before + n) (length-reverse behind)
-    in let here : i < length all = subst (λ n. i < n) (length-map all span_of) below
-    in let there : i - length before < length behind = omega (arith, from, below, count)
-    in let found : slice_index_or all i s ≡ s =
-    get_or-append_right before (reverse behind) (length before) i s refl from
-    ∙ get_or-reverse behind (i - length before) s there
-    ∙ sym is
-    in slice_get-map span_of all i ∙ ap (option_map span_of) (slice_get-get_or all i s here ∙ ap (λ x. Some x) found)
-
--- the times of each series rise
-pub rising_at : (spans : List Span) (i : ℕ) (dots : List (ℕ × ℤ)) → AreSpans spans → slice_get (values_of spans) i ≡ Some dots → IsRising dots
-rising_at spans i dots a is =
-    subst IsRising (get_or_from_slice_get (values_of spans) i dots dots is) (a.rising i dots (slice_get_within (values_of spans) i dots is))
+-- ---- all series
 
 -- with no series behind the place, those before it are all
 pub all_before : (start : List Span) (before behind : List Series) → spans_of before behind ≡ start → behind ≡ [] → map span_of before ≡ start

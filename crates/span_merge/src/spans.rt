@@ -1,7 +1,6 @@
 //! The points of series, in the order of their ids.
-ghost use Rattle.std.specs.Prelude.{◌≡◌, ◌<◌, [], length, map, slice_get, All, Some, OnOk, OnErr, IfOk};
-ghost use Rattle.std.specs.Map.{keys_of, values_of};
-ghost use Rattle.tsd_base.specs.Dots.{IsAboveAll, IsRising};
+ghost use Rattle.std.specs.Prelude.{◌≡◌, [], map, All, OnOk, OnErr, IfOk};
+ghost use Rattle.tsd_base.specs.Dots.{IsAboveAll};
 ghost use Rattle.span_merge.specs.Spans.{AreSpans, added, dots_of, span_of};
 
 use crate::places::{add_last, step_back, step_forward, step_to_end};
@@ -67,31 +66,6 @@ impl Spans {
         add_last(alloc, &mut self.before, pairs, dots)
     }
 
-    /// The number of series.
-    pub fn series(&self) -> usize
-        ensures count { result ≡ length self.now }
-        ensures spans { AreSpans self.now }
-    {
-        self.before.len() + self.behind.len()
-    }
-
-    /// The ids of a series' tags, each key's and its value's.
-    pub fn pairs(&self, index: usize) -> &[(u32, u32)]
-        requires { index < length self.now }
-        ensures { slice_get (keys_of self.now) index ≡ Some result.now }
-    {
-        self.at(index).pairs.as_slice()
-    }
-
-    /// The points of a series, at rising times in milliseconds.
-    pub fn dots(&self, index: usize) -> &Dots
-        requires { index < length self.now }
-        ensures dots { slice_get (values_of self.now) index ≡ Some result.now }
-        ensures rising { IsRising result.now }
-    {
-        &self.at(index).dots
-    }
-
     /// All series in their order. None of their points is copied.
     ///
     /// # Errors
@@ -107,20 +81,5 @@ impl Spans {
         } = self;
         step_to_end(&mut before, &mut behind)?;
         Ok(before)
-    }
-
-    /// The series at this place of the order.
-    fn at(&self, index: usize) -> &Series
-        requires { index < length self.now }
-        ensures series { slice_get self.now index ≡ Some (span_of result.now) }
-        ensures spans { AreSpans self.now }
-    {
-        match self.before.get(index) {
-            Some(series) => series,
-            None => {
-                let later = index - self.before.len();
-                &self.behind[self.behind.len() - 1 - later]
-            }
-        }
     }
 }

@@ -9,7 +9,8 @@ use Rattle.std.specs.Map.{lookup}
 use Rattle.std.specs.FinMap.{from_entries, entries_sorted, len-entries, len-empty}
 use Rattle.std.specs.FinMap.Entries.{find, put, by_order, is_sorted, find_tied, find-put}
 use Rattle.std.proofs.lemmas.Bool.{cases_Bool, or_from, or_left, or_right, and_from, and_left, and_right, not_from_true, not_from_false, le-ltb, lt-ltb}
-use Rattle.std.proofs.lemmas.List.{get_or_default, nil_from_length, append-nil, take-append-drop, drop_more}
+use Rattle.std.proofs.lemmas.List.{get_or_default, nil_from_length, append-nil, take-append-drop, take_all, take_more, drop_all, drop_more, length-take-le}
+use Rattle.std.proofs.lemmas.List.Edits.{insert_end}
 use Rattle.std.proofs.lemmas.List.Elements.{recursion_from_All}
 use Rattle.tsd_base.specs.declared.tags.TagsFault.{TagsFault}
 use Rattle.tsd_base.specs.declared.tags.TagsFault.TheVariants.{NoTags, TwoValues, TooManyTags, OutOfMemory}
@@ -246,3 +247,25 @@ pub told_none : (all : List Pair) → length all ≡ 0 → tags_of all ≡ Err N
 unfolding tags_of
 told_none [] none = refl
 told_none (p ∷ all) none = absurd (omega arith)
+
+-- ---- pairs in order
+
+-- the next pair stands behind those before it
+pub in_order_next : (all : List Pair) (i at : ℕ) (p : Pair) → i < length all → p ≡ get_or all i p → IsPair p → WouldStandAt (take i all) p.0 at → i ≤ at → IsSorting all (take i all) (drop i all) (take i all)
+    → IsSorting all (take (i + 1) all) (drop (i + 1) all) (take (i + 1) all)
+in_order_next all i at p inside is named gap from s =
+    let long : length (take i all) ≡ i = length-take-le i all (omega (arith, inside)) in
+    let end : at ≡ length (take i all) = omega (arith, from, gap.within, long) in
+    let more : take (i + 1) all ≡ take i all ++ p ∷ [] = take_more all i p inside ∙ ap (λ (x : Pair). take i all ++ x ∷ []) (sym is) in
+    let rest : drop i all ≡ p ∷ drop (i + 1) all = drop_more all i p inside ∙ ap (λ (x : Pair). x ∷ drop (i + 1) all) (sym is) in
+    let put : insert (take i all) at p ≡ take i all ++ p ∷ [] = ap (λ n. insert (take i all) n p) end ∙ insert_end (take i all) p in
+    let went : IsSorting all (take i all ++ p ∷ []) (drop (i + 1) all) (take i all ++ p ∷ []) =
+    sorting_goes_on all (take i all) (drop (i + 1) all) (take i all) (take i all ++ p ∷ []) p (subst (λ (ps : List Pair). IsSorting all (take i all) ps (take i all)) rest s)
+    (subst (Adds p (take i all)) put (adds_new (take i all) p at gap named)) in
+    subst (λ (ps : List Pair). IsSorting all ps (drop (i + 1) all) ps) (sym more) went
+
+-- all of them
+pub in_order_all : (all : List Pair) (i : ℕ) → length all ≤ i → IsSorting all (take i all) (drop i all) (take i all) → 1 ≤ length all → length all ≤ 8 → (tags_of all ≡ Ok all) × IsTags all
+in_order_all all i end s some few =
+    let whole : IsSorting all all [] all = subst (λ (ps : List Pair). IsSorting all ps [] ps) (take_all i all end) (subst (λ (ps : List Pair). IsSorting all (take i all) ps (take i all)) (drop_all i all end) s) in
+    (sorting_ends all all all whole some few, IsTags-sorting all all all whole some few)

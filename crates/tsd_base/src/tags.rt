@@ -3,8 +3,8 @@ ghost use Rattle.std.specs.Prelude.{◌≡◌, ◌<◌, ◌≤◌, length, IfOk,
 ghost use Rattle.tsd_base.specs.declared.tags.TagsFault.TheVariants.{OutOfMemory};
 ghost use Rattle.tsd_base.specs.TagList.{RiseByKey, StandsAt, WouldStandAt, TagsAreOrdered, is_same_tags, tags_cmp};
 ghost use Rattle.tsd_base.specs.TagOrder.{is_same_tags_equiv, tags_cmp_total, tags_ties, tags_po, tags_input, same_input};
-ghost use Rattle.tsd_base.specs.Tags.{IsTags, GivesTags, Adds, Refuses};
-ghost use Rattle.std.specs.Prelude.{Some, refl};
+ghost use Rattle.tsd_base.specs.Tags.{IsTags, GivesTags, Adds, Refuses, tags_of};
+ghost use Rattle.std.specs.Prelude.{Some, Ok, IsTrue, refl};
 ghost use Rattle.std.specs.Cmp as laws;
 
 use crate::names::Name;
@@ -74,11 +74,13 @@ impl Tags {
         if pairs.is_empty() {
             return Err(TagsFault::NoTags);
         }
-        if pairs.len() <= MOST_TAGS {
-            few(alloc, pairs)
-        } else {
-            many(alloc, pairs)
+        if pairs.len() > MOST_TAGS {
+            return many(alloc, pairs);
         }
+        if are_tags(&pairs) {
+            return Ok(Tags { pairs });
+        }
+        few(alloc, pairs)
     }
 
     /// The pairs, rising by key.
@@ -207,6 +209,22 @@ fn add_to_map(map: &mut BTreeMap<Name, Name>, key: Name, value: Name) -> Result<
             Ok(())
         }
     }
+}
+
+/// Whether each key is behind those before it, as most often where few pairs are given.
+fn are_tags(pairs: &[(Name, Name)]) -> bool
+    ensures { IsTrue result → 1 ≤ length pairs.now → length pairs.now ≤ 8 → (tags_of pairs.now ≡ Ok pairs.now) × IsTags pairs.now }
+{
+    for i in 0..pairs.len() {
+        let _ = pairs[i].1.bytes();
+        let Err(at) = place_of(&pairs[..i], pairs[i].0.bytes()) else {
+            return false;
+        };
+        if at < i {
+            return false;
+        }
+    }
+    true
 }
 
 /// Tags of 1 to 8 pairs, by insertion in order.

@@ -42,10 +42,10 @@ pub fn answer_put<R: Rows + Drop>(
     ensures stops { CountsStops is_stop result (R.stops names.old) (R.stops names.new) }
 {
     match put_text(alloc, names, rule, config, text) {
-        Ok(stored) => match queue_stored(names, queue, stored) {
-            Ok(()) => Ok(accepted(alloc)),
-            Err(_) => Err(RowsFault::OutOfMemory),
-        },
+        Ok(stored) => {
+            queue_stored(names, queue, stored)?;
+            Ok(accepted(alloc))
+        }
         Err(fault) => denied(alloc, &fault),
     }
 }
@@ -87,13 +87,10 @@ fn refused(alloc: Global, fault: &PutFault) -> Result<Answer, RowsFault>
             refused_line(alloc, fault)
         }
     };
-    match line {
-        Ok(reply) => Ok(Answer {
-            reply,
-            counted: Counted::Refused,
-        }),
-        Err(_) => Err(RowsFault::OutOfMemory),
-    }
+    Ok(Answer {
+        reply: line?,
+        counted: Counted::Refused,
+    })
 }
 
 /// The answer to a text that has no point.
@@ -105,11 +102,9 @@ fn unread(alloc: Global, fault: &PointFault) -> Result<Answer, RowsFault>
     if let PointFault::OutOfMemory = fault {
         return Err(RowsFault::OutOfMemory);
     }
-    match unread_line(alloc, fault) {
-        Ok(reply) => Ok(Answer {
-            reply,
-            counted: Counted::Refused,
-        }),
-        Err(_) => Err(RowsFault::OutOfMemory),
-    }
+    let reply = unread_line(alloc, fault)?;
+    Ok(Answer {
+        reply,
+        counted: Counted::Refused,
+    })
 }

@@ -8,10 +8,10 @@ ghost use Rattle.tsd_daemon.specs.ConnReplies.{fixed_reply, line, put_line, stat
 ghost use Rattle.tsd_daemon.specs.Exchanges.{is_put};
 
 use crate::counts::Counts;
-use itoa::Buffer;
 use point_put::PutFault;
 use std::alloc::{AllocError, Global};
 use telnet_put::telnet_command::Command;
+use tsd_base::decimals::write_number;
 use tsd_base::points::PointFault;
 
 /// The reply to a request that asks for no step, where the counts are those of the requests before it.
@@ -84,9 +84,8 @@ fn stats(alloc: Global, counts: &Counts) -> Result<Vec<u8>, AllocError>
 fn push_count(text: &mut Vec<u8>, word: &[u8], number: u64) -> Result<(), AllocError>
     ensures { OnOk result (text.new.items ≡ text.old.items ++ line (word.now ++ decimal number)) }
 {
-    let mut buffer = Buffer::new();
     text.extend_from_slice(word)?;
-    text.extend_from_slice(buffer.format(number).as_bytes())?;
+    write_number(number, text)?;
     end_line(text)
 }
 

@@ -79,14 +79,10 @@ fn take(
     }
     if found.cells.value_at(qualifier_bytes(kind)).is_some() {
         let name = name_from(alloc, bytes)?;
-        let Ok(()) = names.push(name) else {
-            return Err(RowsFault::OutOfMemory);
-        };
+        names.push(name)?;
     }
-    match behind(alloc, bytes) {
-        Ok(next) => Ok(Some(next)),
-        Err(AllocError) => Err(RowsFault::OutOfMemory),
-    }
+    let next = behind(alloc, bytes)?;
+    Ok(Some(next))
 }
 
 /// Looks for the next row with the prefix from one on and before names that begin with `high`. The answer is the row behind the one
@@ -164,10 +160,9 @@ fn look_through<R: Rows>(
     if names.len() >= max {
         return Ok(());
     }
-    match start_of(alloc, prefix, low, high) {
-        Ok(Some(start)) => look_from(rows, alloc, kind, prefix, max, start, low, high, names),
-        Ok(None) => Ok(()),
-        Err(AllocError) => Err(RowsFault::OutOfMemory),
+    match start_of(alloc, prefix, low, high)? {
+        Some(start) => look_from(rows, alloc, kind, prefix, max, start, low, high, names),
+        None => Ok(()),
     }
 }
 

@@ -32,6 +32,9 @@ use tsd_base::names::Name;
 use tsd_base::points::Point;
 use tsd_hooks::UidRule;
 
+/// How many pairs of a name and its id the callers of a program keep, which is what [`Uids::over`] is given.
+pub const KEPT_PAIRS: u32 = 10_000;
+
 /// Rows, with calls that give ids to names and find the names of ids.
 ///
 /// Pairs of a name and its id are kept, so that they needn't be read again: those that `resolve` and `assign` found or gave,
@@ -373,6 +376,7 @@ impl<R: Rows + Drop> Rows for Uids<R> {
         self.rows.claim(alloc, row, qual, value)
     }
 
+    #[inline(always)]
     fn put_point(
         &mut self,
         alloc: Global,

@@ -7,7 +7,7 @@ use Rattle.downsample.proofs.Loops.{Turns, buckets_none, buckets_turn, buckets_n
 use Rattle.downsample.proofs.downsampling.of_all.Goals as goal
 
 pub loop-k-init : goal.loop-k-init
-loop-k-init c = buckets_none c.args.function c.args.interval c.args.list.now c.make-dots.result c.behind_bucket-at.result c.args.start c.args.end c.bucket_of-first.result c.buckets-k-end.result c.make-dots.ensures c.bucket_of-first.ensures
+loop-k-init c = buckets_none c.args.function c.args.interval c.args.list.now c.in_ok-dots.dots c.behind_bucket-at.result c.args.start c.args.end c.bucket_of-first.result c.buckets-k-end.result c.in_ok-dots.ensures c.bucket_of-first.ensures
     (c.buckets-k-end.ensures ∙ length-buckets_from c.args.interval _ _) c.behind_bucket-at.ensures.within c.behind_bucket-at.ensures.in_bucket c.behind_bucket-at.ensures.behind
 
 pub overflow_mul-bucket : goal.overflow_mul-bucket

@@ -21,7 +21,7 @@ pub loop-element-preserved : goal.loop-element-preserved
 loop-element-preserved g c =
     let l = c.loop-element in
     let ds = more_map view c.args.elements.now l.element-index c.element-item.result c.loop-element-test.true c.element-item.is in
-    let os : texts_of c.push.new.self.items ≡ texts_of l.outs.items ++ text_of c.in_ok-out.out ∷ [] = ap texts_of c.in-Ok.ensures.items ∙ map_push text_of l.outs.items c.in_ok-out.out in
+    let os : texts_of c.push.new.self.items ≡ texts_of l.outs.items ++ text_of c.in_ok-out.out ∷ [] = ap texts_of c.in_ok-push.ensures.items ∙ map_push text_of l.outs.items c.in_ok-out.out in
     record {
       so_far =
           subst (λ (x : List Data × List Outcome). SoFar (admission c.args.config.now c.args.rule.now.patterns) x.0 (g.R.Rows.seen c.args.names.now) c.args.queue.now x.1 (g.R.Rows.seen c.put_element.new.names) c.put_element.new.queue) (λ i. (sym ds i, sym os i))
@@ -53,23 +53,23 @@ returns-in_err-out-clause-queue g c =
     (g.R.Rows.seen c.args.names.now) (g.R.Rows.seen l.names) (g.R.Rows.seen c.put_element.new.names) c.args.queue.now l.queue c.put_element.new.queue (texts_of l.outs.items)
     (split_map view c.args.elements.now l.element-index c.element-item.result c.loop-element-test.true c.element-item.is) l.invariant.so_far c.in_err-out.ensures.err c.in_err-out.ensures.same))
 
-pub returns-in-Err-clause-since : goal.returns-in-Err-clause-since
-returns-in-Err-clause-since g c =
+pub returns-in_err-push-clause-since : goal.returns-in_err-push-clause-since
+returns-in_err-push-clause-since g c =
     let l = c.loop-element in
     since_start (admission c.args.config.now c.args.rule.now.patterns) (map view (take l.element-index c.args.elements.now)) (g.R.Rows.seen c.args.names.now) (g.R.Rows.seen l.names) (g.R.Rows.seen c.put_element.new.names) c.args.queue.now l.queue (texts_of l.outs.items)
     c.in_ok-out.ensures.ok.own l.invariant.so_far c.in_ok-out.ensures.ok.made
 
-pub returns-in-Err-clause-err : goal.returns-in-Err-clause-err
-returns-in-Err-clause-err g c =
+pub returns-in_err-push-clause-err : goal.returns-in_err-push-clause-err
+returns-in_err-push-clause-err g c =
     let l = c.loop-element in
-    ended_more (admission c.args.config.now c.args.rule.now.patterns) (map view (take l.element-index c.args.elements.now)) (map view (drop (l.element-index + 1) c.args.elements.now)) (view c.element-item.result) (map view c.args.elements.now)
-    (g.R.Rows.seen c.args.names.now) (g.R.Rows.seen l.names) (g.R.Rows.seen c.put_element.new.names) c.args.queue.now l.queue c.put_element.new.queue (texts_of l.outs.items) (text_of c.in_ok-out.out)
-    (behind_map view c.args.elements.now l.element-index c.element-item.result c.loop-element-test.true c.element-item.is) l.invariant.so_far c.in_ok-out.ensures.ok
-
-pub returns-in-Err-clause-queue : goal.returns-in-Err-clause-queue
-returns-in-Err-clause-queue g c =
-    let l = c.loop-element in
-    may_have_put (admission c.args.config.now c.args.rule.now.patterns) (map view c.args.elements.now) (g.R.Rows.seen c.args.names.now) (g.R.Rows.seen c.put_element.new.names) c.args.queue.now c.put_element.new.queue
-    (ended_more (admission c.args.config.now c.args.rule.now.patterns) (map view (take l.element-index c.args.elements.now)) (map view (drop (l.element-index + 1) c.args.elements.now)) (view c.element-item.result) (map view c.args.elements.now)
+    at_err c.from_residual-in_err-push.result (ended_more (admission c.args.config.now c.args.rule.now.patterns) (map view (take l.element-index c.args.elements.now)) (map view (drop (l.element-index + 1) c.args.elements.now)) (view c.element-item.result) (map view c.args.elements.now)
     (g.R.Rows.seen c.args.names.now) (g.R.Rows.seen l.names) (g.R.Rows.seen c.put_element.new.names) c.args.queue.now l.queue c.put_element.new.queue (texts_of l.outs.items) (text_of c.in_ok-out.out)
     (behind_map view c.args.elements.now l.element-index c.element-item.result c.loop-element-test.true c.element-item.is) l.invariant.so_far c.in_ok-out.ensures.ok)
+
+pub returns-in_err-push-clause-queue : goal.returns-in_err-push-clause-queue
+returns-in_err-push-clause-queue g c =
+    let l = c.loop-element in
+    at_err c.from_residual-in_err-push.result (may_have_put (admission c.args.config.now c.args.rule.now.patterns) (map view c.args.elements.now) (g.R.Rows.seen c.args.names.now) (g.R.Rows.seen c.put_element.new.names) c.args.queue.now c.put_element.new.queue
+    (ended_more (admission c.args.config.now c.args.rule.now.patterns) (map view (take l.element-index c.args.elements.now)) (map view (drop (l.element-index + 1) c.args.elements.now)) (view c.element-item.result) (map view c.args.elements.now)
+    (g.R.Rows.seen c.args.names.now) (g.R.Rows.seen l.names) (g.R.Rows.seen c.put_element.new.names) c.args.queue.now l.queue c.put_element.new.queue (texts_of l.outs.items) (text_of c.in_ok-out.out)
+    (behind_map view c.args.elements.now l.element-index c.element-item.result c.loop-element-test.true c.element-item.is) l.invariant.so_far c.in_ok-out.ensures.ok))

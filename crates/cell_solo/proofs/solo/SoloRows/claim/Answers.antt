@@ -11,10 +11,10 @@ claim_at-requires-clause-no_counter g c = claims_no_counter _ _ _ _ c.args.row.n
 
 pub invariant_of-self-2 : goal.invariant_of-self-2
 invariant_of-self-2 g c =
-    let s = solo_step _ _ _ _ _ _ _ _ (Claim c.args.row.now c.args.qual.now c.args.value.now) (ClaimReply c.in-Ok-claim_at.claimed) _ c.self.invariant c.self.view_is c.add_claim.ensures.list c.in-Ok.ensures.list c.in-Ok-claim_at.ensures.covers c.requires.knows (ap ClaimReply c.in-Ok-claim_at.ensures.reply) c.in-Ok-claim_at.ensures.ok (ap (λ n. n + 1) (c.len-place.ensures.len ∙ ap (λ (ts : List Turn). length ts) c.in-Ok.ensures.list)) in
+    let s = solo_step _ _ _ _ _ _ _ _ (Claim c.args.row.now c.args.qual.now c.args.value.now) (ClaimReply c.in_ok-claimed.claimed) _ c.self.invariant c.self.view_is c.add_claim.ensures.list c.in_ok-reserve.ensures.list c.in_ok-claimed.ensures.covers c.requires.knows (ap ClaimReply c.in_ok-claimed.ensures.reply) c.in_ok-claimed.ensures.ok (ap (λ n. n + 1) (c.len-place.ensures.len ∙ ap (λ (ts : List Turn). length ts) c.in_ok-reserve.ensures.list)) in
     s.played _
 
 pub returns-clause-steps : goal.returns-clause-steps
 returns-clause-steps g c =
-    let s = solo_step _ _ _ _ _ _ _ _ (Claim c.args.row.now c.args.qual.now c.args.value.now) (ClaimReply c.in-Ok-claim_at.claimed) _ c.self.invariant c.self.view_is c.add_claim.ensures.list c.in-Ok.ensures.list c.in-Ok-claim_at.ensures.covers c.requires.knows (ap ClaimReply c.in-Ok-claim_at.ensures.reply) c.in-Ok-claim_at.ensures.ok (ap (λ n. n + 1) (c.len-place.ensures.len ∙ ap (λ (ts : List Turn). length ts) c.in-Ok.ensures.list)) in
+    let s = solo_step _ _ _ _ _ _ _ _ (Claim c.args.row.now c.args.qual.now c.args.value.now) (ClaimReply c.in_ok-claimed.claimed) _ c.self.invariant c.self.view_is c.add_claim.ensures.list c.in_ok-reserve.ensures.list c.in_ok-claimed.ensures.covers c.requires.knows (ap ClaimReply c.in_ok-claimed.ensures.reply) c.in_ok-claimed.ensures.ok (ap (λ n. n + 1) (c.len-place.ensures.len ∙ ap (λ (ts : List Turn). length ts) c.in_ok-reserve.ensures.list)) in
     s.steps _

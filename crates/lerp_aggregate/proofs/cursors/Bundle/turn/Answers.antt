@@ -1,4 +1,4 @@
-use Rattle.std.proofs.Common.{sym, subst}
+use Rattle.std.proofs.Common.{◌&&◌, sym, subst}
 use Rattle.std.specs.List.{filter_map}
 use Rattle.lerp_aggregate.specs.Aggregation.{given_at}
 use Rattle.lerp_aggregate.specs.Tally.{Adds}
@@ -15,11 +15,11 @@ returns-else-is_due-clause-stand c =
     let list = c.args.list.now in
     let time = c.args.time in
     let self = c.args.self.now in
-    (skipped_bundle list c.args.between time self c.requires.stand (skips c.args.between time self.next (late_bundle list time self c.requires.stand) (sym c.if-is_due.ensures))).1
+    (skipped_bundle list c.args.between time self c.requires.stand (skips (c.args.between && self.ahead.inside) time self.ahead.next (late_bundle list time self c.requires.stand) (sym c.if-is_due.ensures))).1
 
 pub returns-else-is_due-clause-adds : goal.returns-else-is_due-clause-adds
 returns-else-is_due-clause-adds c =
     let list = c.args.list.now in
     let time = c.args.time in
     let self = c.args.self.now in
-    adds_none list c.args.tally.now (filter_map (λ series. given_at c.args.between series time) (series_of list self.cursors.items)) (skipped_bundle list c.args.between time self c.requires.stand (skips c.args.between time self.next (late_bundle list time self c.requires.stand) (sym c.if-is_due.ensures))).0
+    adds_none list c.args.tally.now (filter_map (λ series. given_at c.args.between series time) (series_of list self.cursors.items)) (skipped_bundle list c.args.between time self c.requires.stand (skips (c.args.between && self.ahead.inside) time self.ahead.next (late_bundle list time self c.requires.stand) (sym c.if-is_due.ensures))).0

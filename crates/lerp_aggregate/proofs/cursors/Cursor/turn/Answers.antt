@@ -1,15 +1,16 @@
-use Rattle.std.proofs.Common.{◌∙◌, pos, sym, ap, subst, Some, FitsSigned, w64, rules, arith}
+use Rattle.std.proofs.Common.{◌∙◌, ◌&&◌, pos, sym, ap, subst, Some, FitsSigned, w64, rules, arith}
 use Rattle.std.proofs.lemmas.Int.{to_z-of_z}
 use Rattle.lerp_aggregate.specs.Aggregation.{value_or_between, given_at}
+use Rattle.lerp_aggregate.specs.Walks.{is_inside}
 use Rattle.lerp_aggregate.proofs.Standing.{Late, Skips}
 use Rattle.lerp_aggregate.proofs.Walking.{cursor_skips, cursor_here, cursor_passes, cursor_between, cursor_late}
 use Rattle.lerp_aggregate.proofs.cursors.Cursor.turn.Goals as goal
 
 pub returns-in-None-clause-gives : goal.returns-in-None-clause-gives
-returns-in-None-clause-gives c = sym (cursor_skips c.args.series.now c.args.self.now c.args.between c.args.time c.requires.stands (subst (Skips c.args.between c.args.time) (sym c.in-None.is) tt)).0
+returns-in-None-clause-gives c = sym (cursor_skips c.args.series.now c.args.self.now c.args.between c.args.time c.requires.stands (subst (Skips (c.args.between && is_inside c.args.self.now) c.args.time) (sym c.in-None.is) tt)).0
 
 pub returns-in-None-clause-stands : goal.returns-in-None-clause-stands
-returns-in-None-clause-stands c = (cursor_skips c.args.series.now c.args.self.now c.args.between c.args.time c.requires.stands (subst (Skips c.args.between c.args.time) (sym c.in-None.is) tt)).1
+returns-in-None-clause-stands c = (cursor_skips c.args.series.now c.args.self.now c.args.between c.args.time c.requires.stands (subst (Skips (c.args.between && is_inside c.args.self.now) c.args.time) (sym c.in-None.is) tt)).1
 
 pub returns-then-next-time-clause-gives : goal.returns-then-next-time-clause-gives
 returns-then-next-time-clause-gives c =

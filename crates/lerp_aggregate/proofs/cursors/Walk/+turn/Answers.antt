@@ -1,8 +1,8 @@
-use Rattle.std.proofs.Common.{◌≡◌, ◌<◌, ◌+◌, ◌∙◌, length, sym, ap, subst, rules, arith}
+use Rattle.std.proofs.Common.{◌≡◌, ◌<◌, ◌+◌, ◌&&◌, ◌∙◌, length, sym, ap, subst, rules, arith}
 use Rattle.std.specs.List.{filter_map}
 use Rattle.lerp_aggregate.specs.Aggregation.{given_at}
 use Rattle.lerp_aggregate.specs.Tally.{HasRoom, Adds}
-use Rattle.lerp_aggregate.specs.Walks.{is_due, next_of, walked, StandAt}
+use Rattle.lerp_aggregate.specs.Walks.{is_due, next_of, walk_ahead, walked, StandAt}
 use Rattle.lerp_aggregate.proofs.Walking.{pairs_of, room_left, room_right, adds_both, adds_none, skipped, skips, late}
 use Rattle.lerp_aggregate.proofs.cursors.Walk.+turn.Goals as goal
 
@@ -60,16 +60,16 @@ returns-else-is_due-clause-stand t c =
     let list = c.args.list.now in
     let time = c.args.time in
     let self = c.args.self.now in
-    let due = ap (λ w. is_due (next_of w) c.args.between time) c.in-Both.is ∙ sym c.if-is_due.ensures in
-    subst (StandAt list (time + 1)) c.in-Both.is (skipped list c.args.between time self c.requires.stand (skips c.args.between time (next_of self) (late list time self c.requires.stand) due)).1
+    let due = ap (λ w. is_due (next_of w) (c.args.between && (walk_ahead w).inside) time) c.in-Both.is ∙ sym c.if-is_due.ensures in
+    subst (StandAt list (time + 1)) c.in-Both.is (skipped list c.args.between time self c.requires.stand (skips (c.args.between && (walk_ahead self).inside) time (next_of self) (late list time self c.requires.stand) due)).1
 
 pub returns-else-is_due-clause-adds : goal.returns-else-is_due-clause-adds
 returns-else-is_due-clause-adds t c =
     let list = c.args.list.now in
     let time = c.args.time in
     let self = c.args.self.now in
-    let due = ap (λ w. is_due (next_of w) c.args.between time) c.in-Both.is ∙ sym c.if-is_due.ensures in
-    adds_none list c.args.tally.now (filter_map (λ series. given_at c.args.between series time) (walked list self)) (skipped list c.args.between time self c.requires.stand (skips c.args.between time (next_of self) (late list time self c.requires.stand) due)).0
+    let due = ap (λ w. is_due (next_of w) (c.args.between && (walk_ahead w).inside) time) c.in-Both.is ∙ sym c.if-is_due.ensures in
+    adds_none list c.args.tally.now (filter_map (λ series. given_at c.args.between series time) (walked list self)) (skipped list c.args.between time self c.requires.stand (skips (c.args.between && (walk_ahead self).inside) time (next_of self) (late list time self c.requires.stand) due)).0
 
 pub returns-in-One-clause-adds : goal.returns-in-One-clause-adds
 returns-in-One-clause-adds t c = subst (λ w. Adds c.args.tally.now c.turn.new.tally (filter_map (λ series. given_at c.args.between series c.args.time) (walked c.args.list.now w))) (sym c.in-One.is) c.turn.ensures.adds
