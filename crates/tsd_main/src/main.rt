@@ -15,10 +15,12 @@ use tsd_run::status::Status;
 const BLOCK: usize = 16 * 1024 * 1024;
 
 fn main(rt: HostRuntime) -> ExitCode {
-    keep_freed(rt.alloc());
     let net: Result<_, _> = rt.clone();
     let status = match (words(&rt), net) {
         (Ok(words), Ok(net)) => {
+            if is_session(&words) {
+                keep_freed(rt.alloc());
+            }
             let mut input = ReadSource::make(rt.stdin());
             let mut output = WriteSink::make(rt.stdout());
             let mut clock = SystemClock::make(&rt);
@@ -39,6 +41,14 @@ fn main(rt: HostRuntime) -> ExitCode {
         _ => Status::Memory,
     };
     ExitCode::from(status.number())
+}
+
+/// Whether the words may ask for more than the one query of `batch`.
+fn is_session(words: &[String]) -> bool {
+    match words.first() {
+        Some(word) => word.as_str() != "batch",
+        None => false,
+    }
 }
 
 /// Lets the process keep memory that is given back, for what asks next.
