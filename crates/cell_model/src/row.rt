@@ -107,7 +107,8 @@ impl Cells {
         self.block.narrow()
     }
 
-    /// The strip that the cells are, if each has a qualifier of two bytes and some a value of 4 or 8.
+    /// The strip that the cells are, if each has a qualifier of two bytes and they are kept with room for values of up to 8, as cells are since
+    /// one had a value of 4 or 8.
     #[inline]
     pub fn wide(&self) -> Option<&Strip<Wide>>
         ensures { IfSome result (λ strip. strip.now ≡ self.now) }

@@ -136,7 +136,7 @@ impl Block {
         }
     }
 
-    /// The strip that the cells are, if some has a value of 4 or 8 bytes.
+    /// The strip that the cells are, if they are kept as a strip of values of up to 8 bytes, as cells are since one had a value of 4 or 8.
     #[inline]
     pub fn wide(&self) -> Option<&Strip<Wide>>
         ensures { IfSome result (λ strip. strip.now ≡ self.now) }

@@ -11,11 +11,9 @@ use crate::block::Block;
 use crate::plain_cells::PlainCells;
 use crate::small_value::Narrow;
 use crate::strip::Strip;
+use row_key::HOUR;
 use std::alloc::{AllocError, Global};
 use std::marker::Model;
-
-// The last second of an hour.
-const LAST_SECOND: u16 = 3599;
 
 // What a slot has: a value of 1 or 2 bytes, or none where there is no cell.
 #[derive(Clone, Copy, Drop)]
@@ -206,10 +204,11 @@ fn grid_to(
 // How many more slots to make room for: a quarter of those that are there, but no more than the hour has steps.
 fn room_for(count: usize, first: u16, step: u16) -> usize {
     let quarter = count / 4 + 4;
-    if first > LAST_SECOND || step == 0 || count < 2 {
+    let second = u32::from(first);
+    if second >= HOUR || step == 0 || count < 2 {
         return quarter;
     }
-    let steps = ((LAST_SECOND - first) / step) as usize + 1;
+    let steps = ((HOUR - 1 - second) / u32::from(step)) as usize + 1;
     if steps <= count {
         return quarter;
     }

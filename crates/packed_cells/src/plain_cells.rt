@@ -112,7 +112,7 @@ impl PlainCells {
     }
 
     /// Takes this qualifier's cell out, if it is there and its version isn't above this one, and answers whether it went.
-    /// It needs no memory, and gives back what few cells are left in, if there is memory for a smaller block.
+    /// It needs no memory. Cells of mixed lengths give back what few of them are left in, if there is memory for a smaller block.
     #[tactic(auto, using(crate::proofs::Order::rises_remove, crate::proofs::Keyed::stays_at, crate::proofs::Keyed::stays_gap, crate::proofs::Keyed::kept_without))]
     pub fn remove(&mut self, qual: &[u8], version: u64) -> bool
         ensures gone { result ≡ goes (get self.old qual.now) version }

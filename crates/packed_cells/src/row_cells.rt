@@ -168,7 +168,8 @@ impl RowCells {
     }
 
     /// Takes this qualifier's cell out, if it is there and its version isn't above this one, and answers whether it went.
-    /// It needs no memory, and gives back what few cells are left in, if there is memory for a smaller block.
+    /// It needs no memory. Cells at even steps give theirs back with the last of them, cells of mixed lengths what few of them are left in,
+    /// if there is memory for a smaller block.
     #[inline(never)]
     pub fn remove(&mut self, qual: &[u8], version: u64) -> bool
         ensures gone { result ≡ goes (get self.old qual.now) version }
