@@ -4,12 +4,11 @@ and prints Markdown tables; the points a second go into a plot too.
 
     bench/serve.py PROGRAM [RUNS] [PROCESSORS] [CLIENTS] [PLOT]
 
-PROGRAM is the built `tsd_main`. The run that was fastest by the clock counts, of RUNS (5 if left out), the two servers by turns. The
-server runs on the processors that PROCESSORS names (0,1 if left out), the clients on those that CLIENTS names (the same if left out). PLOT
-is the SVG file to write. The points are 1,000 of 1,000
-series, in order of time, put by telnet and in bodies of 50; then two queries are asked over all of them, beside the same answers made by
-hand (scans.rs). What a server's processors spent is taken when the last client has its end, and again when the server has ended, since it
-compacts rows after a connection's end."""
+PROGRAM is the built `tsd_main`. The run that was fastest by the clock counts, of RUNS (9 if left out), the two servers by turns, and of 40 where
+four workers are compared with one. The server runs on the processors that PROCESSORS names (0,1 if left out), the clients on those that
+CLIENTS names (the same if left out). PLOT is the SVG file to write. The points are 1,000 of 1,000 series, in order of time, put by telnet and
+in bodies of 50; then two queries are asked over all of them, beside the same answers made by hand (scans.rs). What a server's processors
+spent is taken when the last client has its end, and again when the server has ended, since it compacts rows after a connection's end."""
 import os
 import socket
 import subprocess
@@ -23,6 +22,8 @@ from http_queries import FIRST, HERE, LAST, METRIC, POINTS, SERIES
 
 COUNT = SERIES * POINTS
 BODY = 50
+# How many runs the comparison of four workers with one takes: what one run of a program differs from the next is more than the ratio.
+WORKER_RUNS = 40
 TICKS = os.sysconf("SC_CLK_TCK")
 QUERIES = [f"sum:1m-avg:{METRIC}", f"sum:1m-avg:{METRIC}{{host=*}}"]
 
@@ -155,7 +156,7 @@ def main():
     if not 2 <= len(sys.argv) <= 6:
         sys.exit("usage: serve.py PROGRAM [RUNS] [PROCESSORS] [CLIENTS] [PLOT]")
     program, runs, processors, others, path = os.path.realpath(sys.argv[1]), *(sys.argv + [None] * 4)[2:6]
-    runs, processors = int(runs or 5), processors or "0,1"
+    runs, processors = int(runs or 9), processors or "0,1"
     places = processors, others or processors
     serve = [program, "serve", "0", "--auto-metric"]
     groups = []
@@ -188,7 +189,7 @@ def main():
         print("|---|---|---|---|---|")
         files = [f"{folder}/puts4True-{part}" for part in range(4)]
         one, four = by_turns(
-            runs,
+            WORKER_RUNS,
             lambda: measure(folder, places, "telnet", [*serve, "--workers", "1"], files, True),
             lambda: measure(folder, places, "telnet", [*serve, "--workers", "4"], files, True),
         )

@@ -20,19 +20,14 @@ use tsd_io::clock::MemClock;
 use tsd_io::halt::MemHalt;
 use tsd_io::memory::MemSink;
 
-/// Doors with two connections, whose calls with these numbers fail.
-fn two_links(
-    alloc: Global,
-    first: &[u8],
-    second: &[u8],
-    failing: Vec<u64>,
-) -> Result<MemDoors, AllocError> {
+/// Doors with two connections.
+fn two_links(alloc: Global, first: &[u8], second: &[u8]) -> Result<MemDoors, AllocError> {
     let first = link_of(alloc, first, 1_000)?;
     let second = link_of(alloc, second, 1_000)?;
     let mut links = Vec::new(alloc);
     links.push(first)?;
     links.push(second)?;
-    MemDoors::make(alloc, links, failing)
+    MemDoors::make(alloc, links, Vec::new(alloc))
 }
 
 /// What a fleet did over doors, with a clock that always gives this moment and a rule that allows each name, and what it wrote.
@@ -86,12 +81,7 @@ fn told(doors: &MemDoors, place: usize) -> Option<(&[u8], usize)> {
 
 #[test]
 fn one_worker_serves_after_the_end_was_asked(rt: HostRuntime) -> Result<(), AllocError> {
-    let mut doors = two_links(
-        rt.alloc(),
-        b"diediedie\n",
-        b"version\n",
-        Vec::new(rt.alloc()),
-    )?;
+    let mut doors = two_links(rt.alloc(), b"diediedie\n", b"version\n")?;
     let fleet = Fleet {
         port: 4242,
         daemons: 1,
@@ -126,7 +116,7 @@ fn one_worker_serves_after_the_end_was_asked(rt: HostRuntime) -> Result<(), Allo
 #[test]
 fn rows_are_compacted_before_the_end(rt: HostRuntime) -> Result<(), AllocError> {
     let points = b"put m 1356998400 10 h=a\nput m 1356998405 7 h=b\nput m 1356998410 20 h=a\n";
-    let mut doors = two_links(rt.alloc(), points, b"", Vec::new(rt.alloc()))?;
+    let mut doors = two_links(rt.alloc(), points, b"")?;
     let config = Config {
         auto_metric: true,
         auto_tag_key: true,
@@ -153,32 +143,6 @@ fn rows_are_compacted_before_the_end(rt: HostRuntime) -> Result<(), AllocError> 
     assert_eq!(rt; done.tally.ids, [1, 1, 2]);
     assert_eq!(rt; done.tally.point_rows, 2);
     assert_eq!(rt; done.tally.point_cells, 2);
-    Ok(())
-}
-
-#[test]
-fn doors_fail_behind_the_line(rt: HostRuntime) -> Result<(), AllocError> {
-    let mut failing = Vec::new(rt.alloc());
-    failing.push(2)?;
-    let mut doors = two_links(rt.alloc(), b"version\n", b"version\n", failing)?;
-    let fleet = Fleet {
-        port: 4242,
-        daemons: 1,
-        workers: 1,
-        regions: 1,
-    };
-    let (done, output) = run_fleet(
-        &rt,
-        rt.alloc(),
-        &fleet,
-        NoGate,
-        &Config::usual(),
-        0,
-        &mut doors,
-    )?;
-    assert_eq!(rt; done.end, FleetEnd::DoorFault);
-    assert_eq!(rt; done.links, 0);
-    assert_eq!(rt; output.held(), b"listening 4242\n".as_slice());
     Ok(())
 }
 
@@ -244,7 +208,6 @@ fn connections_are_served_beside_each_other(rt: HostRuntime) -> Result<(), Alloc
         rt.alloc(),
         b"put m 1356998400 1 h=a\n",
         b"GET /api/suggest?type=tagk HTTP/1.1\r\n\r\n",
-        Vec::new(rt.alloc()),
     )?;
     let config = Config {
         auto_metric: true,
