@@ -22,7 +22,7 @@ from http_queries import FIRST, HERE, LAST, METRIC, POINTS, SERIES
 
 COUNT = SERIES * POINTS
 BODY = 50
-# How many runs the comparison of four workers with one takes: what one run of a program differs from the next is more than the ratio.
+# How many runs the comparison of four workers with one takes. The fastest of nine hadn't settled.
 WORKER_RUNS = 40
 TICKS = os.sysconf("SC_CLK_TCK")
 QUERIES = [f"sum:1m-avg:{METRIC}", f"sum:1m-avg:{METRIC}{{host=*}}"]
