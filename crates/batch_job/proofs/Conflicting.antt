@@ -1,6 +1,6 @@
 -- Conflicts of stored points, and what a query over them shows.
 use Rattle.std.proofs.Common.{◌≡◌, Equal, ⊎_elim, inl, inr, ℕ, ℤ, ◌+◌, ◌*◌, ◌≤◌, Bool, true, false, List, [], ◌∷◌, ◌++◌, Option, Some, map, refl, sym, ap, subst, ◌∙◌, arith}
-use Rattle.std.specs.Prelude.{◌%◌, if◌then◌else◌, None, Contains, IsTrue, filter, find, not, option_map, unwrap_or}
+use Rattle.std.specs.Prelude.{if◌then◌else◌, None, Contains, IsTrue, filter, find, not, option_map, unwrap_or}
 use Rattle.std.specs.FinMap.{empty, nat_cmp-IsAntisymmetric, slice_cmp-IsAntisymmetric}
 use Rattle.std.specs.List.{flat_map}
 use Rattle.std.specs.Cmp.{nat_cmp_total, tied_itself}
@@ -17,12 +17,11 @@ use Rattle.qual_codec.specs.declared.cells.Cell.{Cell}
 use Rattle.qual_codec.specs.declared.cells.Dot.{Dot}
 use Rattle.qual_codec.specs.declared.cells.Item.{Item}
 use Rattle.qual_codec.specs.CellDots.{IsDots}
-use Rattle.qual_codec.specs.Spelling.{dot_of}
 use Rattle.tsd_base.specs.Points.{DataPoint}
 use Rattle.tsd_base.specs.Alphabet.{IsName}
 use Rattle.tsd_base.specs.LastPoints.{last_points}
 use Rattle.tsd_base.specs.TagList.{IsPair, Pair}
-use Rattle.list_lemmas.specs.BytesOrder.{bytes_cmp, bytes_cmp as row_bytes_cmp}
+use Rattle.list_lemmas.specs.BytesOrder.{bytes_cmp as row_bytes_cmp}
 use Rattle.row_key.specs.Key.{hour_bytes, pair_bytes}
 use Rattle.row_key.specs.KeyOrder.{pair_cmp}
 use Rattle.tsd_base.specs.TagOrder.{tags_same}
@@ -41,7 +40,7 @@ use Rattle.cell_model.specs.IdRows.{id_of, name_of}
 use Rattle.cell_model.specs.Layout.{IsPoint, base_time}
 use Rattle.cell_model.specs.Lawful.{IsLawful, Wrote}
 use Rattle.cell_laws.specs.Laws.{IsCompaction}
-use Rattle.cell_model.specs.Readings.{Reading, CellReads, IsNamed, IsStanding, Meets, Named, point_row, reading_of}
+use Rattle.cell_model.specs.Readings.{Reading, CellReads, IsNamed, IsStanding, Meets, point_row, reading_of}
 use Rattle.cell_model.specs.Seen.{Seen, Fits}
 use Rattle.cell_model.specs.Store.{Store, value_at}
 use Rattle.query_run.specs.Parts.{AreQuerySteps, FirstConflict, HasConflict, NameOf, Part, PartStands}
@@ -56,11 +55,11 @@ use Rattle.batch_job.proofs.Asking.{after_old, base_is, base_of_first, before_no
 use Rattle.lone_store.proofs.CallerLemmas.{nothing}
 use Rattle.batch_job.proofs.FoundCells.{cell_of_dot, cells_row, cells_stand, differ, found_table, not_true, same_store}
 use Rattle.batch_job.proofs.LastPoints.{last_hold, same_bytes}
-use Rattle.batch_job.proofs.Lower.{StoodRow, cell_in, dot_offset, first_lawful, had_cell, here, hour_is, in_filter, in_map, items_once, keys_compare, map_in, dot_value, metric_id, pair_ids, split, to_filter, not_in, one_dots, one_key, one_row, row_stood, same_Some, same_rising, there, value_dot}
+use Rattle.batch_job.proofs.Lower.{PutReads, StoodRow, cell_in, dot_offset, first_lawful, had_cell, here, hour_is, in_filter, in_map, items_once, keys_compare, map_in, dot_value, metric_id, pair_ids, put_dot, split, to_filter, not_in, one_dots, one_key, one_row, row_stood, same_Some, tags_once, there, value_dot}
 use Rattle.batch_job.proofs.FirstConflicts.{AtOnce, both_equal, first_found, pair_exact}
 use Rattle.batch_job.proofs.PairsOfTags.{pairs_are}
 use Rattle.batch_job.proofs.OneValue.{among_conflicts, are_two, one_place}
-use Rattle.batch_job.proofs.PutsStand.{PutReads, had_reads, put_stays_there}
+use Rattle.batch_job.proofs.PutsStand.{had_reads, put_stays_there}
 use Rattle.batch_job.proofs.RowCells.{Rise, cells_rise, first_coarse, only}
 
 -- ---- lists
@@ -183,34 +182,18 @@ abbrev item_or : Item → List Item → Item
 item_or i [] = i
 item_or i (x ∷ xs) = x
 
-tags_asym : (s t : Pair) → bytes_cmp s.0 t.0 ≡ Less → bytes_cmp t.0 s.0 ≡ Less → ⊥
-tags_asym s t x y = let z : Less ≡ Greater = sym x ∙ nat_list_cmp_total.antisymm s.0 t.0 ∙ ap ordering_reverse y in cc
-
-tags_within : (names : Kind → ℕ → Option (List ℕ)) (pairs : List (ℕ × ℕ)) (s t : List Pair) → Named names pairs s → Named names pairs t → (z : Pair) → Contains s z → Contains t z
-tags_within names pairs s t x y z c =
-    let p = x.back z c in
-    let u = y.each p.0 p.1 in
-    let k : (u.0).0 ≡ z.0 = same_Some _ _ (sym u.2.0 ∙ p.2.0) in
-    let v : (u.0).1 ≡ z.1 = same_Some _ _ (sym u.2.1 ∙ p.2.1) in
-    let same : ◌≡◌ {A = Pair} u.0 z = λ i. (k i, v i) in
-    subst (Contains t) same u.1
-
--- ids are those of one list of tags
-same_tags : (names : Kind → ℕ → Option (List ℕ)) (pairs : List (ℕ × ℕ)) (s t : List Pair) → Named names pairs s → Named names pairs t → s ≡ t
-same_tags names pairs s t x y = same_rising (λ (p q : Pair). bytes_cmp p.0 q.0 ≡ Less) tags_asym s t x.rising y.rising (tags_within names pairs s t x y) (tags_within names pairs t s y x)
-
 -- points whose cells have one row and qualifier are of one series, time and form
 same_place : (g : History) (p q : DataPoint) (row : Row) (qual v w : List ℕ) → PutReads g p row qual v → PutReads g q row qual w → SamePlace p q
 same_place g p q row qual v w x y =
-    let d = dot_of (p.time % 3600000) p.fine p.value x.len in
-    let e = dot_of (q.time % 3600000) q.fine q.value y.len in
+    let d = put_dot p x.len in
+    let e = put_dot q y.len in
     let item : d.item ≡ e.item = ap (item_or d.item) (items_once qual (d.item ∷ []) (e.item ∷ []) x.reads.items y.reads.items) in
     let a = x.dot_reads in
     let b = y.dot_reads in
     let key : a.key ≡ b.key = one_key a.key b.key a.is_key b.is_key (sym a.row_is ∙ b.row_is) in
     record {
       metric = same_Some _ _ (sym a.metric_is ∙ ap (λ (k : RowKey). name_of g Metric k.metric) key ∙ b.metric_is);
-      tags = same_tags (name_of g) b.key.pairs.items p.tags q.tags (subst (λ (k : RowKey). Named (name_of g) k.pairs.items p.tags) key a.tags_are) b.tags_are;
+      tags = tags_once (name_of g) a.key.pairs.items b.key.pairs.items p.tags q.tags (ap (λ (k : RowKey). k.pairs.items) key) a.tags_are b.tags_are;
       time = a.time_is ∙ (λ i. (key i).base * 1000 + (item i).offset) ∙ sym b.time_is;
       fine = ap (λ (i : Item). i.fine) item;
     }
@@ -328,7 +311,7 @@ module _ (points : List DataPoint) (old new : Seen) (list : List Placed) (stored
       dot_point d has at_offset =
           let w = cell_of_dot found.cells conflict.dots d conflict.are_dots has in
           let p = cell_point w.cell w.among table in
-          let e = dot_of ((p.point).time % 3600000) (p.point).fine (p.point).value p.reads.len in
+          let e = put_dot p.point p.reads.len in
           let same : e ≡ d = only e d (subst (λ (ds : List Dot). Contains ds d) (one_dots w.cell.qual w.cell.value w.dots (e ∷ []) w.reads p.reads.reads) w.has) in
           let told = conflict.reads.reads.dot_reads in
           let x = p.reads.dot_reads in
@@ -338,7 +321,7 @@ module _ (points : List DataPoint) (old new : Seen) (list : List Placed) (stored
             point = p.point;
             last = p.among;
             metric_is = same_Some _ _ (sym x.metric_is ∙ ap (λ (k : RowKey). name_of now Metric k.metric) key ∙ told.metric_is);
-            tags_are = same_tags (name_of now) told.key.pairs.items (p.point).tags conflict.reading.tags (subst (λ (k : RowKey). Named (name_of now) k.pairs.items (p.point).tags) key x.tags_are) told.tags_are;
+            tags_are = tags_once (name_of now) x.key.pairs.items told.key.pairs.items (p.point).tags conflict.reading.tags (ap (λ (k : RowKey). k.pairs.items) key) x.tags_are told.tags_are;
             time_is = x.time_is ∙ (λ i. (base i).base * 1000 + (same i).item.offset) ∙ ap (λ n. conflict.key.base * 1000 + n) at_offset ∙ sym conflict.time_is;
             form = ap (λ (z : Dot). z.item.fine) same;
             value_is = ap (λ (z : Dot). z.value) same;
@@ -379,7 +362,7 @@ module _ (points : List DataPoint) (old new : Seen) (list : List Placed) (stored
               let values = first_is (values_at conflict.offset conflict.dots) a b conflict.values in
               let f = first_coarse found.cells conflict.dots conflict.offset a values.0
               (subst Rise (sym (cells_row points old new list stored made steps h lawful fits at among found reply)) (cells_rise (store_after now) found.row))
-              (λ c i. let p = cell_point c i table in record { dot = dot_of ((p.point).time % 3600000) (p.point).fine (p.point).value p.reads.len; reads = p.reads.reads })
+              (λ c i. let p = cell_point c i table in record { dot = put_dot p.point p.reads.len; reads = p.reads.reads })
               conflict.are_dots values.1 d has at_offset form in
               let same = same_value f.dot d (dot_point f.dot f.among f.offset_is) (dot_point d has at_offset) (f.coarse_is ∙ sym form) in
               apart (sym f.value_is ∙ same ∙ value) e
@@ -622,7 +605,7 @@ module _ (points : List DataPoint) (old new : Seen) (list : List Placed) (stored
             let pairs : k0.pairs.items ≡ k.pairs.items = sym (pairs_are_ids told.p told.p_last) ∙ once.pairs ∙ ap (λ (x : Conflict). x.pairs) (sym t.is) ∙ pairs_are_ids t.p p_last in
             let x = (stands told.p told.p_last).reads.dot_reads in
             let y = (stands t.p p_last).reads.dot_reads in
-            let tags : told.p.tags ≡ t.p.tags = same_tags (name_of now) k.pairs.items told.p.tags t.p.tags (subst (λ (ps : List (ℕ × ℕ)). Named (name_of now) ps told.p.tags) pairs x.tags_are) y.tags_are in
+            let tags : told.p.tags ≡ t.p.tags = tags_once (name_of now) k0.pairs.items k.pairs.items told.p.tags t.p.tags pairs x.tags_are y.tags_are in
             let named : told.p.metric ≡ t.p.metric = metric_of told.p p_in ∙ sym (metric_of t.p t.p_in) in
             let timed : told.p.time ≡ t.p.time = once.time ∙ ap (λ (x : Conflict). x.time) (sym t.is) in (
               one_place points t.p told.p p_last told.p_last (λ i. ((sym named i, sym tags i), (both_told.coarse ∙ sym two.coarse) i)) (sym timed),

@@ -11,6 +11,6 @@ pub use Rattle.cell_laws.proofs.CallerLemmas.{Begins, whole, longer}
 pub use Rattle.cell_laws.proofs.CallerLemmas.{trans_begins, lawful_begins, bounded, entry_at-last, entry_at-more, stood}
 pub use Rattle.cell_laws.proofs.CallerLemmas.{inside, out_before, out_behind, deeds_beyond, deeds_joined, IsDeed, deeds_each}
 pub use Rattle.cell_laws.proofs.CallerLemmas.{same_kind, not_zero, Names_Ids, claim_wrote, Counted, given_counts, counter_written, held_there, number-bytes as id_read_back}
-pub use Rattle.cell_laws.proofs.CallerLemmas.{had_cell, value-written, key_resolves, metric_resolves, value_resolves, name_keeps}
+pub use Rattle.cell_laws.proofs.CallerLemmas.{had_cell, value-written, key_resolves, metric_resolves, value_resolves, name_keeps, PutReads, put_dot, put_reads, tags_once}
 pub use Rattle.cell_laws.proofs.CallerLemmas.{first_lawful, each_entry, keeps_id as id_kept, names_back, sound_after, standing_accepted, first_fits}
 pub use Rattle.row_scan.proofs.CallerLemmas.{cell_at, cell_in, StoodRow, metric_id, pair_ids, row_stood, dot_offset, hour_is, one_row}

@@ -1,73 +1,24 @@
 -- In a history without merges and drops the cell of each place that a put wrote stands, with the value of the last put there.
-use Rattle.std.proofs.Common.{◌≡◌, ◌≢◌, ◌⊎◌, inl, inr, ℕ, ◌+◌, List, [], ◌∷◌, Some, refl, sym, ap, subst, ◌∙◌, arith}
-use Rattle.std.specs.Prelude.{◌%◌, Contains}
-use Rattle.tsd_base.specs.Alphabet.{IsName}
+use Rattle.std.proofs.Common.{◌≡◌, ◌≢◌, ◌⊎◌, inl, inr, ℕ, ◌+◌, List, Some, refl, sym, ap, subst, ◌∙◌}
 use Rattle.tsd_base.specs.Points.{DataPoint}
-use Rattle.tsd_base.specs.TagList.{Pair}
-use Rattle.tsd_base.specs.declared.kinds.Kind.{Kind}
-use Rattle.tsd_base.specs.declared.kinds.Kind.TheVariants.{Metric, TagKey, TagValue}
 use Rattle.row_key.specs.declared.tables.Table.{Table}
 use Rattle.row_key.specs.declared.tables.Table.TheVariants.{Ids, Names, Points}
-use Rattle.qual_codec.specs.CellDots.{IsDots}
-use Rattle.qual_codec.specs.Spelling.{dot_of}
 use Rattle.cell_model.specs.declared.row.Row.{Row}
 use Rattle.cell_model.specs.declared.events.Entry.{Entry}
 use Rattle.cell_model.specs.declared.events.Step.{Step}
 use Rattle.cell_model.specs.declared.events.Step.TheVariants.{Open, Read, NextRow, Bump, Claim, PutPoint, PutMerged, DropCells}
 use Rattle.cell_model.specs.History.{History, Had, len, store_after}
 use Rattle.cell_model.specs.History.History.{Base, Then}
-use Rattle.cell_model.specs.IdRows.{id_of, name_of}
-use Rattle.cell_model.specs.Lawful.{ClaimBasis, IsLawful, MayStep, PointBasis}
+use Rattle.cell_model.specs.Lawful.{ClaimBasis, IsLawful, MayStep}
 use Rattle.cell_laws.specs.Laws.{IsCompaction}
 use Rattle.cell_model.specs.Machine.{after, counter_row, kind_qual}
-use Rattle.cell_model.specs.Readings.{DotReads, IsNamed, reading_of}
 use Rattle.cell_model.specs.Store.{place_of, value_at}
 use Rattle.batch_job.specs.Storing.{IsUnmerged}
 use Rattle.batch_job.proofs.Entering.{bump_keeps, claim_keeps, had_before, put_keeps, rows_differ, tables_differ}
-use Rattle.batch_job.proofs.Lower.{Begins, entry_at-last, entry_at-more, key_resolves, lawful_begins, longer, metric_resolves, name_keeps, names_back, not_Some, same_or_not, stood, trans_begins, value-written, value_resolves, whole}
+use Rattle.batch_job.proofs.Lower.{PutReads, entry_at-last, entry_at-more, lawful_begins, longer, not_Some, put_reads, same_or_not, stood, trans_begins, value-written, whole}
 
 -- ---- what a put says
--- the cell is one data point, which reads as the point, with the names that ids have after the history
-pub record PutReads (h : History) (point : DataPoint) (row : Row) (qual value : List ℕ) : Type 0 where
-  pub len : ℕ
-  pub in_points : row.table ≡ Points
-  pub reads : IsDots qual value (dot_of (point.time % 3600000) point.fine point.value len ∷ [])
-  pub dot_reads : DotReads (name_of h) row.bytes (dot_of (point.time % 3600000) point.fine point.value len) (reading_of point)
-
-put_reads : (before h : History) (point : DataPoint) (row : Row) (qual value : List ℕ) → Begins before h → IsLawful h → PointBasis (λ kind name id. id_of before kind name ≡ Some id) point row qual value → PutReads h point row qual value
-put_reads before h point row qual value b l k =
-    let lay = k.layout in
-    let has = lay.has in
-    let l0 = lawful_begins b l in
-    let m = metric_resolves before point row qual value k in
-    let back : (kind : Kind) (name : List ℕ) (id n : ℕ) → IsName name → id_of before kind name ≡ Some id → id ≡ n → name_of h kind n ≡ Some name =
-    λ kind name id n ok is same. name_keeps kind n name b l (ap (name_of before kind) (sym same) ∙ names_back before kind name id l0 ok is) in
-    let named : (p : ℕ × ℕ) (t : Pair) → Contains point.tags t → k.ids TagKey t.0 ≡ p.0 → k.ids TagValue t.1 ≡ p.1 → IsNamed (name_of h) p t =
-    λ p t c x y.
-    let w = key_resolves before point row qual value k t c in
-    let v = value_resolves before point row qual value k t c in
-    (back TagKey t.0 _ p.0 w.is_name w.id_is x, back TagValue t.1 _ p.1 v.is_name v.id_is y) in
-    let base = has.base in
-    record {
-      len = _;
-      in_points = k.in_points;
-      reads = lay.dot;
-      dot_reads = record {
-        key = lay.key;
-        is_key = has.is_key;
-        row_is = lay.row_is;
-        metric_is = back Metric point.metric _ _ m.is_name m.id_is (sym has.metric);
-        tags_are = record {
-          rising = k.is_point.tags.rising;
-          each = λ p c. let w = has.each_pair p c in (w.0, w.1, named p w.0 w.1 (ap (λ (x : ℕ × ℕ). x.0) w.2) (ap (λ (x : ℕ × ℕ). x.1) w.2));
-          back = λ t c. ((k.ids TagKey t.0, k.ids TagValue t.1), has.each_tag t c, named (k.ids TagKey t.0, k.ids TagValue t.1) t c refl refl);
-        };
-        time_is = omega (arith, base);
-        value_is = refl;
-      };
-    }
-
--- so it is of each put of a lawful history
+-- the cell of each put of a lawful history is one data point, which reads as the point
 pub had_reads : (h : History) (e : Entry) (point : DataPoint) (row : Row) (qual value : List ℕ) → IsLawful h → Had h e → e.step ≡ PutPoint point row qual value → PutReads h point row qual value
 had_reads h e point row qual value l had is =
     let st = stood h had.0 e had.1 in

@@ -1,6 +1,6 @@
 -- What stands was accepted, and what was accepted stands.
 use Rattle.std.proofs.Common.{◌≡◌, ◌⊎◌, inl, inr, ℕ, ◌+◌, ◌*◌, List, [], ◌∷◌, refl, sym, ap, subst, ◌∙◌, arith}
-use Rattle.std.specs.Prelude.{Option, Some, Contains}
+use Rattle.std.specs.Prelude.{◌%◌, Option, Some, Contains}
 use Rattle.std.specs.declared.cmp.Ordering.TheVariants.{Less, Greater}
 use Rattle.std.specs.Ordering.{ordering_reverse}
 use Rattle.std.specs.Cmp.Lexicographic.{nat_list_cmp_total}
@@ -10,6 +10,7 @@ use Rattle.tsd_base.specs.Alphabet.{IsName}
 use Rattle.tsd_base.specs.TagList.{Pair}
 use Rattle.tsd_base.specs.Points.{DataPoint}
 use Rattle.row_key.specs.declared.tables.Table.TheVariants.{Points}
+use Rattle.row_key.specs.declared.hours.TheConstants.{HOUR_MILLIS}
 use Rattle.row_key.specs.declared.keys.RowKey.{RowKey}
 use Rattle.list_lemmas.specs.BytesOrder.{bytes_cmp}
 use Rattle.qual_codec.specs.declared.cells.Item.{Item}
@@ -17,6 +18,7 @@ use Rattle.qual_codec.specs.declared.cells.Dot.{Dot}
 use Rattle.qual_codec.specs.Items.{IsItems}
 use Rattle.qual_codec.specs.CellDots.{IsDots, items_of}
 use Rattle.qual_codec.specs.Order.{IsBelow}
+use Rattle.qual_codec.specs.Spelling.{dot_of}
 use Rattle.cell_model.specs.declared.row.Row.{Row}
 use Rattle.cell_model.specs.declared.events.Step.{Step}
 use Rattle.cell_model.specs.declared.events.Step.TheVariants.{Open, Read, NextRow, Bump, Claim, PutPoint, PutMerged, DropCells}
@@ -24,6 +26,7 @@ use Rattle.cell_model.specs.declared.events.Entry.{Entry}
 use Rattle.cell_model.specs.Store.{value_at}
 use Rattle.cell_model.specs.Machine.{kind_qual}
 use Rattle.cell_model.specs.History.{History, len, store_after, Had}
+use Rattle.cell_model.specs.Layout.{base_time}
 use Rattle.cell_laws.proofs.Beginnings.{Begins}
 use Rattle.cell_model.specs.History.History.{Base, Then}
 use Rattle.cell_laws.proofs.Beginnings.Begins.{whole, longer}
@@ -79,13 +82,19 @@ cell_by row qual value r f c =
       };
     }
 
--- what a point's cell says
-record PutReads (names : Kind → ℕ → Option (List ℕ)) (point : DataPoint) (row qual value : List ℕ) : Type 0 where
-  dot : Dot
-  reads : IsDots qual value (dot ∷ [])
-  dot_reads : DotReads names row dot (reading_of point)
+-- the data point of a point whose value has so many bytes
+abbrev pub put_dot : DataPoint → ℕ → Dot
+put_dot point len = dot_of (point.time % HOUR_MILLIS) point.fine point.value len
 
-put_reads : (before h : History) (point : DataPoint) (row : Row) (qual value : List ℕ) → Begins before h → IsLawful h → Basis before point row qual value → PutReads (name_of h) point row.bytes qual value
+-- what a point's cell says: it is one data point, which reads as the point, with the names that ids have after the history
+pub record PutReads (h : History) (point : DataPoint) (row : Row) (qual value : List ℕ) : Type 0 where
+  pub len : ℕ
+  pub in_points : row.table ≡ Points
+  pub reads : IsDots qual value (put_dot point len ∷ [])
+  pub dot_reads : DotReads (name_of h) row.bytes (put_dot point len) (reading_of point)
+  pub base : dot_reads.key.base ≡ base_time point.time
+
+pub put_reads : (before h : History) (point : DataPoint) (row : Row) (qual value : List ℕ) → Begins before h → IsLawful h → Basis before point row qual value → PutReads h point row qual value
 put_reads before h point row qual value b l k =
     let lay = k.layout in
     let has = lay.has in
@@ -100,8 +109,10 @@ put_reads before h point row qual value b l k =
     (back TagKey t.0 _ p.0 w.is_name w.id_is x, back TagValue t.1 _ p.1 v.is_name v.id_is y) in
     let base = has.base in
     record {
-      dot = _;
+      len = _;
+      in_points = k.in_points;
       reads = lay.dot;
+      base = base;
       dot_reads = record {
         key = lay.key;
         is_key = has.is_key;
@@ -126,8 +137,9 @@ tag_same names p s t x y = let k = same_Some s.0 t.0 (sym x.0 ∙ y.0) in let v 
 below_asym : (s t : Pair) → bytes_cmp s.0 t.0 ≡ Less → bytes_cmp t.0 s.0 ≡ Less → ⊥
 below_asym s t x y = let z : Less ≡ Greater = sym x ∙ nat_list_cmp_total.antisymm s.0 t.0 ∙ ap ordering_reverse y in cc
 
-tags_same : (names : Kind → ℕ → Option (List ℕ)) (ps qs : List (ℕ × ℕ)) (a b : List Pair) → ps ≡ qs → Named names ps a → Named names qs b → a ≡ b
-tags_same names ps qs a b same x y = same_rising (λ s t. bytes_cmp s.0 t.0 ≡ Less) below_asym a b x.rising y.rising
+-- ids are those of one list of tags
+pub tags_once : (names : Kind → ℕ → Option (List ℕ)) (ps qs : List (ℕ × ℕ)) (a b : List Pair) → ps ≡ qs → Named names ps a → Named names qs b → a ≡ b
+tags_once names ps qs a b same x y = same_rising (λ s t. bytes_cmp s.0 t.0 ≡ Less) below_asym a b x.rising y.rising
     (λ t c. let p = x.back t c in let w = y.each p.0 (subst (λ (l : List (ℕ × ℕ)). Contains l p.0) same p.1) in subst (Contains b) (tag_same names p.0 w.0 t w.2 p.2) w.1)
     (λ t c. let p = y.back t c in let w = x.each p.0 (subst (λ (l : List (ℕ × ℕ)). Contains l p.0) (sym same) p.1) in subst (Contains a) (tag_same names p.0 w.0 t w.2 p.2) w.1)
 
@@ -136,7 +148,7 @@ reading_once : (names : Kind → ℕ → Option (List ℕ)) (row : List ℕ) (d 
 reading_once names row d r s x y =
     let k : x.key ≡ y.key = one_key x.key y.key x.is_key y.is_key (sym x.row_is ∙ y.row_is) in
     let metric = same_Some r.metric s.metric (sym x.metric_is ∙ ap (λ (z : RowKey). names Metric z.metric) k ∙ y.metric_is) in
-    let tags = tags_same names x.key.pairs.items y.key.pairs.items r.tags s.tags (ap (λ (z : RowKey). z.pairs.items) k) x.tags_are y.tags_are in
+    let tags = tags_once names x.key.pairs.items y.key.pairs.items r.tags s.tags (ap (λ (z : RowKey). z.pairs.items) k) x.tags_are y.tags_are in
     let time = x.time_is ∙ ap (λ (z : RowKey). z.base * 1000 + d.item.offset) k ∙ sym y.time_is in
     let value = x.value_is ∙ sym y.value_is in
     λ i. record { metric = metric i; tags = tags i; time = time i; value = value i }
@@ -156,8 +168,9 @@ wrote_accepted : (h0 h : History) (e : Entry) (step : Step) → Begins h0 h → 
     → (IsPut step r → IsPut e.step r) → Wrote row q v step → MayStep h0 e.caller step → CellReads (name_of h) row.bytes q v r → AcceptedBy (name_of h) (Then h0 e) r
 wrote_accepted h0 h e (PutPoint point p qual value) b l row q v r go put w may c =
     let x = put_reads h0 h point p qual value b l may in
-    let reads : IsDots q v (x.dot ∷ []) = moved qual value q v (x.dot ∷ []) w.1 w.2 x.reads in
-    let same : x.dot ≡ c.dot = only_dot x.dot c.dot (subst (λ (ds : List Dot). Contains ds c.dot) (one_dots q v c.dots (x.dot ∷ []) c.reads reads) c.among) in
+    let dot = put_dot point x.len in
+    let reads : IsDots q v (dot ∷ []) = moved qual value q v (dot ∷ []) w.1 w.2 x.reads in
+    let same : dot ≡ c.dot = only_dot dot c.dot (subst (λ (ds : List Dot). Contains ds c.dot) (one_dots q v c.dots (dot ∷ []) c.reads reads) c.among) in
     let here : DotReads (name_of h) row.bytes c.dot (reading_of point) = subst (λ (y : Row). DotReads (name_of h) y.bytes c.dot (reading_of point)) w.0 (subst (λ (d : Dot). DotReads (name_of h) p.bytes d (reading_of point)) same x.dot_reads) in
     inr (e, (len h0 + 1, entry_at-last h0 e), put (reading_once (name_of h) row.bytes c.dot (reading_of point) r here c.dot_reads))
 wrote_accepted h0 h e (PutMerged p qual value) b l row q v r go put w may c =
@@ -203,7 +216,7 @@ put_source h r e (PutPoint point row qual value) is l had put before b may =
       qual = qual;
       value = value;
       had = inr (e, had, subst (λ (s : Step). Wrote (point_row row.bytes) qual value s) (sym is) (same, refl, refl));
-      reads = record { dots = x.dot ∷ []; reads = x.reads; dot = x.dot; among = here x.dot []; dot_reads = subst (DotReads (name_of h) row.bytes x.dot) put x.dot_reads };
+      reads = record { dots = put_dot point x.len ∷ []; reads = x.reads; dot = put_dot point x.len; among = here (put_dot point x.len) []; dot_reads = subst (DotReads (name_of h) row.bytes (put_dot point x.len)) put x.dot_reads };
     }
 put_source h r e Open is l had put before b may = absurd put
 put_source h r e (Read row) is l had put before b may = absurd put

@@ -58,6 +58,8 @@ pub use Rattle.cell_laws.proofs.Known.{had_cell, value-written}
 pub use Rattle.cell_laws.proofs.Written.{key_resolves, metric_resolves, value_resolves}
 -- the name of an id stays; what a cell that reads accepted
 pub use Rattle.cell_laws.proofs.Accepting.{name_keeps, cell_by, had_accepted}
+-- what the cell of a point that was put says; the tags that ids name are one list
+pub use Rattle.cell_laws.proofs.Accepting.{PutReads, put_dot, put_reads, tags_once}
 -- a reading that meets another and has its value is that one
 pub use Rattle.cell_laws.proofs.Accepting.{same_reading}
 -- ---- sights

@@ -1,6 +1,9 @@
 -- Which rows are compacted when.
-use Rattle.std.specs.Prelude.{ℕ, ◌-◌, ◌*◌, ◌/◌, min}
+use Rattle.std.specs.Prelude.{ℕ, ◌-◌, min}
+use Rattle.row_key.specs.Hours.{base_time}
+use Rattle.row_key.specs.declared.hours.TheConstants.{HOUR_MILLIS}
+use Rattle.tsd_base.specs.declared.times.TheConstants.{LAST_TIME}
 
--- At a moment, in milliseconds since 1970, rows of hours that begin before this second: the second an hour earlier, rounded down to an hour, and no more than the last hour that a u32 has.
+-- At a moment, in milliseconds since 1970, rows whose hours begin before that of the moment an hour earlier, or before that of the last time.
 abbrev pub due_before : ℕ → ℕ
-due_before moment = min ((moment / 1000 - 3600) / 3600 * 3600) 4294965600
+due_before moment = base_time (min (moment - HOUR_MILLIS) LAST_TIME)

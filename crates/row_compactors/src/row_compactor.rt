@@ -6,17 +6,15 @@ use cell_model::rows::Rows;
 use compactor::queue::Queue;
 use compactor::queue_drain::drain;
 use crossbeam_channel::{Receiver, Sender};
-use row_key::{HOUR, HOUR_MILLIS};
+use row_key::{HOUR_MILLIS, base_of};
 use std::alloc::Global;
 use std::mem::replace;
 use std::sync::Wait;
+use tsd_base::times::LAST_TIME;
 use tsd_io::clock::Clock;
 
 /// How many rows are compacted at most when some came.
 const MOST_AT_ONCE: u32 = 1_000;
-
-/// The number of the last hour that begins at a second of a `u32`.
-const LAST_HOUR: u64 = (u32::MAX / HOUR) as u64;
 
 /// A compaction worker: rows of one caller, and the rows of points that it compacts.
 #[derive(Drop)]
@@ -112,6 +110,5 @@ fn compact_due<R: Rows + Drop, C: Clock + Drop>(worker: &mut RowCompactor<R, C>)
 fn due_before(moment: u64) -> u32
     ensures { result ≡ due_before moment }
 {
-    let hours = (moment / HOUR_MILLIS).saturating_sub(1);
-    hours.min(LAST_HOUR) as u32 * HOUR
+    base_of(moment.saturating_sub(HOUR_MILLIS).min(LAST_TIME))
 }
