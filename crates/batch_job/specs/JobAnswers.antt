@@ -9,7 +9,7 @@ use Rattle.tsd_base.specs.declared.kinds.Kind.TheVariants.{Metric, TagKey, TagVa
 use Rattle.tsd_base.specs.declared.kinds.Kind.{Kind}
 use Rattle.cell_model.specs.Layout.{names_of}
 use Rattle.cell_model.specs.Readings.{reading_of}
-use Rattle.query_text.specs.QueryReadings.{CanDown}
+use Rattle.query_text.specs.Subs.{CanDown}
 use Rattle.query_text.specs.declared.queries.Query.{Query}
 use Rattle.query_text.specs.declared.queries.Sub.{Sub}
 use Rattle.json_reply.specs.Replies.{Group, plain}

@@ -4,7 +4,7 @@ use Rattle.serde_json.specs.Data.{Data}
 use Rattle.serde_json.specs.View.{view}
 use Rattle.name_requests.specs.AssignRequests.{assign_lists}
 use Rattle.name_requests.specs.SuggestRequests.{IsMax, suggestion}
-use Rattle.query_text.specs.QueryReadings.{CanWork}
+use Rattle.query_requests.specs.QueryReadings.{CanWork}
 use Rattle.http_api.specs.declared.call_task.Task.{Task}
 use Rattle.http_api.specs.declared.call_task.Task.TheVariants as task
 use Rattle.http_api.specs.CallWork.{Work, elements_of}

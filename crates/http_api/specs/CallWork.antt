@@ -23,8 +23,8 @@ use Rattle.name_requests.specs.declared.fault.AssignFault.{AssignFault}
 use Rattle.name_requests.specs.declared.fault.SuggestFault.{SuggestFault}
 use Rattle.name_requests.specs.RequestFaults.{assign_fault_text, suggest_fault_text}
 use Rattle.name_requests.specs.SuggestRequests.{Suggestion, suggest_by_body, suggest_by_form}
-use Rattle.query_text.specs.FormQueries.{query_by_form}
-use Rattle.query_text.specs.JsonQueries.{query_by_json}
+use Rattle.query_requests.specs.FormQueries.{query_by_form}
+use Rattle.query_requests.specs.JsonQueries.{query_by_json}
 use Rattle.query_text.specs.QueryFaultTexts.{query_fault_text}
 use Rattle.query_text.specs.declared.queries.Query.{Query}
 use Rattle.query_text.specs.declared.queries.QueryFault.{QueryFault}

@@ -7,7 +7,7 @@ ghost use Rattle.json_reply.specs.ErrorBodies.{error_body};
 ghost use Rattle.json_reply.specs.Replies.{IsReady, plain, text_of};
 ghost use Rattle.http_reply.specs.ReplyBytes.{reply_bytes};
 ghost use Rattle.http_reply.specs.ReplyStatuses.{code_of};
-ghost use Rattle.query_text.specs.QueryReadings.{CanWork};
+ghost use Rattle.query_requests.specs.QueryReadings.{CanWork};
 ghost use Rattle.query_run.specs.AskFaultTexts.{ask_fault_text};
 ghost use Rattle.query_run.specs.AskFaults as ask_faults;
 ghost use Rattle.query_run.specs.AskedQueries.{plain_result};

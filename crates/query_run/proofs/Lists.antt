@@ -23,7 +23,7 @@ use Rattle.downsample.specs.Downsampling.{GivesDown, buckets_for, downsampled, i
 use Rattle.lerp_aggregate.specs.Aggregation.{aggregated, combined, overflows, points_of, points_unless, times_of, values_at}
 use Rattle.query_text.specs.Downs.{IsInterval}
 use Rattle.query_run.specs.QueryAnswers.{all_or_least, down_by, down_to, first_and, function_of}
-use Rattle.query_text.specs.QueryReadings.{CanDown}
+use Rattle.query_text.specs.Subs.{CanDown}
 use Rattle.query_run.specs.SeriesGroups.{IsDown, Keeps, earliest}
 use Rattle.query_run.specs.NamedSeries.{AreEarly}
 use Rattle.query_run.proofs.AnyOf.{in_any, any_in}

@@ -6,7 +6,7 @@ use Rattle.tsd_base.specs.declared.times.TheConstants.{LAST_TIME}
 use Rattle.tsd_base.specs.declared.kinds.Fill.TheVariants.{Zero}
 use Rattle.tsd_base.specs.declared.kinds.Down.{Down}
 use Rattle.tsd_base.specs.TagList.{Pair, tags_cmp, is_same_tags}
-use Rattle.query_text.specs.QueryReadings.{CanDown}
+use Rattle.query_text.specs.Subs.{CanDown}
 use Rattle.query_text.specs.declared.queries.Query.{Query}
 use Rattle.query_text.specs.declared.queries.Sub.{Sub}
 use Rattle.downsample.specs.Buckets.{all_buckets}

@@ -1,7 +1,7 @@
 //! Asking a query.
 ghost use Rattle.std.specs.Prelude.{◌≡◌, ◌++◌, ◌≤◌, All, IfOk, OnOk};
 ghost use Rattle.tsd_base.specs.declared.times.TheConstants.{LAST_TIME};
-ghost use Rattle.query_text.specs.QueryReadings.{CanDown};
+ghost use Rattle.query_text.specs.Subs.{CanDown};
 ghost use Rattle.json_reply.specs.Replies.{IsReady};
 ghost use Rattle.cell_model.specs.Stops.{CountsStops};
 ghost use Rattle.query_run.specs.AskFaults.{is_stop};

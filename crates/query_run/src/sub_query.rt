@@ -1,7 +1,7 @@
 //! Working one sub query.
 ghost use Rattle.std.specs.Prelude.{◌≡◌, ◌≤◌, ◌<◌, ◌^◌, All, Contains, ℕ, ℤ, length, IfOk};
 ghost use Rattle.tsd_base.specs.declared.times.TheConstants.{LAST_TIME};
-ghost use Rattle.query_text.specs.QueryReadings.{CanDown};
+ghost use Rattle.query_text.specs.Subs.{CanDown};
 ghost use Rattle.json_reply.specs.Replies.{IsReady};
 ghost use Rattle.span_merge.specs.Spans.{Span};
 ghost use Rattle.cell_model.specs.Stops.{CountsStops};

@@ -1,4 +1,3 @@
 pub mod Parts
 pub mod FilterParts
 pub mod Intervals
-pub mod JsonLemmas

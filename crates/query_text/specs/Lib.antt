@@ -2,12 +2,5 @@ pub mod Aggregators
 pub mod Cuts
 pub mod Downs
 pub mod FilterTexts
-pub mod FormQueries
-pub mod JsonFilters
-pub mod JsonMembers
-pub mod JsonParts
-pub mod JsonQueries
-pub mod JsonSubs
 pub mod QueryFaultTexts
-pub mod QueryReadings
 pub mod Subs

@@ -1,5 +1,5 @@
 -- Sub queries in text.
-use Rattle.std.specs.Prelude.{◌≡◌, ℕ, ◌+◌, ◌-◌, Bool, ◌||◌, List, codes, length, take, drop, Option, None, Some, Result, Ok, Err, if◌then◌else◌}
+use Rattle.std.specs.Prelude.{◌≡◌, ℕ, ◌+◌, ◌-◌, Bool, ◌||◌, List, codes, length, take, drop, Option, None, Some, IfSome, Result, Ok, Err, if◌then◌else◌}
 use Rattle.std.specs.Option.{option_map}
 use Rattle.tsd_base.specs.Alphabet.{is_name}
 use Rattle.tsd_base.specs.Tags.{is_same}
@@ -7,7 +7,7 @@ use Rattle.tsd_base.specs.declared.kinds.Aggregator.{Aggregator}
 use Rattle.tsd_base.specs.declared.kinds.Down.{Down}
 use Rattle.query_text.specs.Aggregators.{aggregator_named}
 use Rattle.query_text.specs.Cuts.{place_of, before}
-use Rattle.query_text.specs.Downs.{down_of}
+use Rattle.query_text.specs.Downs.{IsInterval, down_of}
 use Rattle.query_text.specs.FilterTexts.{filters_of}
 use Rattle.query_text.specs.declared.queries.Filter.{Filter}
 use Rattle.query_text.specs.declared.queries.Sub.{Sub}
@@ -71,3 +71,7 @@ abbrev pub GivesSub : Result Sub QueryFault → Result Sub QueryFault → Type 0
 GivesSub (Ok sub) asked = asked ≡ Ok sub
 GivesSub (Err OutOfMemory) asked = Unit {0}
 GivesSub (Err fault) asked = asked ≡ Err fault
+
+-- an interval, where there is a downsample
+abbrev pub CanDown : Bool → Sub → Type 0
+CanDown ms sub = IfSome sub.down (λ down. IsInterval ms down.interval)

@@ -5,7 +5,7 @@ ghost use Rattle.query_text.specs.Aggregators.{aggregator_named};
 use tsd_base::kinds::Aggregator;
 
 /// The aggregator with this name, if there is one.
-pub(crate) fn aggregator_named(name: &[u8]) -> Option<Aggregator>
+pub fn aggregator_named(name: &[u8]) -> Option<Aggregator>
     ensures { result ≡ aggregator_named name.now }
 {
     let how = if name == b"sum".as_slice() {

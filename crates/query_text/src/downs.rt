@@ -5,8 +5,7 @@ ghost use Rattle.std.specs.List.{prefix_len};
 ghost use Rattle.query_text.specs.Downs.{down_of, fill_named, function_named, interval_by, interval_of, IsInterval};
 
 use crate::cuts::cut;
-use query_times::query_times::MOST_UNITS;
-use query_times::time_units::unit_millis;
+use time_units::units::{MOST_UNITS, unit_millis};
 use tsd_base::digits::read_digits;
 use tsd_base::kinds::{Down, Fill, Function};
 use tsd_base::times::LAST_TIME;

@@ -129,7 +129,7 @@ fn read_filter(alloc: Global, text: &[u8], group: bool) -> Result<Option<Filter>
 }
 
 /// The test that a text is, if it is one. It fails only for want of memory.
-pub(crate) fn read_test(alloc: Global, text: &[u8]) -> Result<Option<Test>, AllocError>
+pub fn read_test(alloc: Global, text: &[u8]) -> Result<Option<Test>, AllocError>
     ensures { IfOk result (λ test. test ≡ test_of text.now) }
 {
     if text == b"*".as_slice() {

@@ -1,4 +1,3 @@
 pub mod CivilDates
 pub mod CivilMoments
 pub mod QueryTimes
-pub mod TimeUnits

@@ -10,9 +10,9 @@ use Rattle.tsd_base.specs.Times.{time_of}
 use Rattle.tsd_base.specs.declared.times.BadTime.{BadTime}
 use Rattle.tsd_base.specs.declared.times.TheConstants.{LAST_TIME}
 use Rattle.query_times.specs.CivilDates.{date_of}
-use Rattle.query_times.specs.TimeUnits.{unit_millis}
+use Rattle.time_units.specs.Units.{unit_millis}
 use Rattle.query_times.specs.declared.query_times.BadTimes.{BadTimes}
-use Rattle.query_times.specs.declared.query_times.TheConstants.{MOST_UNITS}
+use Rattle.time_units.specs.declared.units.TheConstants.{MOST_UNITS}
 
 -- the number 0
 abbrev pub is_zero : List ℕ → Bool

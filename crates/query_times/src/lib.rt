@@ -3,4 +3,3 @@
 
 pub mod civil_dates;
 pub mod query_times;
-pub mod time_units;

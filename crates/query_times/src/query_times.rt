@@ -5,12 +5,9 @@ ghost use Rattle.std.specs.List.{prefix_len};
 ghost use Rattle.query_times.specs.QueryTimes.{fixed_time, is_zero, span_before, time_ago, time_before, time_named};
 
 use crate::civil_dates::read_date;
-use crate::time_units::unit_millis;
+use time_units::units::{MOST_UNITS, unit_millis};
 use tsd_base::digits::read_digits;
 use tsd_base::times::{LAST_TIME, read_time};
-
-/// The greatest number of units of a time before now, or of an interval.
-pub const MOST_UNITS: u64 = 4_294_967_295;
 
 /// A text that is no time of a query.
 #[derive(Clone, Copy, Debug, PartialEq, Eq)]

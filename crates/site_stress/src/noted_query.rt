@@ -1,7 +1,9 @@
 //! A caller that asks for what another noted.
-ghost use Rattle.std.specs.Prelude.{◌≡◌, IfOk};
+ghost use Rattle.std.specs.Prelude.{◌≡◌, ◌≤◌, All, IfOk};
 ghost use Rattle.step_count.specs.Tokens.{counter_of_note, view_of_note};
 ghost use Rattle.cell_store.specs.CallerViews.{IsNote};
+ghost use Rattle.query_text.specs.Subs.{CanDown};
+ghost use Rattle.tsd_base.specs.declared.times.TheConstants.{LAST_TIME};
 
 use crate::new_regions::new_regions;
 use anyhow::{Result, anyhow};
@@ -9,7 +11,8 @@ use cell_store::{NoGate, Site, SiteParts, StepNames};
 use json_reply::reply::reply_text;
 use point_put::{Config, put};
 use query_run::ask;
-use query_text::form_query::read_query_form;
+use query_text::queries::{Query, SubList};
+use query_text::subs::read_m;
 use std::alloc::Global;
 use std::marker::Brand;
 use std::sync::Wait;
@@ -84,12 +87,28 @@ fn ask_noted<J: StepNames, T: Wait>(
     let Ok(mut names) = Uids::over(alloc, pass, 1) else {
         return Err(anyhow!("out of memory"));
     };
-    let form = b"start=1356998400&end=1356998400&m=sum:m";
-    let Ok(query) = read_query_form(alloc, form, 0) else {
-        return Err(anyhow!("no query"));
-    };
+    let query = noted_query(alloc)?;
     match ask(alloc, &mut names, &query) {
         Ok(reply) => Ok(reply_text(alloc, &reply)?),
         Err(_) => Err(anyhow!("no reply")),
     }
+}
+
+/// The query for the point.
+fn noted_query(alloc: Global) -> Result<Query>
+    ensures order { IfOk result (λ query. query.start ≤ query.end) }
+    ensures most { IfOk result (λ query. query.end ≤ LAST_TIME) }
+    ensures downs { IfOk result (λ query. All (CanDown query.ms) query.subs) }
+{
+    let Ok(sub) = read_m(alloc, b"sum:m", false) else {
+        return Err(anyhow!("no query"));
+    };
+    let mut subs = Vec::new(alloc);
+    subs.push(sub)?;
+    Ok(Query {
+        start: 1_356_998_400_000,
+        end: 1_356_998_400_000,
+        ms: false,
+        subs: SubList::of(subs),
+    })
 }

@@ -2,7 +2,7 @@
 use Rattle.std.specs.Prelude.{◌≤◌, All}
 use Rattle.tsd_base.specs.declared.times.TheConstants.{LAST_TIME}
 use Rattle.query_text.specs.declared.queries.Query.{Query}
-use Rattle.query_text.specs.QueryReadings.{CanDown}
+use Rattle.query_text.specs.Subs.{CanDown}
 
 -- what asking wants of a query
 pub record IsAsked (q : Query) : Type 0 where

@@ -1,6 +1,6 @@
 //! Queries over a store.
 ghost use Rattle.std.specs.Prelude.{All, IfOk};
-ghost use Rattle.query_text.specs.QueryReadings.{CanDown};
+ghost use Rattle.query_text.specs.Subs.{CanDown};
 ghost use Rattle.store_calls.specs.CaseQueries.{IsAsked};
 
 use case_readers::point_cases::tell_bytes;

@@ -113,7 +113,10 @@ fn named(alloc: Global, rows: Scripted, cap: u32) -> Result<Names, Bad> {
     if cap < 1 || 1_000_000 < cap {
         return Err(Bad::Line("no number from 1 to 1000000"));
     }
-    Uids::over(alloc, rows, cap).ok().ok_or(Bad::OutOfMemory)
+    match Uids::over(alloc, rows, cap) {
+        Ok(names) => Ok(names),
+        Err(_) => Err(Bad::OutOfMemory),
+    }
 }
 
 /// `load LINE`: puts a point before the case, each of its names being given an id.

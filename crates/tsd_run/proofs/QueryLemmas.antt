@@ -7,7 +7,7 @@ use Rattle.query_text.specs.declared.queries.Query.{Query}
 use Rattle.query_text.specs.declared.queries.QueryFault.{QueryFault}
 use Rattle.query_text.specs.declared.queries.QueryFault.TheVariants.{BadM, UnknownAggregator, RateRefused, BadDownsample, BadFilter, BadTimes, BadQuery, TooManyQueries, OutOfMemory}
 use Rattle.query_text.specs.declared.queries.Sub.{Sub}
-use Rattle.query_text.specs.QueryReadings.{CanDown}
+use Rattle.query_text.specs.Subs.{CanDown}
 use Rattle.batch_job.specs.JobAnswers.{CanAsk}
 use Rattle.command_words.specs.CommandWords.{Batch}
 use Rattle.tsd_run.specs.BatchQueries.{GivesQuery, IsQueryOf}

@@ -1,8 +1,0 @@
-use Rattle.std.proofs.Common.{◌≡◌, drop, length}
-use Rattle.query_text.specs.JsonFilters.{part_filters}
-use Rattle.query_text.specs.JsonParts.{all_seen}
-use Rattle.query_text.specs.QueryReadings.{with_front}
-use Rattle.query_text.proofs.json_filters.part_filters.Given as goal
-
-abbrev pub invariant-loop-parts : goal.invariant-loop-parts
-invariant-loop-parts l = with_front l.filters.items (part_filters (length l.filters.items) (all_seen (drop l.parts-index l.listed))) ≡ with_front l.fn.grouping.items (part_filters (length l.fn.grouping.items) (all_seen l.listed))

@@ -1,0 +1,4 @@
+//! Units of time, and how many milliseconds each has.
+#![tactic(auto)]
+
+pub mod units;
