@@ -133,11 +133,18 @@ fn load(alloc: Global, names: &mut Names, rule: &UidRule, text: &str) -> Result<
     }
 }
 
+/// Puts the points of the lines.
+fn load_all(alloc: Global, names: &mut Names, rule: &UidRule, lines: &[Line]) -> Result<(), Bad> {
+    for line in lines {
+        if line.verb.as_str() == "load" {
+            load(alloc, names, rule, line.rest.as_str())?;
+        }
+    }
+    Ok(())
+}
+
 /// The callers, once the points of the lines were put.
 fn loaded(alloc: Global, lines: &[Line]) -> Result<Shared, Bad> {
-    let nothing = Script::of(Vec::new(alloc), Vec::new(alloc));
-    let rows = Scripted::of(alloc, based(alloc, lines)?, nothing);
-    let mut names = named(alloc, rows, 1)?;
     let patterns = Patterns::none();
     let kept = patterns.again(alloc)?;
     let test = Box::new(
@@ -147,12 +154,12 @@ fn loaded(alloc: Global, lines: &[Line]) -> Result<Shared, Bad> {
         { patterns.allow(kind, name) },
     )?;
     let rule = UidRule::keep(kept, test);
-    for line in lines {
-        if line.verb.as_str() == "load" {
-            load(alloc, &mut names, &rule, line.rest.as_str())?;
-        }
-    }
+    let nothing = Script::of(Vec::new(alloc), Vec::new(alloc));
+    let rows = Scripted::of(alloc, based(alloc, lines)?, nothing);
+    let mut names = named(alloc, rows, 1)?;
+    let done = load_all(alloc, &mut names, &rule, lines);
     let (shared, _) = names.part().end()?;
+    done?;
     Ok(shared)
 }
 
@@ -456,8 +463,7 @@ fn play(
     let first = entries(&shared);
     let order = Vec::from_slice(alloc, order)?;
     let script = Script::of(parts_of(alloc, lines)?, order);
-    let rows = Scripted::of(alloc, shared, script);
-    let mut names = named(alloc, rows, cap_of(lines)?)?;
+    let cap = cap_of(lines)?;
     let patterns = patterns_of(alloc, lines)?;
     let kept = patterns.again(alloc)?;
     let test = Box::new(
@@ -467,9 +473,12 @@ fn play(
         { patterns.allow(kind, name) },
     )?;
     let rule = UidRule::keep(kept, test);
-    make_calls(alloc, &mut names, &rule, lines, pieces, report)?;
-    let ended = end(alloc, names, first)?;
-    report_end(alloc, lines, &ended, report)
+    let rows = Scripted::of(alloc, shared, script);
+    let mut names = named(alloc, rows, cap)?;
+    let done = make_calls(alloc, &mut names, &rule, lines, pieces, report);
+    let ended = end(alloc, names, first);
+    done?;
+    report_end(alloc, lines, &ended?, report)
 }
 
 /// At how many places the inputs are cut: what the last line `pieces N` says, if there is one.
