@@ -27,7 +27,7 @@ use Rattle.query_text.specs.declared.queries.Sub.{Sub}
 use Rattle.row_scan.specs.RowReadings.{Chosen, Covers}
 use Rattle.batch_job.specs.NotedIds.{id_in, list_of}
 use Rattle.batch_job.specs.Storing.{IsStored, IsUnmerged, Puts, WasPut}
-use Rattle.lone_store.proofs.CallerLemmas.{nothing}
+use Rattle.cell_laws.proofs.CallerLemmas.{nothing}
 use Rattle.batch_job.proofs.Entering.{IsQuiet, PutNothing, put_nothing, unmerged_follow}
 use Rattle.batch_job.proofs.Follows.{Went, follow, went}
 use Rattle.batch_job.proofs.Lower.{deeds_each, entry_at-more, here, in_filter, in_map, map_in, there, to_filter}

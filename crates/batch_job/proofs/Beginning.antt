@@ -19,7 +19,7 @@ use Rattle.batch_job.specs.PendingIds.{id_in, no_names}
 use Rattle.batch_job.specs.NotedIds.{list_of}
 use Rattle.batch_job.specs.Storing.{IsNaming, IsNumbered, IsUnmerged, WasPut}
 use Rattle.batch_job.proofs.Entering.{put_before, unmerged_then}
-use Rattle.lone_store.proofs.CallerLemmas.{no_cell}
+use Rattle.cell_laws.proofs.CallerLemmas.{no_cell}
 use Rattle.batch_job.proofs.Lower.{here, nat_eq_is, not_Some}
 
 abbrev begun : History

@@ -52,7 +52,7 @@ use Rattle.batch_job.specs.PendingIds.{Names, id_in}
 use Rattle.batch_job.specs.JobAnswers.{names_after}
 use Rattle.batch_job.specs.Storing.{IsStored, Puts, WasPut}
 use Rattle.batch_job.proofs.Asking.{after_old, base_is, base_of_first, before_now, ids_are, last_of_wanted, last_point_put, last_put, put_is_last, unmerged_after, wanted_points, wanted_reading}
-use Rattle.lone_store.proofs.CallerLemmas.{nothing}
+use Rattle.cell_laws.proofs.CallerLemmas.{nothing}
 use Rattle.batch_job.proofs.FoundCells.{cell_of_dot, cells_row, cells_stand, differ, found_table, not_true, same_store}
 use Rattle.batch_job.proofs.LastPoints.{last_hold, same_bytes}
 use Rattle.batch_job.proofs.Lower.{PutReads, StoodRow, cell_in, dot_offset, first_lawful, had_cell, here, hour_is, in_filter, in_map, items_once, keys_compare, map_in, dot_value, metric_id, pair_ids, put_dot, split, to_filter, not_in, one_dots, one_key, one_row, row_stood, same_Some, tags_once, there, value_dot}

@@ -1,10 +1,9 @@
 //! Doors over the system, with both ends of a connection in this process, and doors in memory.
-use crate::fresh_links::link_of;
 use std::alloc::AllocError;
 use std::io::{self, Read, Write};
 use std::net::{IpAddr, Ipv4Addr, Shutdown, SocketAddr, TcpStream};
 use tsd_doors::doors::{Bell, Doors};
-use tsd_doors::mem_doors::MemDoors;
+use tsd_doors::mem_doors::{MemDoors, new_link};
 use tsd_doors::tcp_doors::TcpDoors;
 use tsd_io::give_all::give_all;
 use tsd_io::ports::{Failed, Sink, Source};
@@ -44,7 +43,7 @@ fn system_doors_serve_both_ends(rt: HostRuntime) -> io::Result<()> {
 #[test]
 fn memory_doors_give_each_connection_once(rt: HostRuntime) -> Result<(), AllocError> {
     let mut links = Vec::new(rt.alloc());
-    links.push(link_of(rt.alloc(), b"one", 4)?)?;
+    links.push(new_link(rt.alloc(), b"one", 4)?)?;
     let mut failing = Vec::new(rt.alloc());
     failing.push(2)?;
     let mut doors = MemDoors::make(rt.alloc(), links, failing)?;

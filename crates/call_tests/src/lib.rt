@@ -1,4 +1,4 @@
-//! Tests of calls that no case of `scenarios` makes, in one crate: so a crate isn't proved once more for its tests.
+//! Tests of calls below the store that no case of `scenarios` makes, in one crate: so a crate isn't proved once more for its tests.
 #![tactic(auto)]
 
 #[cfg(test)]
@@ -9,12 +9,6 @@ mod device_tests;
 mod door_tests;
 #[cfg(test)]
 mod dots_tests;
-#[cfg(test)]
-mod fleet_tests;
-#[cfg(test)]
-mod fresh_links;
-#[cfg(test)]
-mod halt_tests;
 #[cfg(test)]
 mod link_tests;
 #[cfg(test)]

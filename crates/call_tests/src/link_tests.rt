@@ -3,14 +3,13 @@ ghost use Rattle.std.specs.Prelude.{◌≡◌, ◌≤◌, ⊤, All, length, IfOk
 ghost use Rattle.std.specs.List.{sum_by};
 ghost use Rattle.tsd_doors.specs.MemLinks.{IsFresh};
 
-use crate::fresh_links::link_of;
 use link_workers::accept_loop::AcceptEnd;
 use link_workers::link_ends::{LinkEnds, give_back};
 use link_workers::link_service::serve_links;
 use link_workers::link_work::LinkWork;
 use std::alloc::{AllocError, Global};
 use tsd_doors::doors::Doors;
-use tsd_doors::mem_doors::MemDoors;
+use tsd_doors::mem_doors::{MemDoors, new_link};
 use tsd_doors::mem_ends::{MemInlet, MemOutlet};
 use tsd_io::halt::MemHalt;
 use tsd_io::memory::{MemSink, MemSource};
@@ -40,7 +39,7 @@ fn add_link(
     requires { All IsFresh links.old.items }
     ensures { IfOk result (λ _. All IsFresh links.new.items) }
 {
-    let link = link_of(alloc, bytes, 4)?;
+    let link = new_link(alloc, bytes, 4)?;
     links.push(link)?;
     Ok(())
 }

@@ -17,6 +17,9 @@ use Rattle.cell_laws.proofs.Placing as placing
 use Rattle.cell_laws.proofs.SeenIds.{given_is_free, given_is_id, seen_id_stands, seen_name_stands}
 use Rattle.cell_laws.proofs.Sounding as sounding
 use Rattle.cell_laws.proofs.Written as written
+-- ---- the store without a cell
+-- no cell is in it, and it is sound
+pub use Rattle.cell_laws.proofs.EmptyStore.{no_cell, nothing, empty_base}
 -- ---- histories and their entries
 -- a history that begins another
 pub use Rattle.cell_laws.proofs.Beginnings.{Begins}

@@ -32,7 +32,8 @@ use Rattle.cell_model.specs.Lawful.{IsLawful, PointBasis, HadCell}
 use Rattle.cell_laws.specs.Examples.{did, name_a, series_row, point, at_start, at_minute, at_quarter, at_second, three_qual, three_value, four_qual, four_value, compacted, OneCellIsLeft}
 use Rattle.list_lemmas.proofs.ListMembers.{here, there, split, not_in}
 use Rattle.cell_laws.proofs.Sheets.{IsFresh, value_in, sheet}
-use Rattle.cell_laws.proofs.Worked.{is_name, empty_base, more, value_after, cells_after}
+use Rattle.cell_laws.proofs.EmptyStore.{empty_base}
+use Rattle.cell_laws.proofs.Worked.{is_name, more, value_after, cells_after}
 
 name_m : IsName (109 ∷ [])
 name_m = record { some = omega arith; most = omega arith; alphabet = refl }

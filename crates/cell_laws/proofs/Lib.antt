@@ -15,6 +15,7 @@ mod Sounding
 mod Wasting
 mod Invisible
 mod Sheets
+mod EmptyStore
 mod Worked
 mod Compacted
 mod SeenIds

@@ -22,27 +22,9 @@ use Rattle.cell_model.specs.History.{History, len, store_after}
 use Rattle.cell_model.specs.History.History.{Base, Then}
 use Rattle.cell_model.specs.IdRows.{id_number, id_bytes, name_row, id_row}
 use Rattle.cell_model.specs.Lawful.{IsLawful, HasOpened, MayStep}
-use Rattle.cell_model.specs.Sound.{IsBase}
 use Rattle.cell_laws.specs.Examples.{did, told, name_a, raced, RaceIsLost, series_row, at_start, at_second, VersionsEnd, RangesEnd, two_names, named, NextRowEnds}
+use Rattle.cell_laws.proofs.EmptyStore.{empty_base}
 use Rattle.cell_laws.proofs.Sheets.{IsFresh, entries-empty, content_in, value_in, counter_in, cells_in, next_in, count_in, after_in, reply_in, sheet, sheet_same, value_same, counter_same, count_same, after_same, reply_same}
-
-no_content : (row : Row) (qual : List ℕ) (c : Content) → content_at empty row qual ≢ Some c
-no_content row qual c is = let none = get-empty {X = Content} place_cmp (place_of row qual) in cc
-
-no_value : (row : Row) (qual value : List ℕ) → value_at empty row qual ≢ Some value
-no_value row qual value is = let none = ap (option_map (λ (c : Content). c.value)) (get-empty {X = Content} place_cmp (place_of row qual)) in cc
-
-pub empty_base : IsBase empty
-empty_base = record {
-  sound = record {
-    counters = λ q v is. absurd (no_value _ q v is);
-    forward = λ n q v ne is. absurd (no_value _ q v is);
-    reverse = λ b q v is. absurd (no_value _ q v is);
-    rows = λ r q v p is. absurd (no_value r q v is);
-    cells = λ r q v p is. absurd (no_value r q v is);
-  };
-  versions = λ r q c is. absurd (no_content r q c is);
-}
 
 pub is_name : IsName name_a
 is_name = record { some = omega arith; most = omega arith; alphabet = refl }

@@ -5,7 +5,7 @@ ghost use Rattle.tsd_doors.specs.MemLinks.{IsFresh};
 use case_blocks::devices::tell_output;
 use case_readers::text::{Bad, bytes, number};
 use std::alloc::{AllocError, Global};
-use tsd_doors::mem_doors::MemDoors;
+use tsd_doors::mem_doors::{MemDoors, new_link};
 use tsd_io::memory::{MemSink, MemSource};
 
 /// How many bytes a connection takes.
@@ -48,19 +48,6 @@ impl MemLinks {
     }
 }
 
-/// A connection with these bytes.
-fn link_of(alloc: Global, text: &[u8]) -> Result<(MemSource, MemSink), AllocError>
-    ensures { IfOk result IsFresh }
-{
-    let source = MemSource::make(
-        Vec::from_slice(alloc, text)?,
-        Vec::new(alloc),
-        Vec::new(alloc),
-    );
-    let sink = MemSink::make(alloc, ROOM, Vec::new(alloc))?;
-    Ok((source, sink))
-}
-
 /// Adds a connection with these bytes.
 fn add_link(
     alloc: Global,
@@ -70,7 +57,7 @@ fn add_link(
     requires { All IsFresh links.old.items }
     ensures { IfOk result (λ _. All IsFresh links.new.items) }
 {
-    let link = link_of(alloc, text)?;
+    let link = new_link(alloc, text, ROOM)?;
     links.push(link)?;
     Ok(())
 }

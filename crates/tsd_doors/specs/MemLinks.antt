@@ -24,6 +24,13 @@ pub record IsFresh (link : LinkInMemory) : Type 0 where
   pub none_held : link.1.held ≡ []
   pub no_write : link.1.faults ≡ 0
 
+-- a connection with these bytes that takes so many, whose calls don't fail
+abbrev pub fresh_link : List ℕ → ℕ → LinkInMemory
+fresh_link bytes room = (
+  record { taken = []; left = bytes; cuts = []; failing = []; calls = 0; faults = 0; number = 0 },
+  record { held = []; room = room; failing = []; calls = 0; faults = 0; number = 0 },
+)
+
 -- a connection with this number
 abbrev pub numbered : LinkInMemory → ℕ → LinkInMemory
 numbered link number = (record link.0 { number = number }, record link.1 { number = number })

@@ -3,7 +3,7 @@ ghost use Rattle.std.specs.Prelude.{◌≡◌, ◌≢◌, ◌≤◌, ◌+◌, �
 ghost use Rattle.std.specs.Vec.Iter.{into_iter_items};
 ghost use Rattle.tsd_io.specs.Causes.{HasCause};
 ghost use Rattle.tsd_io.specs.Memory.{one_more, faults_after};
-ghost use Rattle.tsd_doors.specs.MemLinks.{DoorsInMemory, IsFresh, GivesLink, shut_link, doors_counts, doors_waiting, doors_back};
+ghost use Rattle.tsd_doors.specs.MemLinks.{DoorsInMemory, IsFresh, GivesLink, fresh_link, shut_link, doors_counts, doors_waiting, doors_back};
 ghost use Rattle.tsd_doors.specs.Links.{accepted, AreFresh, GivesFirst, HasNoneLeft, Ends, counts_after_accept, with_port, one_returned};
 
 use crate::doors::{Bell, Doors};
@@ -20,6 +20,22 @@ pub struct MemBell;
 
 impl Bell for MemBell {
     fn ring(&mut self) {}
+}
+
+/// A connection with these bytes, which takes so many and whose calls don't fail. Nobody has used it.
+///
+/// It fails only for want of memory.
+pub fn new_link(
+    alloc: Global,
+    bytes: &[u8],
+    room: usize,
+) -> Result<(MemSource, MemSink), AllocError>
+    ensures link { IfOk result (λ link. link ≡ fresh_link bytes.now room) }
+    ensures fresh { IfOk result IsFresh }
+{
+    let source = MemSource::make(bytes.to_vec(alloc)?, Vec::new(alloc), Vec::new(alloc));
+    let sink = MemSink::make(alloc, room, Vec::new(alloc))?;
+    Ok((source, sink))
 }
 
 /// Doors in memory.

@@ -29,7 +29,7 @@ use Rattle.cell_region.specs.DividedStore.{DividedStore}
 use Rattle.step_count.specs.declared.view.Named.{Named}
 use Rattle.step_count.specs.CounterRule.{store_in}
 use Rattle.cell_store.specs.SiteEnds.{EndsAt}
-use Rattle.lone_store.proofs.CallerLemmas.{empty_base, no_cell}
+use Rattle.cell_laws.proofs.CallerLemmas.{empty_base, no_cell}
 use Rattle.point_put.specs.Admissions.{Admission}
 use Rattle.tsd_daemon.specs.declared.served.Served.{Served}
 use Rattle.tsd_fleet.specs.declared.fleet_end.FleetEnd.{FleetEnd}

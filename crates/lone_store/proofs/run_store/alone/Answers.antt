@@ -3,7 +3,7 @@ use Rattle.std.specs.FinMap.{empty}
 use Rattle.cell_model.specs.Sound.{IsBase}
 use Rattle.cell_model.specs.Store.{Store}
 use Rattle.cell_solo.specs.Turns.{opened, whole_seen}
-use Rattle.lone_store.proofs.EmptyStores.{empty_base}
+use Rattle.cell_laws.proofs.CallerLemmas.{empty_base}
 use Rattle.lone_store.proofs.run_store.alone.Goals as goal
 
 pub make-requires-clause-base : goal.make-requires-clause-base

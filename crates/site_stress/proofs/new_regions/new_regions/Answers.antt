@@ -1,7 +1,7 @@
 use Rattle.std.proofs.Common.{◌≡◌, sym, subst, rules}
 use Rattle.std.specs.FinMap.{empty}
 use Rattle.cell_model.specs.Sound.{IsBase}
-use Rattle.lone_store.proofs.CallerLemmas.{empty_base}
+use Rattle.cell_laws.proofs.CallerLemmas.{empty_base}
 use Rattle.site_stress.proofs.new_regions.new_regions.Goals as goal
 
 pub returns : goal.returns

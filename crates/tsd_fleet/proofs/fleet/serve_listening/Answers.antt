@@ -1,7 +1,7 @@
 use Rattle.std.proofs.Common.{rules, ◌≡◌, sym, subst}
 use Rattle.std.specs.FinMap.{empty}
 use Rattle.cell_model.specs.Sound.{IsBase}
-use Rattle.lone_store.proofs.CallerLemmas.{empty_base}
+use Rattle.cell_laws.proofs.CallerLemmas.{empty_base}
 use Rattle.tsd_fleet.proofs.FleetLines.{reason_from}
 use Rattle.tsd_fleet.proofs.fleet.serve_listening.Goals as goal
 

@@ -1,8 +1,8 @@
 use Rattle.std.proofs.Common.{◌≡◌, sym, subst, rules}
 use Rattle.std.specs.FinMap.{empty}
 use Rattle.cell_model.specs.Sound.{IsBase}
-use Rattle.lone_store.proofs.CallerLemmas.{empty_base}
-use Rattle.call_tests.proofs.halt_tests.names.Goals as goal
+use Rattle.cell_laws.proofs.CallerLemmas.{empty_base}
+use Rattle.store_tests.proofs.halt_tests.names.Goals as goal
 
 pub make-requires-clause-base : goal.make-requires-clause-base
 make-requires-clause-base c =

@@ -2,7 +2,6 @@
 ghost use Rattle.std.specs.Prelude.{◌≡◌, ◌≤◌};
 ghost use Rattle.tsd_hooks.specs.AllowedNames.{allowed};
 
-use crate::fresh_links::link_of;
 use cell_store::{Gate, NoGate};
 use point_put::Config;
 use std::alloc::{AllocError, Global};
@@ -13,7 +12,7 @@ use std::thread::Threads;
 use tsd_base::kinds::Kind;
 use tsd_base::names::Name;
 use tsd_daemon::Served;
-use tsd_doors::mem_doors::MemDoors;
+use tsd_doors::mem_doors::{MemDoors, new_link};
 use tsd_fleet::{Fleet, FleetDone, FleetEnd, serve};
 use tsd_hooks::{Patterns, UidRule};
 use tsd_io::clock::MemClock;
@@ -22,8 +21,8 @@ use tsd_io::memory::MemSink;
 
 /// Doors with two connections.
 fn two_links(alloc: Global, first: &[u8], second: &[u8]) -> Result<MemDoors, AllocError> {
-    let first = link_of(alloc, first, 1_000)?;
-    let second = link_of(alloc, second, 1_000)?;
+    let first = new_link(alloc, first, 1_000)?;
+    let second = new_link(alloc, second, 1_000)?;
     let mut links = Vec::new(alloc);
     links.push(first)?;
     links.push(second)?;
@@ -119,8 +118,7 @@ fn rows_are_compacted_before_the_end(rt: HostRuntime) -> Result<(), AllocError> 
     let mut doors = two_links(rt.alloc(), points, b"")?;
     let config = Config {
         auto_metric: true,
-        auto_tag_key: true,
-        auto_tag_value: true,
+        ..Config::usual()
     };
     let fleet = Fleet {
         port: 0,
@@ -211,8 +209,7 @@ fn connections_are_served_beside_each_other(rt: HostRuntime) -> Result<(), Alloc
     )?;
     let config = Config {
         auto_metric: true,
-        auto_tag_key: true,
-        auto_tag_value: true,
+        ..Config::usual()
     };
     let fleet = Fleet {
         port: 0,
