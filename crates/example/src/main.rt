@@ -28,13 +28,6 @@ use tsd_hooks::{Patterns, UidRule};
 use tsd_io::halt::{Halt, MemHalt};
 use uid_table::Uids;
 
-/// A name that has no id is given one, of each kind.
-const CONFIG: Config = Config {
-    auto_metric: true,
-    auto_tag_key: true,
-    auto_tag_value: true,
-};
-
 fn main(rt: HostRuntime) -> Result<()> {
     let alloc = rt.alloc();
     let words: Vec<String> = env::args(&rt)?.skip(1).collect(alloc)?;
@@ -147,9 +140,13 @@ fn put_line<R: Rows + Drop>(
     rule: &UidRule,
     line: &[u8],
 ) -> Result<()> {
+    let config = Config {
+        auto_metric: true,
+        ..Config::usual()
+    };
     let mut text = Vec::new(alloc);
     match read_point(alloc, line) {
-        Ok(point) => match put(alloc, store, rule, &CONFIG, &point) {
+        Ok(point) => match put(alloc, store, rule, &config, &point) {
             Ok(_) => return Ok(()),
             Err(fault) => fault.write_text(&mut text)?,
         },

@@ -7,6 +7,7 @@ ghost use Rattle.tsd_base.specs.declared.times.TheConstants.{LAST_TIME};
 
 use crate::new_regions::new_regions;
 use anyhow::{Result, anyhow};
+use cell_model::Rows;
 use cell_store::{NoGate, Site, SiteParts, StepNames};
 use json_reply::reply::reply_text;
 use point_put::{Config, put};
@@ -57,19 +58,25 @@ fn put_noted<J: StepNames, T: Wait>(
     let Ok(mut names) = Uids::over(alloc, pass, 1) else {
         return Err(anyhow!("out of memory"));
     };
+    let done = put_point(alloc, &mut names, rule);
+    let mut pass = names.part();
+    done?;
+    Ok(pass.note())
+}
+
+/// Puts the point.
+fn put_point<R: Rows + Drop>(alloc: Global, names: &mut Uids<R>, rule: &UidRule) -> Result<()> {
     let Ok(point) = read_point(alloc, b"m 1356998400 5 h=a") else {
         return Err(anyhow!("no point"));
     };
     let config = Config {
         auto_metric: true,
-        auto_tag_key: true,
-        auto_tag_value: true,
+        ..Config::usual()
     };
-    if put(alloc, &mut names, rule, &config, &point).is_err() {
-        return Err(anyhow!("not stored"));
+    match put(alloc, names, rule, &config, &point) {
+        Ok(_) => Ok(()),
+        Err(_) => Err(anyhow!("not stored")),
     }
-    let mut pass = names.part();
-    Ok(pass.note())
 }
 
 /// A new caller sees what a note tells, and asks.
