@@ -9,7 +9,8 @@ use qual_codec::{
     CellFault, CellRef, Dot, Item, MergeFault, Merged, merge_cells, pack_item, pack_value,
     read_cell,
 };
-use row_key::{HOUR, KeyFault, LAST_OFFSET, RowKey, read_key, write_key};
+use row_hours::{HOUR, LAST_OFFSET};
+use row_key::{KeyFault, RowKey, read_key, write_key};
 use std::alloc::Global;
 
 /// Adds bytes in hexadecimal.

@@ -1,7 +1,7 @@
 //! What the texts of points are read as.
 
 use crate::text::{Bad, bytes, first_word, kind, number};
-use row_key::base_of;
+use row_hours::base_of;
 use std::alloc::Global;
 use tsd_base::kinds::Kind;
 use tsd_base::names::Name;

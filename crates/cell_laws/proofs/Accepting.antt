@@ -10,7 +10,7 @@ use Rattle.tsd_base.specs.Alphabet.{IsName}
 use Rattle.tsd_base.specs.TagList.{Pair}
 use Rattle.tsd_base.specs.Points.{DataPoint}
 use Rattle.row_key.specs.declared.tables.Table.TheVariants.{Points}
-use Rattle.row_key.specs.declared.hours.TheConstants.{HOUR_MILLIS}
+use Rattle.row_hours.specs.declared.hours.TheConstants.{HOUR_MILLIS}
 use Rattle.row_key.specs.declared.keys.RowKey.{RowKey}
 use Rattle.list_lemmas.specs.BytesOrder.{bytes_cmp}
 use Rattle.qual_codec.specs.declared.cells.Item.{Item}

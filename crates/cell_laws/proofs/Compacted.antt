@@ -11,7 +11,7 @@ use Rattle.row_key.specs.Key.{IsId, IsKey}
 use Rattle.std.specs.declared.cmp.Ordering.TheVariants.{Less}
 use Rattle.list_lemmas.specs.BytesOrder.{bytes_cmp}
 use Rattle.std.specs.List.{flat_map}
-use Rattle.row_key.specs.declared.hours.TheConstants.{HOUR_MILLIS}
+use Rattle.row_hours.specs.declared.hours.TheConstants.{HOUR_MILLIS}
 use Rattle.qual_codec.specs.declared.cells.Item.{Item}
 use Rattle.qual_codec.specs.declared.cells.Dot.{Dot}
 use Rattle.qual_codec.specs.Items.{IsLength, IsItem, IsItems, item_bytes}

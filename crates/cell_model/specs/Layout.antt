@@ -7,9 +7,9 @@ use Rattle.tsd_base.specs.Alphabet.{IsName}
 use Rattle.tsd_base.specs.TagList.{Pair, IsTags}
 use Rattle.tsd_base.specs.Moments.{IsTime}
 use Rattle.tsd_base.specs.Points.{DataPoint}
-use Rattle.row_key.specs.declared.hours.TheConstants.{HOUR_MILLIS}
+use Rattle.row_hours.specs.declared.hours.TheConstants.{HOUR_MILLIS}
 use Rattle.row_key.specs.declared.keys.RowKey.{RowKey}
-pub use Rattle.row_key.specs.Hours.{base_time}
+pub use Rattle.row_hours.specs.Hours.{base_time}
 use Rattle.row_key.specs.Key.{IsKey, key_bytes}
 use Rattle.qual_codec.specs.CellDots.{IsDots}
 use Rattle.qual_codec.specs.Spelling.{IsShortest, dot_of}

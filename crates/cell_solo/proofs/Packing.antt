@@ -11,7 +11,7 @@ use Rattle.std.proofs.lemmas.List.{append-nil, take-append-le, drop-append-le, l
 use Rattle.std.proofs.lemmas.List.Elements.{All-push}
 use Rattle.std.proofs.lemmas.Option.{slice_get_within}
 use Rattle.std.proofs.lemmas.List.Sums.{sum_by-cons, sum_by_push}
-use Rattle.row_key.specs.declared.hours.TheConstants.{HOUR_MILLIS}
+use Rattle.row_hours.specs.declared.hours.TheConstants.{HOUR_MILLIS}
 use Rattle.tsd_base.specs.Points.{DataPoint}
 use Rattle.qual_codec.specs.Items.{IsLength, item_bytes}
 use Rattle.qual_codec.specs.Items.IsLength.{one, two, four, eight}

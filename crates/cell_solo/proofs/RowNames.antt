@@ -3,7 +3,7 @@ use Rattle.std.proofs.Common.{◌≡◌, ℕ, zero, suc, ◌/◌, List, [], ◌�
 use Rattle.std.specs.Prelude.{Bool, nat_eq, Some, slice_get}
 use Rattle.tsd_base.specs.declared.kinds.Kind.TheVariants.{Metric}
 use Rattle.tsd_base.specs.Points.{DataPoint}
-use Rattle.row_key.specs.declared.hours.TheConstants.{HOUR_MILLIS}
+use Rattle.row_hours.specs.declared.hours.TheConstants.{HOUR_MILLIS}
 use Rattle.row_key.specs.declared.keys.RowKey.{RowKey}
 use Rattle.row_key.proofs.CallerLemmas.{one_key}
 use Rattle.list_lemmas.proofs.BoolTests.{not_Some, same_Some}

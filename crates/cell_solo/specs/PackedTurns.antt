@@ -1,7 +1,7 @@
 -- Steps, packed: heads that tell what each step is and how long its parts are, one block of the parts' bytes, what drops named, and the places of points.
 use Rattle.std.specs.Prelude.{◌≡◌, ℕ, ◌+◌, ◌*◌, ◌≤◌, List, [], ◌∷◌, length, take, drop, sum_by, ℤ, Bool, Option, Some, None, slice_get, All}
 use Rattle.std.specs.Int.{from_be_bytes, cast_signed}
-use Rattle.row_key.specs.declared.hours.TheConstants.{HOUR_MILLIS}
+use Rattle.row_hours.specs.declared.hours.TheConstants.{HOUR_MILLIS}
 use Rattle.row_key.specs.declared.tables.Table.{Table}
 use Rattle.qual_codec.specs.Items.{item_bytes}
 use Rattle.qual_codec.specs.CellDots.{width_of}

@@ -6,7 +6,8 @@ ghost use Rattle.cell_solo.specs.TurnPlaces.{HasAlso, HasRow, IsOnlyOfRow, IsWit
 use crate::turn_bytes::{room_of, write, write_names};
 use cell_model::row::Row;
 use guess_table::{Guesses, Round, hash_bytes};
-use row_key::{HOUR_MILLIS, Table};
+use row_hours::HOUR_MILLIS;
+use row_key::Table;
 use short_bytes::same_bytes::is_same;
 use std::alloc::{AllocError, Global};
 use std::marker::Model;

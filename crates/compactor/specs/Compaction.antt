@@ -1,6 +1,6 @@
 -- What a compaction makes of a row, by its answer.
 use Rattle.std.specs.Prelude.{◌≡◌, ℕ, ℤ, ◌<◌, ◌≤◌, not, List, [], ◌∷◌, length, map, reverse, filter, Result, Ok, Err}
-use Rattle.row_key.specs.declared.hours.TheConstants.{LAST_OFFSET}
+use Rattle.row_hours.specs.declared.hours.TheConstants.{LAST_OFFSET}
 use Rattle.qual_codec.specs.declared.cells.Cell.{Cell}
 use Rattle.qual_codec.specs.declared.cells.MergeFault.TheVariants as merge
 use Rattle.qual_codec.specs.Merge.{IsMerged, TellsConflict}

@@ -11,7 +11,7 @@ use crate::block::Block;
 use crate::plain_cells::PlainCells;
 use crate::small_value::Narrow;
 use crate::strip::Strip;
-use row_key::HOUR;
+use row_hours::HOUR;
 use std::alloc::{AllocError, Global};
 use std::marker::Model;
 

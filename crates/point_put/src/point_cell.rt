@@ -7,7 +7,8 @@ ghost use Rattle.cell_model.specs.Readings.{point_row};
 
 use cell_model::row::Row;
 use qual_codec::{Bytes, Item, laws, pack_item, pack_value};
-use row_key::{HOUR_MILLIS, RowKey, Table, write_key};
+use row_hours::HOUR_MILLIS;
+use row_key::{RowKey, Table, write_key};
 use std::alloc::{AllocError, Global};
 use tsd_base::points::Point;
 

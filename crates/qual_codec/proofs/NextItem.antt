@@ -2,7 +2,7 @@
 use Rattle.std.proofs.Common.{◌≡◌, inr, ℕ, ◌+◌, ◌-◌, ◌*◌, ◌/◌, ◌%◌, ◌^◌, ◌≤◌, ◌<◌, Bool, true, false, List, [], ◌∷◌, ◌++◌, length, get_or, drop, Option, None, Some, Ok, Err, refl, sym, ap, subst, ◌∙◌, arith, rules}
 use Rattle.std.specs.Prelude.{nat_eq, nat_lt, nat_le, not, ◌||◌, if◌then◌else◌}
 use Rattle.list_lemmas.proofs.BoolTests.{nat_eq_is}
-use Rattle.row_key.specs.declared.hours.TheConstants.{LAST_OFFSET}
+use Rattle.row_hours.specs.declared.hours.TheConstants.{LAST_OFFSET}
 use Rattle.qual_codec.specs.declared.cells.Item.{Item}
 use Rattle.qual_codec.specs.declared.cells.CellFault.{CellFault}
 use Rattle.qual_codec.specs.Items.{IsLength, Fields, AreFields, field_bytes, fields_of}

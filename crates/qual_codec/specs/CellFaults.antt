@@ -1,7 +1,7 @@
 -- The first thing that is wrong with a cell which doesn't read.
 use Rattle.std.specs.Prelude.{◌≡◌, ℕ, ◌+◌, ◌%◌, ◌<◌, ◌≤◌, Bool, not, ◌||◌, List, ◌∷◌, ◌++◌, length, drop, Option, None, Some, Result, Ok, Err, All, slice_index, nat_lt, nat_eq, nat_le, if◌then◌else◌}
 use Rattle.std.specs.List.{flat_map, list_any, sum_by}
-use Rattle.row_key.specs.declared.hours.TheConstants.{LAST_OFFSET}
+use Rattle.row_hours.specs.declared.hours.TheConstants.{LAST_OFFSET}
 use Rattle.qual_codec.specs.declared.cells.Item.{Item}
 use Rattle.qual_codec.specs.declared.cells.Dot.{Dot}
 use Rattle.qual_codec.specs.declared.cells.CellFault.{CellFault}

@@ -1,7 +1,7 @@
 -- What merging the cells of a row keeps, and when two of them conflict.
 use Rattle.std.specs.Prelude.{◌≡◌, ℕ, ℤ, ◌<◌, ◌≤◌, Bool, not, ◌&&◌, List, [], ◌∷◌, ◌++◌, map, filter, find, AllPairs, Contains, Option, None, Some, option_map, nat_eq, nat_le}
 use Rattle.std.specs.Ordering.{int_eq}
-use Rattle.row_key.specs.declared.hours.TheConstants.{LAST_OFFSET}
+use Rattle.row_hours.specs.declared.hours.TheConstants.{LAST_OFFSET}
 use Rattle.qual_codec.specs.declared.cells.Cell.{Cell}
 use Rattle.qual_codec.specs.declared.cells.Dot.{Dot}
 use Rattle.qual_codec.specs.declared.cells.MergeFault.{MergeFault}

@@ -1,6 +1,6 @@
 -- The one spelling of a data point.
 use Rattle.std.specs.Prelude.{◌≡◌, ℕ, ℤ, ◌%◌, ◌≤◌, Bool, false, List, [], ◌∷◌, length, FitsSigned}
-use Rattle.row_key.specs.declared.hours.TheConstants.{LAST_OFFSET}
+use Rattle.row_hours.specs.declared.hours.TheConstants.{LAST_OFFSET}
 use Rattle.qual_codec.specs.declared.cells.Dot.{Dot}
 use Rattle.qual_codec.specs.Items.{IsLength, item_bytes}
 use Rattle.qual_codec.specs.CellDots.{IsDots, width_of, number_bytes}

@@ -8,7 +8,7 @@ ghost use Rattle.qual_codec.specs.MergeSteps.{AddsDots};
 ghost use Rattle.qual_codec.specs.CellSteps.{AddsPoints, IsNextFault, IsNextItem, bytes_in, fine_unless, item_unless};
 
 use crate::cells::{CellFault, Dot, Item};
-use row_key::LAST_OFFSET;
+use row_hours::LAST_OFFSET;
 use std::alloc::Global;
 
 fn is_length(len: u8) -> bool

@@ -12,7 +12,7 @@ ghost use Rattle.qual_codec.specs.MergeSteps.{AddsDots, AddsWithin, AreOfCell, A
 use crate::cell_reader::{read_onto, short_dot, tail_byte};
 use crate::cells::{CellFault, CellRef, Dot, Item, MergeFault, Merged};
 use crate::pack::pack_item;
-use row_key::LAST_OFFSET;
+use row_hours::LAST_OFFSET;
 use short_bytes::short::Bytes;
 use std::alloc::{AllocError, Global};
 

@@ -11,7 +11,7 @@ use Rattle.std.proofs.lemmas.Bool.Decides.{nat_tests}
 use Rattle.std.proofs.lemmas.List.{get_or_default, take-append-drop, drop_more, take_more, length-take-le}
 use Rattle.std.proofs.lemmas.List.Elements.{All-contains, All-push, All-take, All-weaker, Contains-append_right, Contains-append_cases}
 use Rattle.row_key.specs.declared.keys.RowKey.{RowKey}
-use Rattle.row_key.specs.declared.hours.TheConstants.{HOUR}
+use Rattle.row_hours.specs.declared.hours.TheConstants.{HOUR}
 use Rattle.row_key.specs.declared.ids.TheConstants.{MOST_IDS}
 use Rattle.row_key.specs.Key.{IsId, IsKey}
 use Rattle.row_key.specs.KeyOrder.{key_cmp, pair_cmp}

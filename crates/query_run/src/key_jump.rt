@@ -6,7 +6,8 @@ ghost use Rattle.query_run.specs.KeyJumps.{IsBehind, IsNextValue, JumpsOver};
 
 use crate::id_filter::{IdFilter, IdTest, passes_filter};
 use arrayvec::ArrayVec;
-use row_key::{HOUR, MOST_IDS, RowKey};
+use row_hours::HOUR;
+use row_key::{MOST_IDS, RowKey};
 
 /// The lesser of two ids, where the one is above a value.
 fn nearer(least: u32, id: u32, value: u32) -> u32

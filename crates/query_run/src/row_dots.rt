@@ -6,7 +6,7 @@ ghost use Rattle.query_run.specs.RowDots.{DotsAsked};
 use crate::fault::AskFault;
 use cell_model::row::Cells;
 use qual_codec::MergeFault;
-use row_key::{HOUR_MILLIS, LAST_OFFSET};
+use row_hours::{HOUR_MILLIS, LAST_OFFSET};
 use row_scan::timed_points;
 use std::alloc::Global;
 use tsd_base::dots::Dots;

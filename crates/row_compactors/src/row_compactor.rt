@@ -6,7 +6,7 @@ use cell_model::rows::Rows;
 use compactor::queue::Queue;
 use compactor::queue_drain::drain;
 use crossbeam_channel::{Receiver, Sender};
-use row_key::{HOUR_MILLIS, base_of};
+use row_hours::{HOUR_MILLIS, base_of};
 use std::alloc::Global;
 use std::mem::replace;
 use std::sync::Wait;

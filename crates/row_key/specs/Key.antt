@@ -3,7 +3,7 @@ use Rattle.std.specs.Prelude.{◌≡◌, ◌≢◌, ℕ, ◌+◌, ◌*◌, ◌%�
 use Rattle.std.specs.List.{flat_map, Any}
 use Rattle.std.specs.Int.{w32, bytes_high_first, to_be_bytes}
 use Rattle.row_key.specs.declared.ids.TheConstants.{MOST_IDS}
-use Rattle.row_key.specs.declared.hours.TheConstants.{HOUR}
+use Rattle.row_hours.specs.declared.hours.TheConstants.{HOUR}
 use Rattle.row_key.specs.declared.keys.RowKey.{RowKey}
 use Rattle.row_key.specs.declared.keys.KeyFault.{KeyFault}
 use Rattle.row_key.specs.declared.keys.KeyFault.TheVariants.{Length, NoPairs, ZeroId, BaseNotHour, PairsNotRising}

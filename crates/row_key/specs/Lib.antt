@@ -1,4 +1,3 @@
 pub mod Key
 pub mod KeyOrder
-pub mod Hours
 pub mod Regions

@@ -5,9 +5,9 @@ ghost use Rattle.std.specs.Int.{bytes_high_first};
 ghost use Rattle.arrayvec.specs.ArrayVec.{array_vec_len};
 ghost use Rattle.row_key.specs.Key.{HasParts, HasZeroId, IsKey, ReadsAs, Rises, id_bytes, key_bytes, pair_bytes};
 
-use crate::hours::HOUR;
 use crate::ids::{MOST_IDS, id_bytes};
 use arrayvec::ArrayVec;
+use row_hours::HOUR;
 
 /// The key of a point row: the data points of one series in one hour.
 #[derive(Debug, PartialEq, Eq, PartialOrd, Ord, Drop)]

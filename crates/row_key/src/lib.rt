@@ -1,14 +1,12 @@
-//! The keys of rows: the tables of the store, ids, hours, regions, and the bytes of a point row's key.
+//! The keys of rows: the tables of the store, ids, regions, and the bytes of a point row's key.
 #![tactic(auto)]
 
-pub mod hours;
 pub mod ids;
 pub mod keys;
 pub mod laws;
 pub mod regions;
 pub mod tables;
 
-pub use hours::{HOUR, HOUR_MILLIS, LAST_OFFSET, base_of};
 pub use ids::{MOST_IDS, id_bytes};
 pub use keys::{KeyFault, RowKey, read_key, write_key};
 pub use regions::{MOST_DATA_REGIONS, NAME_REGIONS, region_of};

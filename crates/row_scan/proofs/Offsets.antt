@@ -1,7 +1,7 @@
 -- The offsets of data points within their hour.
 use Rattle.std.proofs.Common.{◌≡◌, ◌⊎◌, inl, inr, ℕ, ◌+◌, ◌*◌, ◌%◌, ◌≤◌, List, sym, ap, subst, ◌∙◌, arith}
 use Rattle.std.specs.Prelude.{Contains}
-use Rattle.row_key.specs.declared.hours.TheConstants.{HOUR, LAST_OFFSET}
+use Rattle.row_hours.specs.declared.hours.TheConstants.{HOUR, LAST_OFFSET}
 use Rattle.qual_codec.specs.declared.cells.Item.{Item}
 use Rattle.qual_codec.specs.declared.cells.Dot.{Dot}
 use Rattle.qual_codec.specs.Items.{IsItem, IsItems}

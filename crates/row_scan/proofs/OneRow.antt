@@ -2,7 +2,7 @@
 use Rattle.std.proofs.Common.{◌≡◌, ℕ, ◌≤◌, ◌<◌, List, ◌++◌, sym, ap, subst, ◌∙◌, arith}
 use Rattle.std.specs.Prelude.{Contains}
 use Rattle.std.specs.List.{flat_map}
-use Rattle.row_key.specs.declared.hours.TheConstants.{LAST_OFFSET}
+use Rattle.row_hours.specs.declared.hours.TheConstants.{LAST_OFFSET}
 use Rattle.tsd_base.specs.declared.kinds.Kind.TheVariants.{Metric}
 use Rattle.tsd_base.specs.TagList.{Pair}
 use Rattle.row_key.specs.Key.{hour_bytes, pair_bytes}

@@ -3,7 +3,7 @@ use Rattle.std.proofs.Common.{◌≡◌, ℕ, ◌+◌, ◌-◌, ◌%◌, ◌^◌
 use Rattle.std.specs.Prelude.{IsTrue}
 use Rattle.std.specs.Ordering.{is_lt}
 use Rattle.row_key.specs.declared.ids.TheConstants.{MOST_IDS}
-use Rattle.row_key.specs.declared.hours.TheConstants.{HOUR}
+use Rattle.row_hours.specs.declared.hours.TheConstants.{HOUR}
 use Rattle.row_key.specs.declared.keys.RowKey.{RowKey}
 use Rattle.row_key.specs.declared.tables.Table.TheVariants.{Points}
 use Rattle.row_key.specs.Key.{IsKey, key_bytes, hour_bytes}

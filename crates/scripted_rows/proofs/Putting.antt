@@ -2,7 +2,7 @@
 use Rattle.std.proofs.Common.{◌≡◌, ◌⊎◌, inl, inr, ℕ, ◌≤◌, ◌%◌, List, [], ◌∷◌, length, refl, sym, ap, subst, ◌∙◌, arith}
 use Rattle.std.specs.Prelude.{Contains, AllPairs, ◌<◌}
 use Rattle.std.proofs.lemmas.List.Elements.{All-contains_itself}
-use Rattle.row_key.specs.declared.hours.TheConstants.{HOUR_MILLIS}
+use Rattle.row_hours.specs.declared.hours.TheConstants.{HOUR_MILLIS}
 use Rattle.tsd_base.specs.declared.kinds.Kind.{Kind}
 use Rattle.tsd_base.specs.declared.kinds.Kind.TheVariants.{Metric, TagKey, TagValue}
 use Rattle.tsd_base.specs.TagList.{Pair}

@@ -8,7 +8,7 @@ ghost use Rattle.uid_table.specs.PlacedPoints.{IsMoved, IsRefilled, IsSomeRow};
 use arrayvec::ArrayVec;
 use cell_model::row::Row;
 use qual_codec::Bytes;
-use row_key::base_of;
+use row_hours::base_of;
 use std::alloc::{AllocError, Global};
 use tsd_base::points::Point;
 

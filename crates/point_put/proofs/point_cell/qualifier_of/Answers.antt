@@ -1,5 +1,5 @@
 use Rattle.std.proofs.Common.{ℕ, ◌%◌, List, [], ◌∷◌, length, sym, subst, ◌∙◌, arith}
-use Rattle.row_key.specs.declared.hours.TheConstants.{HOUR_MILLIS}
+use Rattle.row_hours.specs.declared.hours.TheConstants.{HOUR_MILLIS}
 use Rattle.qual_codec.specs.CellDots.{IsDots}
 use Rattle.qual_codec.specs.Spelling.{dot_of}
 use Rattle.point_put.proofs.point_cell.qualifier_of.Goals as goal

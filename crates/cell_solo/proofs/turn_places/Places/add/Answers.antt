@@ -1,5 +1,5 @@
 use Rattle.std.proofs.Common.{◌/◌, ◌∙◌, refl, ap, List, ℕ, ◌∷◌, [], ◌++◌, length}
-use Rattle.row_key.specs.declared.hours.TheConstants.{HOUR_MILLIS}
+use Rattle.row_hours.specs.declared.hours.TheConstants.{HOUR_MILLIS}
 use Rattle.tsd_base.specs.Points.{data_point}
 use Rattle.cell_solo.specs.TurnPlaces.{PlaceList, named_row_of}
 use Rattle.cell_solo.proofs.Placing.{added, number_added}

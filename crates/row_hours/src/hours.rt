@@ -1,6 +1,6 @@
 //! The hours of rows.
 ghost use Rattle.std.specs.Prelude.{◌≡◌, ◌≤◌};
-ghost use Rattle.row_key.specs.Hours.{base_time};
+ghost use Rattle.row_hours.specs.Hours.{base_time};
 
 /// The seconds of an hour.
 pub const HOUR: u32 = 3600;
