@@ -1,7 +1,7 @@
 -- A query that is asked over stored points is answered over them.
 use Rattle.std.proofs.Common.{◌≡◌, inr, ⊎_elim, ℕ, ◌+◌, ◌≤◌, Bool, true, false, List, [], ◌∷◌, refl, sym, ap, subst, ◌∙◌, arith}
 use Rattle.std.specs.Prelude.{Some, IsTrue, Contains, filter, map, nat_le, if◌then◌else◌, option_and_then}
-use Rattle.std.specs.FinMap.{empty}
+use Rattle.row_key.specs.Made.{three}
 use Rattle.tsd_base.specs.Alphabet.{IsName}
 use Rattle.tsd_base.specs.Points.{DataPoint}
 use Rattle.tsd_base.specs.LastPoints.{last_points}
@@ -18,7 +18,7 @@ use Rattle.cell_model.specs.Lawful.{IsLawful}
 use Rattle.cell_model.specs.Machine.{after, kind_qual}
 use Rattle.cell_model.specs.Readings.{Reading, Accepted, HasReading, IsPut, Meets, OneValued, reading_of}
 use Rattle.cell_model.specs.Seen.{Seen, Fits}
-use Rattle.cell_model.specs.Store.{Store, value_at}
+use Rattle.cell_model.specs.Store.{Store, no_cells, value_at}
 use Rattle.query_run.specs.QueryAnswers.{answer, as_point}
 use Rattle.query_run.specs.Laws.{AnswerIsUnordered}
 use Rattle.query_run.specs.Parts.{AreQuerySteps, IsQueryStep, Part}
@@ -27,7 +27,7 @@ use Rattle.query_text.specs.declared.queries.Sub.{Sub}
 use Rattle.row_scan.specs.RowReadings.{Chosen, Covers}
 use Rattle.batch_job.specs.NotedIds.{id_in, list_of}
 use Rattle.batch_job.specs.Storing.{IsStored, IsUnmerged, Puts, WasPut}
-use Rattle.cell_laws.proofs.CallerLemmas.{nothing}
+use Rattle.cell_laws.proofs.CallerLemmas.{base_widths, nothing}
 use Rattle.batch_job.proofs.Entering.{IsQuiet, PutNothing, put_nothing, unmerged_follow}
 use Rattle.batch_job.proofs.Follows.{Went, follow, went}
 use Rattle.batch_job.proofs.Lower.{deeds_each, entry_at-more, here, in_filter, in_map, map_in, there, to_filter}
@@ -123,11 +123,11 @@ reading_put : (h : History) (p : DataPoint) → WasPut h p → ReadingWasPut h (
 reading_put h p put = (put.0, put.1, put_of_point put.0.step p put.2)
 
 -- over an empty base what was accepted was put
-accepted_put : (h : History) (n : ℕ) (r : Reading) → base_of h ≡ empty → Accepted (first n h) r → ReadingWasPut (first n h) r
+accepted_put : (h : History) (n : ℕ) (r : Reading) → base_of h ≡ no_cells three → Accepted (first n h) r → ReadingWasPut (first n h) r
 accepted_put h n r base either = ⊎_elim
     (λ (has : HasReading (name_of (first n h)) (base_of (first n h)) r).
     let none = subst (λ (s : Store). HasReading (name_of (first n h)) s r) (base_of_first h n ∙ base) has in
-    absurd (nothing _ none.qual none.value none.stands))
+    absurd (nothing three _ none.qual none.value none.stands))
     (λ (put : ReadingWasPut (first n h) r). put)
     either
 
@@ -159,8 +159,11 @@ module _ (points : List DataPoint) (old new : Seen) (list : List Placed) (stored
   w : Went old list new h
   w = went old new list h made stored.by lawful fits
 
-  pub base_is : base_of h ≡ empty
+  pub base_is : base_of h ≡ no_cells three
   base_is = fits.base ∙ made.since.extends.base ∙ stored.by.base
+
+  pub three_wide : (n : ℕ) → (store_after (first n h)).widths ≡ three
+  three_wide n = sym (base_widths (first n h)) ∙ ap (λ (s : Store). s.widths) (base_of_first h n ∙ base_is)
 
   -- nothing was put by the query
   put_before_it : (r : DataPoint) → WasPut (first new.length h) r → WasPut (first old.length h) r

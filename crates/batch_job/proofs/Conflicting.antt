@@ -1,7 +1,7 @@
 -- Conflicts of stored points, and what a query over them shows.
 use Rattle.std.proofs.Common.{◌≡◌, Equal, ⊎_elim, inl, inr, ℕ, ℤ, ◌+◌, ◌*◌, ◌≤◌, Bool, true, false, List, [], ◌∷◌, ◌++◌, Option, Some, map, refl, sym, ap, subst, ◌∙◌, arith}
 use Rattle.std.specs.Prelude.{if◌then◌else◌, None, Contains, IsTrue, filter, find, not, option_map, unwrap_or}
-use Rattle.std.specs.FinMap.{empty, nat_cmp-IsAntisymmetric, slice_cmp-IsAntisymmetric}
+use Rattle.std.specs.FinMap.{nat_cmp-IsAntisymmetric, slice_cmp-IsAntisymmetric}
 use Rattle.std.specs.List.{flat_map}
 use Rattle.std.specs.Cmp.{nat_cmp_total, tied_itself}
 use Rattle.std.specs.Cmp.Lexicographic.{nat_list_cmp_total, slice_cmp}
@@ -24,6 +24,8 @@ use Rattle.tsd_base.specs.TagList.{IsPair, Pair}
 use Rattle.list_lemmas.specs.BytesOrder.{bytes_cmp as row_bytes_cmp}
 use Rattle.row_key.specs.Key.{hour_bytes, pair_bytes}
 use Rattle.row_key.specs.KeyOrder.{pair_cmp}
+use Rattle.row_key.specs.Made.{three}
+use Rattle.row_key.specs.declared.widths.Widths.{Widths}
 use Rattle.tsd_base.specs.TagOrder.{tags_same}
 use Rattle.tsd_base.specs.declared.kinds.Kind.{Kind}
 use Rattle.tsd_base.specs.declared.kinds.Kind.TheVariants.{Metric, TagKey, TagValue}
@@ -42,7 +44,7 @@ use Rattle.cell_model.specs.Lawful.{IsLawful, Wrote}
 use Rattle.cell_laws.specs.Laws.{IsCompaction}
 use Rattle.cell_model.specs.Readings.{Reading, CellReads, IsNamed, IsStanding, Meets, point_row, reading_of}
 use Rattle.cell_model.specs.Seen.{Seen, Fits}
-use Rattle.cell_model.specs.Store.{Store, value_at}
+use Rattle.cell_model.specs.Store.{Store, no_cells, value_at}
 use Rattle.query_run.specs.Parts.{AreQuerySteps, FirstConflict, HasConflict, NameOf, Part, PartStands}
 use Rattle.qual_codec.specs.Merge as row
 use Rattle.qual_codec.specs.Merge.{AreDots, values_at}
@@ -190,7 +192,7 @@ same_place g p q row qual v w x y =
     let item : d.item ≡ e.item = ap (item_or d.item) (items_once qual (d.item ∷ []) (e.item ∷ []) x.reads.items y.reads.items) in
     let a = x.dot_reads in
     let b = y.dot_reads in
-    let key : a.key ≡ b.key = one_key a.key b.key a.is_key b.is_key (sym a.row_is ∙ b.row_is) in
+    let key : a.key ≡ b.key = one_key (store_after g).widths a.key b.key a.is_key b.is_key (sym a.row_is ∙ b.row_is) in
     record {
       metric = same_Some _ _ (sym a.metric_is ∙ ap (λ (k : RowKey). name_of g Metric k.metric) key ∙ b.metric_is);
       tags = tags_once (name_of g) a.key.pairs.items b.key.pairs.items p.tags q.tags (ap (λ (k : RowKey). k.pairs.items) key) a.tags_are b.tags_are;
@@ -199,8 +201,8 @@ same_place g p q row qual v w x y =
     }
 
 -- a cell's reading, at other bytes that are the same
-moved_reads : (names : Kind → ℕ → Option (List ℕ)) (row qual value row' qual' value' : List ℕ) (r : Reading) → row ≡ row' → qual ≡ qual' → value ≡ value' → CellReads names row qual value r → CellReads names row' qual' value' r
-moved_reads names row qual value row' qual' value' r a b c reads = subst (λ (x : List ℕ). CellReads names x qual' value' r) a (subst (λ (x : List ℕ). CellReads names row x value' r) b (subst (λ (x : List ℕ). CellReads names row qual x r) c reads))
+moved_reads : (widths : Widths) (names : Kind → ℕ → Option (List ℕ)) (row qual value row' qual' value' : List ℕ) (r : Reading) → row ≡ row' → qual ≡ qual' → value ≡ value' → CellReads widths names row qual value r → CellReads widths names row' qual' value' r
+moved_reads widths names row qual value row' qual' value' r a b c reads = subst (λ (x : List ℕ). CellReads widths names x qual' value' r) a (subst (λ (x : List ℕ). CellReads widths names row x value' r) b (subst (λ (x : List ℕ). CellReads widths names row qual x r) c reads))
 
 module _ (points : List DataPoint) (old new : Seen) (list : List Placed) (stored : IsStored points old) (made : Made old list new) (steps : AreQuerySteps list) (h : History) (lawful : IsLawful h) (fits : Fits new h) where
   abbrev now : History
@@ -227,10 +229,10 @@ module _ (points : List DataPoint) (old new : Seen) (list : List Placed) (stored
         qual = st.qual;
         value = stay.value;
         stands = ap (λ (x : Row). value_at (store_after now) x st.qual) (sym row) ∙ stay.there;
-        reads = subst (CellReads (name_of now) st.row.bytes st.qual stay.value) same (record { dots = _; reads = other.reads; dot = _; among = here _ []; dot_reads = other.dot_reads });
+        reads = subst (CellReads (store_after now).widths (name_of now) st.row.bytes st.qual stay.value) same (record { dots = _; reads = other.reads; dot = _; among = here _ []; dot_reads = other.dot_reads });
       }
 
-  base_now : base_of now ≡ empty
+  base_now : base_of now ≡ no_cells three
   base_now = base_of_first h new.length ∙ base_is points old new list stored made steps h lawful fits
 
   -- a cell of a point row is that of one of the points
@@ -258,7 +260,7 @@ module _ (points : List DataPoint) (old new : Seen) (list : List Placed) (stored
 
   module _ (at : Placed) (among : Contains list at) (found : Found) (reply : at.entry.reply ≡ Next (Some found)) where
     -- a row that reads is that of each of the points of the series and time
-    same_row : (r : Reading) (reads : RowReads (name_of now) found r) (p : DataPoint) (has : Contains (last_points points) p) → Meets r (reading_of p) → found.row ≡ point_row (stands p has).row
+    same_row : (r : Reading) (reads : RowReads (store_after now).widths (name_of now) found r) (p : DataPoint) (has : Contains (last_points points) p) → Meets r (reading_of p) → found.row ≡ point_row (stands p has).row
     same_row r reads p has meets =
         let s = stands p has in
         let table = found_table points old new list stored made steps h lawful fits at among found reply r reads in
@@ -273,7 +275,7 @@ module _ (points : List DataPoint) (old new : Seen) (list : List Placed) (stored
         row ∙ ap point_row same
 
     -- its cells have the point's reading
-    row_has : (p : DataPoint) (has : Contains (last_points points) p) → found.row ≡ point_row (stands p has).row → RowReads (name_of now) found (reading_of p)
+    row_has : (p : DataPoint) (has : Contains (last_points points) p) → found.row ≡ point_row (stands p has).row → RowReads (store_after now).widths (name_of now) found (reading_of p)
     row_has p has same =
         let s = stands p has in
         let is : value_at (store_after now) found.row s.qual ≡ Some s.value = ap (λ (x : Row). value_at (store_after now) x s.qual) same ∙ s.stands in
@@ -281,20 +283,20 @@ module _ (points : List DataPoint) (old new : Seen) (list : List Placed) (stored
         record {
           cell = c.cell;
           among = subst (λ (cs : List Cell). Contains cs c.cell) (sym (cells_row points old new list stored made steps h lawful fits at among found reply)) c.among;
-          reads = moved_reads (name_of now) s.row s.qual s.value found.row.bytes c.cell.qual c.cell.value (reading_of p) (sym (ap (λ (x : Row). x.bytes) same)) (sym c.qual_is) (sym c.value_is) s.reads;
+          reads = moved_reads (store_after now).widths (name_of now) s.row s.qual s.value found.row.bytes c.cell.qual c.cell.value (reading_of p) (sym (ap (λ (x : Row). x.bytes) same)) (sym c.qual_is) (sym c.value_is) s.reads;
         }
 
-    in_row : (r : Reading) (reads : RowReads (name_of now) found r) (p : DataPoint) → Contains (last_points points) p → Meets r (reading_of p) → RowReads (name_of now) found (reading_of p)
+    in_row : (r : Reading) (reads : RowReads (store_after now).widths (name_of now) found r) (p : DataPoint) → Contains (last_points points) p → Meets r (reading_of p) → RowReads (store_after now).widths (name_of now) found (reading_of p)
     in_row r reads p has meets = row_has p has (same_row r reads p has meets)
 
     cell_point : (c : Cell) → Contains found.cells c → found.row.table ≡ Points → CellPoint c found.row
     cell_point c has table = ⊎_elim
-        (λ (based : value_at (base_of now) found.row c.qual ≡ Some c.value). absurd (nothing found.row c.qual c.value (subst (λ (s : Store). value_at s found.row c.qual ≡ Some c.value) base_now based)))
+        (λ (based : value_at (base_of now) found.row c.qual ≡ Some c.value). absurd (nothing three found.row c.qual c.value (subst (λ (s : Store). value_at s found.row c.qual ≡ Some c.value) base_now based)))
         (λ (w : (e : Entry) × Had now e × Wrote found.row c.qual c.value e.step). wrote_point c found.row w.0 w.0.step refl w.1 w.2)
         (had_cell now found.row c.qual c.value lawful_now table (cells_stand points old new list stored made steps h lawful fits at among found reply c has))
 
     -- the two points of a conflict that is told: its first value is that of the one in seconds
-    module _ (wanted : Reading → Bool) (time : ℕ) (a b : ℤ) (conflict : HasConflict (name_of now) wanted found time a b) where
+    module _ (wanted : Reading → Bool) (time : ℕ) (a b : ℤ) (conflict : HasConflict (store_after now).widths (name_of now) wanted found time a b) where
       table : found.row.table ≡ Points
       table = ap (λ (r : Row). r.table) conflict.row_is
 
@@ -315,8 +317,8 @@ module _ (points : List DataPoint) (old new : Seen) (list : List Placed) (stored
           let same : e ≡ d = only e d (subst (λ (ds : List Dot). Contains ds d) (one_dots w.cell.qual w.cell.value w.dots (e ∷ []) w.reads p.reads.reads) w.has) in
           let told = conflict.reads.reads.dot_reads in
           let x = p.reads.dot_reads in
-          let key : x.key ≡ told.key = one_key x.key told.key x.is_key told.is_key (sym x.row_is ∙ told.row_is) in
-          let base : x.key ≡ conflict.key = one_key x.key conflict.key x.is_key conflict.is_key (sym x.row_is ∙ ap (λ (r : Row). r.bytes) conflict.row_is) in
+          let key : x.key ≡ told.key = one_key (store_after now).widths x.key told.key x.is_key told.is_key (sym x.row_is ∙ told.row_is) in
+          let base : x.key ≡ conflict.key = one_key (store_after now).widths x.key conflict.key x.is_key conflict.is_key (sym x.row_is ∙ ap (λ (r : Row). r.bytes) conflict.row_is) in
           record {
             point = p.point;
             last = p.among;
@@ -467,7 +469,7 @@ module _ (points : List DataPoint) (old new : Seen) (list : List Placed) (stored
     abbrev began : Store
     began = store_after (first (before_first list new.length) h)
 
-    module _ (time : ℕ) (a b : ℤ) (f : FirstConflict began (name_of now) want list time a b) where
+    module _ (time : ℕ) (a b : ℤ) (f : FirstConflict began (store_after now).widths (name_of now) want list time a b) where
       at_in : Contains list f.at
       at_in = subst (λ (xs : List Placed). Contains xs f.at) (sym f.cut) (Contains-append_right f.earlier (f.at ∷ f.later) f.at (here f.at f.later))
 
@@ -518,7 +520,7 @@ module _ (points : List DataPoint) (old new : Seen) (list : List Placed) (stored
         rows_are =
             let x = (stands told.p told.p_last).reads.dot_reads in
             let y = (stands t.p p_last).reads.dot_reads in
-            (λ i. row_bytes_cmp (x.row_is i) (y.row_is i)) ∙ keys_compare k0 k x.is_key y.is_key
+            (λ i. row_bytes_cmp (x.row_is i) (y.row_is i)) ∙ keys_compare (store_after now).widths k0 k x.is_key y.is_key
             ∙ ap (λ n. ordering_then (nat_cmp n k.metric) (ordering_then (nat_cmp k0.base k.base) (slice_cmp pair_cmp k0.pairs.items k.pairs.items))) metrics
             ∙ ap (λ o. ordering_then o (ordering_then (nat_cmp k0.base k.base) (slice_cmp pair_cmp k0.pairs.items k.pairs.items))) (tied_itself nat_cmp_total k.metric)
 
@@ -561,13 +563,13 @@ module _ (points : List DataPoint) (old new : Seen) (list : List Placed) (stored
             let pairs : k0.pairs.items ≡ k.pairs.items = slice_cmp-IsAntisymmetric pair_exact k0.pairs.items k.pairs.items e.1 in
             let x = (stands told.p told.p_last).reads.dot_reads in
             let y = (stands t.p p_last).reads.dot_reads in
-            let same : (stands told.p told.p_last).row ≡ (stands t.p p_last).row = x.row_is ∙ (λ i. hour_bytes (metrics i) (base i) ++ flat_map pair_bytes (pairs i)) ∙ sym y.row_is in
+            let same : (stands told.p told.p_last).row ≡ (stands t.p p_last).row = x.row_is ∙ (λ i. hour_bytes (store_after now).widths (metrics i) (base i) ++ flat_map (pair_bytes (store_after now).widths) (pairs i)) ∙ sym y.row_is in
             let rp = row_has f.at at_in f.found f.reply t.p p_last (row_is ∙ ap point_row same) in
             let rq = in_row f.at at_in f.found f.reply (reading_of t.p) rp t.q q_last meet in
             let dp = rp.reads.dot in
             let dq = rq.reads.dot in
-            let key_p : rp.reads.dot_reads.key ≡ f.conflict.key = one_key rp.reads.dot_reads.key f.conflict.key rp.reads.dot_reads.is_key f.conflict.is_key (sym rp.reads.dot_reads.row_is ∙ ap (λ (r : Row). r.bytes) f.conflict.row_is) in
-            let key_q : rq.reads.dot_reads.key ≡ f.conflict.key = one_key rq.reads.dot_reads.key f.conflict.key rq.reads.dot_reads.is_key f.conflict.is_key (sym rq.reads.dot_reads.row_is ∙ ap (λ (r : Row). r.bytes) f.conflict.row_is) in
+            let key_p : rp.reads.dot_reads.key ≡ f.conflict.key = one_key (store_after now).widths rp.reads.dot_reads.key f.conflict.key rp.reads.dot_reads.is_key f.conflict.is_key (sym rp.reads.dot_reads.row_is ∙ ap (λ (r : Row). r.bytes) f.conflict.row_is) in
+            let key_q : rq.reads.dot_reads.key ≡ f.conflict.key = one_key (store_after now).widths rq.reads.dot_reads.key f.conflict.key rq.reads.dot_reads.is_key f.conflict.is_key (sym rq.reads.dot_reads.row_is ∙ ap (λ (r : Row). r.bytes) f.conflict.row_is) in
             let time_p : t.p.time ≡ f.conflict.key.base * 1000 + dp.item.offset = rp.reads.dot_reads.time_is ∙ ap (λ (z : RowKey). z.base * 1000 + dp.item.offset) key_p in
             let time_q : t.q.time ≡ f.conflict.key.base * 1000 + dq.item.offset = rq.reads.dot_reads.time_is ∙ ap (λ (z : RowKey). z.base * 1000 + dq.item.offset) key_q in
             let times : t.p.time ≡ t.q.time = both_told.time in

@@ -1,7 +1,6 @@
 -- What one more entry makes of a store, and of the points that were put.
 use Rattle.std.proofs.Common.{◌≡◌, ◌≢◌, ◌⊎◌, inl, inr, ℕ, ◌+◌, ◌%◌, ◌^◌, Bool, true, false, List, [], ◌∷◌, refl, sym, ap, subst, ◌∙◌}
 use Rattle.std.specs.Prelude.{Option, None, Some, option_map, nat_lt, nat_eq, if◌then◌else◌, Contains}
-use Rattle.std.specs.FinMap.{get}
 use Rattle.std.specs.Int.{w64, to_be_bytes}
 use Rattle.qual_codec.specs.declared.cells.Cell.{Cell}
 use Rattle.row_key.specs.declared.tables.Table.TheVariants.{Ids, Points}
@@ -20,8 +19,9 @@ use Rattle.cell_model.specs.History.{History, Had, len, entry_at, store_after}
 use Rattle.cell_laws.specs.Laws.{IsCompaction}
 use Rattle.cell_model.specs.History.History.{Then}
 use Rattle.cell_model.specs.IdRows.{name_row}
-use Rattle.cell_model.specs.Machine.{after, counter_of, counter_row, kind_qual, or_written, reply_of, MOST_IDS}
-use Rattle.cell_model.specs.Store.{Store, cells_of, place_of, value_at, value_among, written}
+use Rattle.cell_model.specs.Machine.{after, counter_of, counter_row, kind_qual, or_written, reply_of}
+use Rattle.cell_model.specs.KindWidths.{greatest}
+use Rattle.cell_model.specs.Store.{Store, get, cells_of, place_of, value_at, value_among, written}
 use Rattle.uid_table.specs.IdSteps.{DidLook}
 use Rattle.batch_job.specs.Storing.{IsUnmerged, Puts, WasPut}
 use Rattle.batch_job.proofs.Follows.{follow}
@@ -29,7 +29,7 @@ use Rattle.batch_job.proofs.Lower.{cells_have, content-written_other, entry_at-l
 
 -- ---- places that a step doesn't write
 bump_other : (s : Store) (place : ℕ) (kind : Kind) (p : Place) → p ≢ place_of counter_row (kind_qual kind) → get (after s place (Bump kind)) p ≡ get s p
-bump_other s place kind p other = at (nat_lt (counter_of s kind) MOST_IDS)
+bump_other s place kind p other = at (nat_lt (counter_of s kind) (greatest s.widths kind))
   where
     at : (b : Bool) → get (if b then written s counter_row (kind_qual kind) (to_be_bytes w64 (counter_of s kind + 1)) (place % 2 ^ 64) else s) p ≡ get s p
     at true = content-written_other s counter_row (kind_qual kind) _ _ p other

@@ -27,7 +27,7 @@ use Rattle.query_run.specs.Parts.{AreQuerySteps, IsQueryStep}
 use Rattle.qual_codec.specs.Merge.{AreDots, first_conflict}
 use Rattle.row_scan.specs.RowReadings.{RowReads}
 use Rattle.batch_job.specs.Storing.{IsStored}
-use Rattle.batch_job.proofs.Asking.{query_keeps}
+use Rattle.batch_job.proofs.Asking.{query_keeps, three_wide}
 use Rattle.batch_job.proofs.Follows.{follows}
 use Rattle.batch_job.proofs.Lower.{cell_at, deeds_each, deeds_joined, each_entry, sound_after, first_lawful, there, here, not_in}
 use Rattle.batch_job.proofs.PointRows.{in_points}
@@ -127,7 +127,7 @@ module _ (points : List DataPoint) (old new : Seen) (list : List Placed) (stored
     cells_stand c has = cell_at (store_after (first new.length h)) found.row c (subst (λ (cs : List Cell). Contains cs c) cells_row has)
 
     -- a row that reads is a point row
-    pub found_table : (r : Reading) → RowReads (name_of (first new.length h)) found r → found.row.table ≡ Points
+    pub found_table : (r : Reading) → RowReads (store_after (first new.length h)).widths (name_of (first new.length h)) found r → found.row.table ≡ Points
     found_table r reads =
         in_points (store_after (first new.length h)) found.row reads.cell.qual reads.cell.value reads.reads.dots reads.reads.dot_reads.key (sound_after (first new.length h) (first_lawful h new.length lawful)) (cells_stand reads.cell reads.among)
-        reads.reads.reads reads.reads.dot_reads.row_is
+        reads.reads.reads reads.reads.dot_reads.row_is (three_wide points old new list stored made steps h lawful fits new.length)

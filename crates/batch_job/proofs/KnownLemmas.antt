@@ -6,7 +6,7 @@ use Rattle.std.specs.Cmp.Lexicographic.{nat_list_eq_equiv}
 use Rattle.std.proofs.lemmas.Bool.{true≢false}
 use Rattle.tsd_base.specs.declared.kinds.Kind.{Kind}
 use Rattle.tsd_base.specs.declared.kinds.Kind.TheVariants.{Metric, TagKey, TagValue}
-use Rattle.cell_model.specs.Machine.{MOST_IDS}
+use Rattle.row_key.specs.declared.ids.TheConstants.{MOST_IDS}
 use Rattle.batch_job.specs.PendingIds.{Names}
 use Rattle.batch_job.specs.PendingIds.{id_in}
 use Rattle.batch_job.specs.NotedIds.{list_of, with_list, with_listed, noted, noted_all, and_then_noted}

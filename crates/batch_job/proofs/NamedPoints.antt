@@ -9,7 +9,7 @@ use Rattle.tsd_base.specs.declared.kinds.Kind.TheVariants.{Metric, TagKey, TagVa
 use Rattle.tsd_base.specs.Points.{DataPoint}
 use Rattle.tsd_base.specs.TagList.{Pair, is_same}
 use Rattle.cell_model.specs.Layout.{names_of, tag_names}
-use Rattle.cell_model.specs.Machine.{MOST_IDS}
+use Rattle.row_key.specs.declared.ids.TheConstants.{MOST_IDS}
 use Rattle.query_run.specs.Parts.{NameOf}
 use Rattle.batch_job.specs.PendingIds.{Names, id_in, no_names}
 use Rattle.batch_job.specs.NotedIds.{list_of, with_list, with_listed, noted, noted_all, and_then_noted}

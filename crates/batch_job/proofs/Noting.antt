@@ -6,7 +6,8 @@ use Rattle.std.specs.Option.{option_or, option_map_or}
 use Rattle.std.specs.Int.{w64, from_be_bytes}
 use Rattle.std.specs.Cmp.Lexicographic.{nat_list_eq_equiv}
 use Rattle.std.proofs.lemmas.Bool.{true≢false}
-use Rattle.row_key.specs.Key.{IsId}
+use Rattle.row_key.specs.declared.ids.TheConstants.{MOST_IDS}
+use Rattle.row_key.specs.Made.{three}
 use Rattle.tsd_base.specs.Alphabet.{IsName}
 use Rattle.tsd_base.specs.TagList.{Pair, is_same}
 use Rattle.tsd_base.specs.declared.kinds.Kind.{Kind}
@@ -20,14 +21,15 @@ use Rattle.cell_model.specs.declared.events.Placed.{Placed}
 use Rattle.cell_model.specs.declared.events.Reply.TheVariants.{BumpReply, ClaimReply}
 use Rattle.cell_model.specs.declared.events.Step.TheVariants.{Read, Bump, Claim}
 use Rattle.cell_model.specs.Deeds.{Extends, Made}
-use Rattle.cell_model.specs.History.{History, first, len, store_after}
+use Rattle.cell_model.specs.History.{History, base_of, first, len, store_after}
 use Rattle.cell_model.specs.History.History.{Then}
 use Rattle.cell_model.specs.IdRows as model
-use Rattle.cell_model.specs.IdRows.{id_number, id_of, id_bytes, id_row, name_row}
+use Rattle.cell_model.specs.IdRows.{id_number, id_of, id_row, name_row}
+use Rattle.cell_model.specs.KindWidths.{Widths, IsKindId, greatest, kind_bytes}
 use Rattle.cell_model.specs.Lawful.{IsLawful, given, claimed}
-use Rattle.cell_model.specs.Machine.{counter_of, counter_row, kind_qual, claim_reply, reply_of, MOST_IDS}
+use Rattle.cell_model.specs.Machine.{counter_of, counter_row, kind_qual, claim_reply, reply_of}
 use Rattle.cell_model.specs.Seen.{Seen}
-use Rattle.cell_model.specs.Store.{place_of, value_at}
+use Rattle.cell_model.specs.Store.{Store, no_cells, place_of, value_at}
 use Rattle.uid_table.specs.declared.id_answers.Assigned.{Assigned}
 use Rattle.uid_table.specs.declared.id_answers.Assigned.TheVariants.{Fresh, Existing, Lost}
 use Rattle.uid_table.specs.declared.id_answers.AssignFault.TheVariants.{Exhausted, Filtered}
@@ -38,11 +40,12 @@ use Rattle.batch_job.specs.NotedIds.{Names, id_in, list_of, with_list, with_list
 use Rattle.cell_model.specs.Layout.{tag_names}
 use Rattle.batch_job.specs.OpenRules.{AllowsAll}
 use Rattle.batch_job.specs.Storing.{HasIds, IsNaming, IsNumbered, IsUnmerged, Notes, WasPut}
+use Rattle.batch_job.proofs.Asking.{base_of_first}
 use Rattle.batch_job.proofs.LastPoints.{same_bytes}
 use Rattle.batch_job.proofs.Entering.{PutNothing, bump_keeps, claim_keeps, looked, no_counter_row, nothing_by, nothing_more, nothing_nil, put_nothing, quals_differ, read_keeps, rows_differ, tables_differ, unmerged_follow}
 use Rattle.batch_job.proofs.Follows.{follow, went, alone_still}
 use Rattle.batch_job.proofs.KnownLemmas.{noted_all-known}
-use Rattle.batch_job.proofs.Lower.{Names_Ids, claim_wrote, first_fits, first_lawful, given_counts, held_there, id_read_back, same_kind}
+use Rattle.batch_job.proofs.Lower.{Names_Ids, base_widths, claim_wrote, first_fits, first_lawful, given_counts, held_there, id_read_back, same_kind}
 use Rattle.batch_job.proofs.NameLemmas.{id_in-append}
 use Rattle.batch_job.proofs.NotedLemmas.{noted_all-append}
 
@@ -99,10 +102,19 @@ numbered_same names h h' same n = record {
   ids = λ kind name is. ap (λ s. model.id_in s kind name) same ∙ n.ids kind name is;
 }
 
+-- ---- the greatest id of three bytes
+most_three : (w : Widths) (kind : Kind) → w ≡ three → greatest w kind ≡ MOST_IDS
+most_three w kind same = ap (λ (x : Widths). greatest x kind) same ∙ at kind
+  where
+    at : (k : Kind) → greatest three k ≡ MOST_IDS
+    at Metric = refl
+    at TagKey = refl
+    at TagValue = refl
+
 -- ---- a name that gets an id
-module _ (h : History) (r b n f : Placed) (kind : Kind) (name : List ℕ) (id : ℕ) (reply : Claimed) (names : Names) (is_name : IsName name)
+module _ (widths : Widths) (h : History) (r b n f : Placed) (kind : Kind) (name : List ℕ) (id : ℕ) (reply : Claimed) (names : Names) (is_name : IsName name)
     (lawful : IsLawful (Then (Then (Then (Then h r.entry) b.entry) n.entry) f.entry))
-    (look : DidLook r kind name None) (bumped : DidBump b kind id) (reversed : DidReverse n kind name id) (forwarded : DidForward f kind name id reply) (numbered : IsNumbered names h) where
+    (look : DidLook r kind name None) (bumped : DidBump b kind id) (reversed : DidReverse widths n kind name id) (forwarded : DidForward widths f kind name id reply) (numbered : IsNumbered names h) where
   abbrev h1 : History
   h1 = Then h r.entry
 
@@ -121,19 +133,19 @@ module _ (h : History) (r b n f : Placed) (kind : Kind) (name : List ℕ) (id : 
   -- a name's cell before the last claim
   name_cell : (k : Kind) (m : List ℕ) → IsName m → value_at (store_after h3) (name_row m) (kind_qual k) ≡ value_at (store_after h) (name_row m) (kind_qual k)
   name_cell k m is =
-      claim_keeps h2 n.entry (id_row id) (kind_qual kind) name (name_row m) (kind_qual k) reversed.0 (rows_differ (name_row m) (id_row id) _ _ (tables_differ (name_row m) (id_row id) (λ e. Names_Ids (sym e))))
+      claim_keeps h2 n.entry (id_row widths kind id) (kind_qual kind) name (name_row m) (kind_qual k) reversed.0 (rows_differ (name_row m) (id_row widths kind id) _ _ (tables_differ (name_row m) (id_row widths kind id) (λ e. Names_Ids (sym e))))
       ∙ bump_keeps h1 b.entry kind (name_row m) (kind_qual k) bumped.0 (rows_differ (name_row m) counter_row _ _ (no_counter_row m is))
       ∙ ap (λ s. value_at s (name_row m) (kind_qual k)) same1
 
   -- and behind it
   other_cell : (k : Kind) (m : List ℕ) → IsName m → place_of (name_row m) (kind_qual k) ≢ place_of (name_row name) (kind_qual kind)
       → value_at (store_after h4) (name_row m) (kind_qual k) ≡ value_at (store_after h) (name_row m) (kind_qual k)
-  other_cell k m is other = claim_keeps h3 f.entry (name_row name) (kind_qual kind) (id_bytes id) (name_row m) (kind_qual k) forwarded.0 other ∙ name_cell k m is
+  other_cell k m is other = claim_keeps h3 f.entry (name_row name) (kind_qual kind) (kind_bytes widths kind id) (name_row m) (kind_qual k) forwarded.0 other ∙ name_cell k m is
 
   counter_cell : (k : Kind) → value_at (store_after h4) counter_row (kind_qual k) ≡ value_at (store_after h2) counter_row (kind_qual k)
   counter_cell k =
-      claim_keeps h3 f.entry (name_row name) (kind_qual kind) (id_bytes id) counter_row (kind_qual k) forwarded.0 (rows_differ counter_row (name_row name) _ _ (λ e. no_counter_row name is_name (sym e)))
-      ∙ claim_keeps h2 n.entry (id_row id) (kind_qual kind) name counter_row (kind_qual k) reversed.0 (rows_differ counter_row (id_row id) _ _ (tables_differ counter_row (id_row id) (λ e. Names_Ids (sym e))))
+      claim_keeps h3 f.entry (name_row name) (kind_qual kind) (kind_bytes widths kind id) counter_row (kind_qual k) forwarded.0 (rows_differ counter_row (name_row name) _ _ (λ e. no_counter_row name is_name (sym e)))
+      ∙ claim_keeps h2 n.entry (id_row widths kind id) (kind_qual kind) name counter_row (kind_qual k) reversed.0 (rows_differ counter_row (id_row widths kind id) _ _ (tables_differ counter_row (id_row widths kind id) (λ e. Names_Ids (sym e))))
 
   counter_is : (k : Kind) → counter_of (store_after h4) k ≡ counter_of (store_after h2) k
   counter_is k = ap (λ o. option_map_or (from_be_bytes w64) o 0) (counter_cell k)
@@ -154,7 +166,7 @@ module _ (h : History) (r b n f : Placed) (kind : Kind) (name : List ℕ) (id : 
   b_is : b.entry ≡ given b.entry.caller kind id
   b_is = λ i. record { caller = b.entry.caller; step = bumped.0 i; reply = bumped.1 i }
 
-  f_is : reply ≡ Done → f.entry ≡ claimed f.entry.caller (name_row name) (kind_qual kind) (id_bytes id)
+  f_is : reply ≡ Done → f.entry ≡ claimed f.entry.caller (name_row name) (kind_qual kind) (kind_bytes widths kind id)
   f_is done = λ i. record { caller = f.entry.caller; step = forwarded.0 i; reply = (forwarded.1 ∙ ap ClaimReply done) i }
 
   pub id_is : id ≡ length (list_of names kind) + 1
@@ -172,11 +184,11 @@ module _ (h : History) (r b n f : Placed) (kind : Kind) (name : List ℕ) (id : 
       ap (λ o. option_map_or (from_be_bytes w64) o 0)
       (bump_keeps h1 b.entry kind counter_row (kind_qual k) bumped.0 (quals_differ counter_row counter_row (kind_qual k) (kind_qual kind) (λ e. d (sym (same_kind k kind e)))) ∙ ap (λ s. value_at s counter_row (kind_qual k)) same1)
 
-  forward_cell : reply ≡ Done → value_at (store_after h4) (name_row name) (kind_qual kind) ≡ Some (id_bytes id)
+  forward_cell : reply ≡ Done → value_at (store_after h4) (name_row name) (kind_qual kind) ≡ Some (kind_bytes widths kind id)
   forward_cell done =
-      let legal : ClaimReply Done ≡ reply_of (store_after h3) (len h3 + 1) (Claim (name_row name) (kind_qual kind) (id_bytes id)) =
+      let legal : ClaimReply Done ≡ reply_of (store_after h3) (len h3 + 1) (Claim (name_row name) (kind_qual kind) (kind_bytes widths kind id)) =
       ap ClaimReply (sym done) ∙ sym forwarded.1 ∙ lawful.2 ∙ ap (reply_of (store_after h3) (len h3 + 1)) forwarded.0 in
-      ap (λ e. value_at (store_after (Then h3 e)) (name_row name) (kind_qual kind)) (f_is done) ∙ claim_wrote h3 f.entry.caller (name_row name) (kind_qual kind) (id_bytes id) legal
+      ap (λ e. value_at (store_after (Then h3 e)) (name_row name) (kind_qual kind)) (f_is done) ∙ claim_wrote h3 f.entry.caller (name_row name) (kind_qual kind) (kind_bytes widths kind id) legal
 
   pub fresh : id_in (list_of names kind) name ≡ None
   fresh = sym (numbered.ids kind name is_name) ∙ ap (option_and_then id_number) unknown_before
@@ -190,11 +202,11 @@ module _ (h : History) (r b n f : Placed) (kind : Kind) (name : List ℕ) (id : 
           (counter_is kind ∙ counter_now ∙ id_is ∙ sym (ap length (list_here names kind (list_of names kind ++ name ∷ [])) ∙ length-append (list_of names kind) (name ∷ [])))
       at (inr other) = counter_is k ∙ counter_other k other ∙ numbered.counts k ∙ ap length (sym (list_other names kind k (list_of names kind ++ name ∷ []) other))
 
-  ids_here : IsId id → reply ≡ Done → (m : List ℕ) → IsName m → (same : Bool) → is_same name m ≡ same → id_of h4 kind m ≡ option_or (id_in (list_of names kind) m) (cond same (Some (length (list_of names kind) + 1)) None)
+  ids_here : IsKindId widths kind id → reply ≡ Done → (m : List ℕ) → IsName m → (same : Bool) → is_same name m ≡ same → id_of h4 kind m ≡ option_or (id_in (list_of names kind) m) (cond same (Some (length (list_of names kind) + 1)) None)
   ids_here is_id done m is true same =
       let e : name ≡ m = same_bytes name m same in
       subst (λ x. id_of h4 kind x ≡ option_or (id_in (list_of names kind) x) (Some (length (list_of names kind) + 1))) e
-      (ap (option_and_then id_number) (forward_cell done) ∙ id_read_back id is_id.1 ∙ ap Some id_is ∙ sym (ap (λ o. option_or o (Some (length (list_of names kind) + 1))) fresh))
+      (ap (option_and_then id_number) (forward_cell done) ∙ id_read_back widths kind id is_id.1 ∙ ap Some id_is ∙ sym (ap (λ o. option_or o (Some (length (list_of names kind) + 1))) fresh))
   ids_here is_id done m is false other =
       let d : name_row m ≢ name_row name = λ e. true≢false (sym (nat_list_eq_equiv.refl name) ∙ ap (λ (x : Row). is_same name x.bytes) (sym e) ∙ other) in
       ap (option_and_then id_number) (other_cell kind m is (rows_differ (name_row m) (name_row name) _ _ d)) ∙ numbered.ids kind m is ∙ or_none (id_in (list_of names kind) m)
@@ -203,7 +215,7 @@ module _ (h : History) (r b n f : Placed) (kind : Kind) (name : List ℕ) (id : 
       or_none None = refl
       or_none (Some v) = refl
 
-  ids_grown : IsId id → reply ≡ Done → HasIds (grown names kind name) h4
+  ids_grown : IsKindId widths kind id → reply ≡ Done → HasIds (grown names kind name) h4
   ids_grown is_id done k m is = at (kinds kind k)
     where
       at : (kind ≡ k) ⊎ (kind ≢ k) → id_of h4 k m ≡ id_in (list_of (grown names kind name) k) m
@@ -214,15 +226,15 @@ module _ (h : History) (r b n f : Placed) (kind : Kind) (name : List ℕ) (id : 
           ap (option_and_then id_number) (other_cell k m is (quals_differ (name_row m) (name_row name) (kind_qual k) (kind_qual kind) (λ e. other (sym (same_kind k kind e)))))
           ∙ numbered.ids k m is ∙ ap (λ list. id_in list m) (sym (list_other names kind k (list_of names kind ++ name ∷ []) other))
 
-  pub numbered_grown : IsId id → reply ≡ Done → IsNumbered (grown names kind name) h4
+  pub numbered_grown : IsKindId widths kind id → reply ≡ Done → IsNumbered (grown names kind name) h4
   numbered_grown is_id done = record { counts = counts_grown; ids = ids_grown is_id done }
 
   pub puts_nothing : PutNothing (r ∷ b ∷ n ∷ f ∷ [])
   puts_nothing =
       nothing_more r (b ∷ n ∷ f ∷ []) (nothing_by r (Read (name_row name)) look.did.0 tt)
       (nothing_more b (n ∷ f ∷ []) (nothing_by b (Bump kind) bumped.0 tt)
-      (nothing_more n (f ∷ []) (nothing_by n (Claim (id_row id) (kind_qual kind) name) reversed.0 tt)
-      (nothing_more f [] (nothing_by f (Claim (name_row name) (kind_qual kind) (id_bytes id)) forwarded.0 tt) nothing_nil)))
+      (nothing_more n (f ∷ []) (nothing_by n (Claim (id_row widths kind id) (kind_qual kind) name) reversed.0 tt)
+      (nothing_more f [] (nothing_by f (Claim (name_row name) (kind_qual kind) (kind_bytes widths kind id)) forwarded.0 tt) nothing_nil)))
 
 -- ---- what an assignment makes
 module _ (old new : Seen) (kind : Kind) (name : List ℕ) (is_name : IsName name) (names : Names) (naming : IsNaming names old) where
@@ -243,11 +255,12 @@ module _ (old new : Seen) (kind : Kind) (name : List ℕ) (is_name : IsName name
   }
 
   -- what holds of an earlier history that goes on so
-  at_some : {G : Type 0} (list : List Placed) → Made old list new → ((h : History) → IsLawful (follow h list) → IsNumbered names h → G) → G
+  at_some : {G : Type 0} (list : List Placed) → Made old list new → ((h : History) → (store_after h).widths ≡ three → IsLawful (follow h list) → IsNumbered names h → G) → G
   at_some list made goes =
       let p = made.since.lives naming.by.possible in
       let w = went old new list p.history made naming.by p.lawful p.fits in
-      goes (first old.length p.history) w.lawful (naming.numbered p.history p.lawful w.fitted)
+      let base : base_of (first old.length p.history) ≡ no_cells three = base_of_first p.history old.length ∙ w.fitted.base ∙ naming.by.base in
+      goes (first old.length p.history) (sym (base_widths (first old.length p.history)) ∙ ap (λ (x : Store). x.widths) base) w.lawful (naming.numbered p.history p.lawful w.fitted)
 
   abbrev Noted : Type 0
   Noted = (more : Names) × (noted_all names ((kind, name) ∷ []) ≡ Ok more) × IsNaming more new
@@ -265,68 +278,70 @@ module _ (old new : Seen) (kind : Kind) (name : List ℕ) (is_name : IsName name
       ∙ shown.stands new itself (first new.length p.history) (first_lawful p.history new.length p.lawful) (first_fits new p.history p.fits))
 
   -- behind one read, or none, the names have the ids that they had
-  still : (id : ℕ) (list : List Placed) → Made old list new → LookedOrKept kind name id list → IsNaming names new
+  still : (id : ℕ) (list : List Placed) → Made old list new → LookedOrKept old.base.widths kind name id list → IsNaming names new
   still id list made (inl none) = named_after [] names (cut list [] none made) nothing_nil (λ h lawful n. n)
   still id list made (inr (d, is, look)) =
       named_after (d ∷ []) names (cut list (d ∷ []) is made) (nothing_more d [] (nothing_by d (Read (name_row name)) look.did.0 tt) nothing_nil)
       (λ h lawful n. numbered_same names h (Then h d.entry) (read_keeps h d.entry (name_row name) look.did.0) n)
 
-  existing : (id : ℕ) (list : List Placed) → Made old list new → LookedOrKept kind name id list → HasShown new kind name id → Noted
+  existing : (id : ℕ) (list : List Placed) → Made old list new → LookedOrKept old.base.widths kind name id list → HasShown new kind name id → Noted
   existing id list made kept shown =
       let naming_new = still id list made kept in
       (names, one_known names kind name (has_id naming_new id shown), naming_new)
 
-  given_new : (id : ℕ) (r b n f : Placed) → Made old (r ∷ b ∷ n ∷ f ∷ []) new → DidLook r kind name None → DidBump b kind id → DidReverse n kind name id → DidForward f kind name id Done → IsId id → Noted
+  given_new : (id : ℕ) (r b n f : Placed) → Made old (r ∷ b ∷ n ∷ f ∷ []) new → DidLook r kind name None → DidBump b kind id → DidReverse old.base.widths n kind name id → DidForward old.base.widths f kind name id Done → IsKindId old.base.widths kind id → Noted
   given_new id r b n f made look bumped reversed forwarded is_id =
       let unknown : is_some (id_in (list_of names kind) name) ≡ false =
-      at_some (r ∷ b ∷ n ∷ f ∷ []) made (λ h lawful num. ap is_some (fresh h r b n f kind name id Done names is_name lawful look bumped reversed forwarded num)) in
+      at_some (r ∷ b ∷ n ∷ f ∷ []) made (λ h wide lawful num. ap is_some (fresh old.base.widths h r b n f kind name id Done names is_name lawful look bumped reversed forwarded num)) in
       let count : id ≡ length (list_of names kind) + 1 =
-      at_some (r ∷ b ∷ n ∷ f ∷ []) made (λ h lawful num. id_is h r b n f kind name id Done names is_name lawful look bumped reversed forwarded num) in
-      let most = is_id.1 in (
+      at_some (r ∷ b ∷ n ∷ f ∷ []) made (λ h wide lawful num. id_is old.base.widths h r b n f kind name id Done names is_name lawful look bumped reversed forwarded num) in
+      let most = is_id.1 in
+      let all = most_three old.base.widths kind (ap (λ (x : Store). x.widths) naming.by.base) in (
         grown names kind name,
-        one_new names kind name unknown (lt-ltb (length (list_of names kind)) MOST_IDS (omega (arith, count, most))),
+        one_new names kind name unknown (lt-ltb (length (list_of names kind)) MOST_IDS (omega (arith, count, most, all))),
         named_after (r ∷ b ∷ n ∷ f ∷ []) (grown names kind name) made
-            (at_some (r ∷ b ∷ n ∷ f ∷ []) made (λ h lawful num. puts_nothing h r b n f kind name id Done names is_name lawful look bumped reversed forwarded num))
-            (λ h lawful num. numbered_grown h r b n f kind name id Done names is_name lawful look bumped reversed forwarded num is_id refl),
+            (at_some (r ∷ b ∷ n ∷ f ∷ []) made (λ h wide lawful num. puts_nothing old.base.widths h r b n f kind name id Done names is_name lawful look bumped reversed forwarded num))
+            (λ h lawful num. numbered_grown old.base.widths h r b n f kind name id Done names is_name lawful look bumped reversed forwarded num is_id refl),
       )
 
-  lost : (wasted id : ℕ) (r b n f : Placed) → Made old (r ∷ b ∷ n ∷ f ∷ []) new → DidLook r kind name None → DidBump b kind wasted → DidReverse n kind name wasted → DidForward f kind name wasted (Held (id_bytes id)) → ⊥
+  lost : (wasted id : ℕ) (r b n f : Placed) → Made old (r ∷ b ∷ n ∷ f ∷ []) new → DidLook r kind name None → DidBump b kind wasted → DidReverse old.base.widths n kind name wasted → DidForward old.base.widths f kind name wasted (Held (kind_bytes old.base.widths kind id)) → ⊥
   lost wasted id r b n f made look bumped reversed forwarded =
-      at_some (r ∷ b ∷ n ∷ f ∷ []) made (λ h lawful num. not_held h r b n f kind name wasted (Held (id_bytes id)) names is_name lawful look bumped reversed forwarded num (id_bytes id) refl)
+      at_some (r ∷ b ∷ n ∷ f ∷ []) made (λ h wide lawful num. not_held old.base.widths h r b n f kind name wasted (Held (kind_bytes old.base.widths kind id)) names is_name lawful look bumped reversed forwarded num (kind_bytes old.base.widths kind id) refl)
 
-  assigned : (patterns : Patterns) (a : Assigned) → MadeSo old (AssignMade patterns kind name (Ok a)) new → HasShown new kind name (answered_id a) → Noted
+  assigned : (patterns : Patterns) (a : Assigned) → MadeSo old (AssignMade old.base.widths patterns kind name (Ok a)) new → HasShown new kind name (answered_id a) → Noted
   assigned patterns (Existing id) (list, made, kept) shown = existing id list made kept shown
   assigned patterns (Fresh id) (list, made, (d, rest, list_is, look, (admitted, gave))) shown =
-      given_new id d gave.bump gave.reverse gave.forward (cut list (d ∷ gave.bump ∷ gave.reverse ∷ gave.forward ∷ []) (list_is ∙ ap (λ xs. d ∷ xs) gave.list_is) made) look gave.bumped gave.reversed gave.forwarded shown.is_id
+      given_new id d gave.bump gave.reverse gave.forward (cut list (d ∷ gave.bump ∷ gave.reverse ∷ gave.forward ∷ []) (list_is ∙ ap (λ xs. d ∷ xs) gave.list_is) made) look gave.bumped gave.reversed gave.forwarded
+      (subst (λ (x : Store). IsKindId x.widths kind id) made.since.extends.base shown.is_id)
   assigned patterns (Lost wasted id) (list, made, (d, rest, list_is, look, (admitted, gave))) shown =
       absurd (lost wasted id d gave.bump gave.reverse gave.forward (cut list (d ∷ gave.bump ∷ gave.reverse ∷ gave.forward ∷ []) (list_is ∙ ap (λ xs. d ∷ xs) gave.list_is) made) look gave.bumped gave.reversed gave.forwarded)
 
   -- the counter was full
-  was_full : (n : ℕ) → BumpReply Full ≡ BumpReply (if nat_lt n MOST_IDS then Given (n + 1) else Full) → nat_lt n MOST_IDS ≡ false
-  was_full n = at (nat_lt n MOST_IDS)
+  was_full : (n most : ℕ) → BumpReply Full ≡ BumpReply (if nat_lt n most then Given (n + 1) else Full) → nat_lt n most ≡ false
+  was_full n most = at (nat_lt n most)
     where
       at : (b : Bool) → BumpReply Full ≡ BumpReply (if b then Given (n + 1) else Full) → b ≡ false
       at true e = cc
       at false e = refl
 
-  exhausted : (patterns : Patterns) (k : Kind) → MadeSo old (AssignMade patterns kind name (Err (Exhausted k))) new → noted_all names ((kind, name) ∷ []) ≡ Err k
+  exhausted : (patterns : Patterns) (k : Kind) → MadeSo old (AssignMade old.base.widths patterns kind name (Err (Exhausted k))) new → noted_all names ((kind, name) ∷ []) ≡ Err k
   exhausted patterns k (list, made, (d, rest, list_is, look, (admitted, (same, (b, rest_is, bumped))))) =
-      at_some (d ∷ b ∷ []) (cut list (d ∷ b ∷ []) (list_is ∙ ap (λ xs. d ∷ xs) rest_is) made) (λ h lawful n.
+      at_some (d ∷ b ∷ []) (cut list (d ∷ b ∷ []) (list_is ∙ ap (λ xs. d ∷ xs) rest_is) made) (λ h wide lawful n.
       let h1 : History = Then h d.entry in
       let unknown : is_some (id_in (list_of names kind) name) ≡ false = ap is_some (sym (n.ids kind name is_name) ∙ ap (option_and_then id_number) (looked h d kind name None lawful.0.2 look)) in
       let counter : counter_of (store_after h1) kind ≡ length (list_of names kind) = ap (λ s. counter_of s kind) (read_keeps h d.entry (name_row name) look.did.0) ∙ n.counts kind in
-      let full = was_full (counter_of (store_after h1) kind) (sym bumped.1 ∙ lawful.2 ∙ ap (reply_of (store_after h1) (len h1 + 1)) bumped.0) in
-      one_full names kind name unknown (ap (λ n. nat_lt n MOST_IDS) (sym counter) ∙ full) ∙ ap Err (sym same))
+      let full = was_full (counter_of (store_after h1) kind) (greatest (store_after h1).widths kind) (sym bumped.1 ∙ lawful.2 ∙ ap (reply_of (store_after h1) (len h1 + 1)) bumped.0) in
+      one_full names kind name unknown (ap (λ n. nat_lt n MOST_IDS) (sym counter) ∙ ap (nat_lt (counter_of (store_after h1) kind)) (sym (most_three (store_after h1).widths kind wide)) ∙ full) ∙ ap Err (sym same))
 
 -- what an assignment notes
-pub assign_notes : (patterns : Patterns) (old new : Seen) (kind : Kind) (name : List ℕ) → IsName name → (a : Assigned) → MadeSo old (AssignMade patterns kind name (Ok a)) new → HasShown new kind name (answered_id a) → Notes old ((kind, name) ∷ []) None new
+pub assign_notes : (patterns : Patterns) (old new : Seen) (kind : Kind) (name : List ℕ) → IsName name → (a : Assigned) → MadeSo old (AssignMade old.base.widths patterns kind name (Ok a)) new → HasShown new kind name (answered_id a) → Notes old ((kind, name) ∷ []) None new
 assign_notes patterns old new kind name is_name a made shown = λ names naming. assigned old new kind name is_name names naming patterns a made shown
 
-pub assign_full : (patterns : Patterns) (old new : Seen) (kind : Kind) (name : List ℕ) → IsName name → (k : Kind) → MadeSo old (AssignMade patterns kind name (Err (Exhausted k))) new → Notes old ((kind, name) ∷ []) (Some k) new
+pub assign_full : (patterns : Patterns) (old new : Seen) (kind : Kind) (name : List ℕ) → IsName name → (k : Kind) → MadeSo old (AssignMade old.base.widths patterns kind name (Err (Exhausted k))) new → Notes old ((kind, name) ∷ []) (Some k) new
 assign_full patterns old new kind name is_name k made = λ names naming. exhausted old new kind name is_name names naming patterns k made
 
 -- where each name is allowed none is filtered
-pub never_filtered : (patterns : Patterns) (old new : Seen) (kind : Kind) (name : List ℕ) → AllowsAll patterns → (k : Kind) → MadeSo old (AssignMade patterns kind name (Err (Filtered k))) new → ⊥
+pub never_filtered : (patterns : Patterns) (old new : Seen) (kind : Kind) (name : List ℕ) → AllowsAll patterns → (k : Kind) → MadeSo old (AssignMade old.base.widths patterns kind name (Err (Filtered k))) new → ⊥
 never_filtered patterns old new kind name all k (list, made, (d, rest, list_is, look, (same, off, none))) = true≢false (sym (all.allows kind name) ∙ off)
 
 -- ---- names one after the other

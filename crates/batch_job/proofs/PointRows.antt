@@ -7,7 +7,9 @@ use Rattle.std.proofs.lemmas.List.Elements.{All-head, All-tail}
 use Rattle.row_key.specs.declared.keys.RowKey.{RowKey}
 use Rattle.row_key.specs.declared.tables.Table.{Table}
 use Rattle.row_key.specs.declared.tables.Table.TheVariants.{Ids, Names, Points}
-use Rattle.row_key.specs.Key.{hour_bytes, key_bytes, pair_bytes}
+use Rattle.row_key.specs.declared.widths.Widths.{Widths}
+use Rattle.row_key.specs.Key.{key_bytes}
+use Rattle.row_key.specs.Made.{three}
 use Rattle.qual_codec.specs.declared.cells.Dot.{Dot}
 use Rattle.qual_codec.specs.CellDots.{IsDots, has_both, items_of, number_bytes, tail_for, tail_of, value_bytes}
 use Rattle.qual_codec.specs.Items.{IsItem, IsLength, fields_of, item_bytes}
@@ -15,10 +17,11 @@ use Rattle.qual_codec.specs.Items.IsLength.{one, two, four, eight}
 use Rattle.tsd_base.specs.declared.kinds.Kind.{Kind}
 use Rattle.tsd_base.specs.declared.kinds.Kind.TheVariants.{Metric, TagKey, TagValue}
 use Rattle.cell_model.specs.declared.row.Row.{Row}
+use Rattle.cell_model.specs.KindWidths.{kind_bytes, width_of}
 use Rattle.cell_model.specs.Machine.{kind_qual}
 use Rattle.cell_model.specs.Sound.{IsSound}
 use Rattle.cell_model.specs.Store.{Store, value_at}
-use Rattle.batch_job.proofs.Lower.{even_items, long_fields}
+use Rattle.batch_job.proofs.Lower.{even_items, key_length, length_bytes, long_fields}
 
 -- ---- a cell of the table of ids reads as no data points
 number_len : (len : ℕ) → IsLength len → (v : ℤ) → length (number_bytes len v) ≡ len
@@ -83,17 +86,23 @@ no_dots TagKey value dots three d = four_bytes 116 103 107 value dots three d
 no_dots TagValue value dots three d = four_bytes 116 103 118 value dots three d
 
 -- ---- a key has more bytes than an id
-long_key : (key : RowKey) → 7 ≤ length (key_bytes key)
-long_key key =
-    let joined = length-append (hour_bytes key.metric key.base) (flat_map pair_bytes key.pairs.items) in
-    let hour : length (hour_bytes key.metric key.base) ≡ 7 = refl in
-    omega (arith, joined, hour)
+long_key : (w : Widths) (key : RowKey) → w.metric + 4 ≤ length (key_bytes w key)
+long_key w key = let l = key_length w key in omega (arith, l)
 
-pub in_points : (s : Store) (row : Row) (qual value : List ℕ) (dots : List Dot) (key : RowKey) → IsSound s → value_at s row qual ≡ Some value → IsDots qual value dots → row.bytes ≡ key_bytes key → row.table ≡ Points
-in_points s row qual value dots key sound is reads bytes = at row.table refl
+-- an id has three bytes, where each kind's have
+three_bytes : (w : Widths) (kind : Kind) (id : ℕ) → w ≡ three → length (kind_bytes w kind id) ≡ 3
+three_bytes w kind id same = length_bytes (width_of w kind) id ∙ ap (λ (x : Widths). width_of x kind) same ∙ at kind
+  where
+    at : (k : Kind) → width_of three k ≡ 3
+    at Metric = refl
+    at TagKey = refl
+    at TagValue = refl
+
+pub in_points : (s : Store) (row : Row) (qual value : List ℕ) (dots : List Dot) (key : RowKey) → IsSound s → value_at s row qual ≡ Some value → IsDots qual value dots → row.bytes ≡ key_bytes s.widths key → s.widths ≡ three → row.table ≡ Points
+in_points s row qual value dots key sound is reads bytes wide = at row.table refl
   where
     long : 7 ≤ length row.bytes
-    long = let l = long_key key in let e = ap length bytes in omega (arith, l, e)
+    long = let l = long_key s.widths key in let e = ap length bytes in let m = ap (λ (w : Widths). w.metric) wide in omega (arith, l, e, m)
 
     as_row : (t : Table) → row.table ≡ t → row ≡ record { table = t; bytes = row.bytes }
     as_row t e = λ i. record { table = e i; bytes = row.bytes }
@@ -105,9 +114,9 @@ in_points s row qual value dots key sound is reads bytes = at row.table refl
     at Points e = e
     at Ids e =
         let f = sound.forward row.bytes qual value not_counter (ap (λ (r : Row). value_at s r qual) (sym (as_row Ids e)) ∙ is) in
-        let three : length value ≡ 3 = ap length f.value_is in
-        absurd (no_dots f.kind value dots three (subst (λ q. IsDots q value dots) f.is_kind reads))
+        let bytes_are : length value ≡ 3 = ap length f.value_is ∙ three_bytes s.widths f.kind f.id wide in
+        absurd (no_dots f.kind value dots bytes_are (subst (λ q. IsDots q value dots) f.is_kind reads))
     at Names e =
         let r = sound.reverse row.bytes qual value (ap (λ (r : Row). value_at s r qual) (sym (as_row Names e)) ∙ is) in
-        let three : length row.bytes ≡ 3 = ap length r.bytes_are in
-        absurd (omega (arith, three, long))
+        let bytes_are : length row.bytes ≡ 3 = ap length r.bytes_are ∙ three_bytes s.widths r.kind r.id wide in
+        absurd (omega (arith, bytes_are, long))

@@ -17,6 +17,7 @@ use Rattle.cell_model.specs.IdRows.{id_number, id_of, name_row, AllResolved}
 use Rattle.cell_laws.specs.Laws.{IsCompaction}
 use Rattle.cell_model.specs.Layout.{names_of}
 use Rattle.cell_model.specs.Lawful.{IsLawful}
+use Rattle.cell_model.specs.KindWidths.{Widths}
 use Rattle.cell_model.specs.Machine.{kind_qual}
 use Rattle.cell_model.specs.Seen.{Seen, Fits}
 use Rattle.cell_model.specs.Store.{Store, value_at}
@@ -75,7 +76,7 @@ module _ (c : Admission) where
   no_id : (h : History) (r : Placed) (kind : Kind) (name : List ℕ) → IsLawful (Then h r.entry) → HasId h kind name → DidLook r kind name None → ⊥
   no_id h r kind name l has d = not_Some has.0 (sym has.1 ∙ ap (option_and_then id_number) (looked h r kind name None l.2 d))
 
-  part_reads : (h : History) (kind : Kind) (name : List ℕ) {part : List Placed} → ForName c kind name part → HasId h kind name → IsLawful (follow h part) → AreReads part
+  part_reads : {w : Widths} (h : History) (kind : Kind) (name : List ℕ) {part : List Placed} → ForName w c kind name part → HasId h kind name → IsLawful (follow h part) → AreReads part
   part_reads h kind name none has l = reads_nil
   part_reads h kind name (look {r} shown d) has l = reads_one r (name_row name) d.did.0
   part_reads h kind name (full {r} {b} m d x) has l = absurd (no_id h r kind name (lawful_front (Then h r.entry) (b ∷ []) l) has d)
@@ -83,7 +84,7 @@ module _ (c : Admission) where
   part_reads h kind name (reverse {r} {b} {n} id m d x y) has l = absurd (no_id h r kind name (lawful_front (Then h r.entry) (b ∷ n ∷ []) l) has d)
   part_reads h kind name (forward {r} {b} {n} {f} id reply m d x y z) has l = absurd (no_id h r kind name (lawful_front (Then h r.entry) (b ∷ n ∷ f ∷ []) l) has d)
 
-  names_read : (h : History) {ns : List (Kind × List ℕ)} {list : List Placed} → ForNames c ns list → AllResolved h ns → IsLawful (follow h list) → AreReads list
+  names_read : {w : Widths} (h : History) {ns : List (Kind × List ℕ)} {list : List Placed} → ForNames w c ns list → AllResolved h ns → IsLawful (follow h list) → AreReads list
   names_read h nil res l = reads_nil
   names_read h (more {kind} {name} {names} {part} {list} one rest) res l =
       let lawful : IsLawful (follow (follow h part) list) = subst IsLawful (follow-append h part list) l in
@@ -101,7 +102,7 @@ module _ (old new : Seen) (c : Admission) (point : DataPoint) (resolved : AreRes
     have : AllResolved (first old.length h) (names_of point)
     have = resolved.resolved h lawful w.fitted
 
-    refused : (ForNames c (names_of point) list) → AreReads list
+    refused : {w : Widths} → ForNames w c (names_of point) list → AreReads list
     refused entries = names_read c (first old.length h) entries have w.lawful
 
     module _ (stored : Stored) (so : PutSo c point (first new.length h) list stored) where

@@ -60,7 +60,7 @@ module _ (h : History) (x : Entry) (row : Row) (qual : List ℕ) where
     Ids_not : Ids ≡ Points → ⊥
     Ids_not e = cc
 
-    claims : (t : Table) (bytes q v : List ℕ) → ClaimBasis (Had h) x.caller t bytes q v → t ≡ Points → ⊥
+    claims : (t : Table) (bytes q v : List ℕ) → ClaimBasis (store_after h).widths (Had h) x.caller t bytes q v → t ≡ Points → ⊥
     claims Points bytes q v b e = b
     claims Ids bytes q v b e = Ids_not e
     claims Names bytes q v b e = names_not e

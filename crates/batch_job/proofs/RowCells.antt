@@ -4,7 +4,7 @@ use Rattle.std.specs.Prelude.{Contains, filter, nat_eq, if◌then◌else◌}
 use Rattle.std.specs.Int.{w16, w32, byte_at, to_be_bytes}
 use Rattle.std.specs.List.{AllByRecursion}
 use Rattle.std.specs.Cmp.{tied_itself}
-use Rattle.std.specs.FinMap.{entries, entries_sorted, nat_cmp-IsAntisymmetric}
+use Rattle.std.specs.FinMap.{entries_sorted, nat_cmp-IsAntisymmetric}
 use Rattle.std.specs.FinMap.Entries.{below_all, is_sorted}
 use Rattle.std.specs.Ordering.{eq_by_cmp, nat_cmp, ordering_then}
 use Rattle.std.specs.declared.cmp.Ordering.{Ordering}
@@ -22,7 +22,7 @@ use Rattle.cell_model.specs.declared.events.Content.{Content}
 use Rattle.cell_model.specs.declared.events.Place.{Place}
 use Rattle.list_lemmas.specs.BytesOrder.{bytes_cmp}
 use Rattle.cell_model.specs.PlaceOrder.{place_cmp, row_cmp}
-use Rattle.cell_model.specs.Store.{Store, cell_of, cells_of}
+use Rattle.cell_model.specs.Store.{Store, entries, cell_of, cells_of}
 use Rattle.qual_codec.specs.Merge.{AreDots, values_at}
 use Rattle.batch_job.proofs.FoundCells.{cell_of_dot}
 use Rattle.batch_job.proofs.MapLemmas.{first, second, less}
@@ -76,7 +76,7 @@ rising row (e ∷ es) sorted =
     ] refl
 
 pub cells_rise : (s : Store) (row : Row) → Rise (cells_of s row)
-cells_rise s row = rising row (entries s) (entries_sorted s)
+cells_rise s row = rising row (entries s) (entries_sorted s.cells)
 
 -- ---- cells of one data point
 pub record OneDot (c : Cell) : Type 0 where

@@ -5,7 +5,7 @@ use Rattle.tsd_base.specs.declared.kinds.Kind.TheVariants.{Metric, TagKey, TagVa
 use Rattle.tsd_base.specs.Faults.{kind_text}
 use Rattle.tsd_base.specs.TagList.{Pair}
 use Rattle.cell_model.specs.Layout.{names_of}
-use Rattle.cell_model.specs.Machine.{MOST_IDS}
+use Rattle.row_key.specs.declared.ids.TheConstants.{MOST_IDS}
 pub use Rattle.batch_job.specs.PendingIds.{Names, id_in, no_names}
 
 -- the names of a kind

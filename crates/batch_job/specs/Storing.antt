@@ -1,7 +1,7 @@
 -- What one caller that steps alone did in a store that began empty.
 use Rattle.std.specs.Prelude.{◌≡◌, ◌↔◌, ℕ, true, List, length, Contains, Option, None, Some, Ok, Err}
 use Rattle.std.specs.List.{AllByRecursion, flat_map}
-use Rattle.std.specs.FinMap.{empty}
+use Rattle.row_key.specs.Made.{three}
 use Rattle.tsd_base.specs.Alphabet.{IsName}
 use Rattle.tsd_base.specs.declared.kinds.Kind.{Kind}
 use Rattle.tsd_base.specs.Points.{DataPoint}
@@ -15,15 +15,16 @@ use Rattle.cell_model.specs.Machine.{counter_of}
 use Rattle.cell_model.specs.declared.events.Step.{Step}
 use Rattle.cell_model.specs.declared.events.Step.TheVariants.{PutPoint}
 use Rattle.cell_model.specs.Seen.{Seen, InEach, IsPossible}
+use Rattle.cell_model.specs.Store.{no_cells}
 use Rattle.batch_job.specs.NotedIds.{Names, id_in, list_of, no_names, noted_all}
 
 -- so it is of each history that fits what was seen, as far as it was seen
 abbrev pub Holds : Seen → (History → Type 0) → Type 0
 Holds s P = InEach s (λ h. P (first s.length h))
 
--- the store began empty, and nobody else steps
+-- the store began empty, with ids of three bytes, and nobody else steps
 pub record IsAlone (s : Seen) : Type 0 where
-  pub base : s.base ≡ empty
+  pub base : s.base ≡ no_cells three
   pub alone : s.alone ≡ true
   pub possible : IsPossible s
 

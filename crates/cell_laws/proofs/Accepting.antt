@@ -30,7 +30,10 @@ use Rattle.cell_model.specs.Layout.{base_time}
 use Rattle.cell_laws.proofs.Beginnings.{Begins}
 use Rattle.cell_model.specs.History.History.{Base, Then}
 use Rattle.cell_laws.proofs.Beginnings.Begins.{whole, longer}
-use Rattle.cell_model.specs.IdRows.{id_row, id_bytes, id_of, name_of}
+use Rattle.row_key.specs.Key.{IsKey, key_bytes}
+use Rattle.cell_model.specs.KindWidths.{Widths, kind_bytes}
+use Rattle.cell_model.specs.IdRows.{id_row, id_of, name_of}
+use Rattle.cell_laws.proofs.SameWidths.{carry, carry_back}
 use Rattle.cell_model.specs.Lawful.{IsLawful, MayStep, HadCell, Wrote}
 use Rattle.cell_laws.specs.Laws.{Kept, StandingWasAccepted, AcceptedTimesStand, StandingIsAccepted}
 use Rattle.cell_model.specs.Readings.{Reading, reading_of, Meets, point_row, IsNamed, Named, DotReads, CellReads, IsStanding, IsPut, AcceptedBy, Accepted}
@@ -41,14 +44,15 @@ use Rattle.row_key.proofs.CallerLemmas.{one_key}
 use Rattle.list_lemmas.proofs.BoolTests.{not_Some, same_Some}
 use Rattle.cell_laws.proofs.Keeps.{stood, lawful_begins}
 use Rattle.cell_laws.proofs.Entries.{entry_at-more, entry_at-last}
-use Rattle.cell_laws.proofs.Ids.{value_keeps, reverse_uid, trans_begins}
+use Rattle.cell_laws.proofs.Ids.{base_begins, value_keeps, reverse_uid, trans_begins}
 use Rattle.cell_laws.proofs.LawsHold.{names_back}
 use Rattle.cell_laws.proofs.Known.{had_cell}
 use Rattle.cell_laws.proofs.Keep.{keep, cell_split}
 use Rattle.cell_laws.proofs.Written.{moved, each_reads, Basis, metric_resolves, key_resolves, value_resolves}
 
 pub name_keeps : {h0 h : History} (kind : Kind) (id : ℕ) (name : List ℕ) → Begins h0 h → IsLawful h → name_of h0 kind id ≡ Some name → name_of h kind id ≡ Some name
-name_keeps kind id name b l is = value_keeps (id_row id) (kind_qual kind) name b l (reverse_uid (id_bytes id) (kind_qual kind)) is
+name_keeps {h0} {h} kind id name b l is =
+    carry b (λ (w : Widths). value_at (store_after h) (id_row w kind id) (kind_qual kind) ≡ Some name) (value_keeps (id_row (store_after h0).widths kind id) (kind_qual kind) name b l (reverse_uid (kind_bytes (store_after h0).widths kind id) (kind_qual kind)) is)
 
 -- names that are found by the one function are found by the other
 abbrev pub Finds : (Kind → ℕ → Option (List ℕ)) → (Kind → ℕ → Option (List ℕ)) → Type 0
@@ -58,7 +62,7 @@ named_by : {names more : Kind → ℕ → Option (List ℕ)} (p : ℕ × ℕ) (t
 named_by p t f n = (f TagKey p.0 t.0 n.0, f TagValue p.1 t.1 n.1)
 
 -- a reading is one by the other names too
-pub cell_by : {names more : Kind → ℕ → Option (List ℕ)} (row qual value : List ℕ) (r : Reading) → Finds names more → CellReads names row qual value r → CellReads more row qual value r
+pub cell_by : {w : Widths} {names more : Kind → ℕ → Option (List ℕ)} (row qual value : List ℕ) (r : Reading) → Finds names more → CellReads w names row qual value r → CellReads w more row qual value r
 cell_by row qual value r f c =
     let d = c.dot_reads in
     let t = d.tags_are in
@@ -91,7 +95,7 @@ pub record PutReads (h : History) (point : DataPoint) (row : Row) (qual value : 
   pub len : ℕ
   pub in_points : row.table ≡ Points
   pub reads : IsDots qual value (put_dot point len ∷ [])
-  pub dot_reads : DotReads (name_of h) row.bytes (put_dot point len) (reading_of point)
+  pub dot_reads : DotReads (store_after h).widths (name_of h) row.bytes (put_dot point len) (reading_of point)
   pub base : dot_reads.key.base ≡ base_time point.time
 
 pub put_reads : (before h : History) (point : DataPoint) (row : Row) (qual value : List ℕ) → Begins before h → IsLawful h → Basis before point row qual value → PutReads h point row qual value
@@ -115,8 +119,8 @@ put_reads before h point row qual value b l k =
       base = base;
       dot_reads = record {
         key = lay.key;
-        is_key = has.is_key;
-        row_is = lay.row_is;
+        is_key = carry b (λ (w : Widths). IsKey w lay.key) has.is_key;
+        row_is = carry b (λ (w : Widths). row.bytes ≡ key_bytes w lay.key) lay.row_is;
         metric_is = back Metric point.metric _ _ m.is_name m.id_is (sym has.metric);
         tags_are = record {
           rising = k.is_point.tags.rising;
@@ -144,9 +148,9 @@ tags_once names ps qs a b same x y = same_rising (λ s t. bytes_cmp s.0 t.0 ≡ 
     (λ t c. let p = y.back t c in let w = x.each p.0 (subst (λ (l : List (ℕ × ℕ)). Contains l p.0) (sym same) p.1) in subst (Contains a) (tag_same names p.0 w.0 t w.2 p.2) w.1)
 
 -- a data point of a row has one reading
-reading_once : (names : Kind → ℕ → Option (List ℕ)) (row : List ℕ) (d : Dot) (r s : Reading) → DotReads names row d r → DotReads names row d s → r ≡ s
-reading_once names row d r s x y =
-    let k : x.key ≡ y.key = one_key x.key y.key x.is_key y.is_key (sym x.row_is ∙ y.row_is) in
+reading_once : (w : Widths) (names : Kind → ℕ → Option (List ℕ)) (row : List ℕ) (d : Dot) (r s : Reading) → DotReads w names row d r → DotReads w names row d s → r ≡ s
+reading_once w names row d r s x y =
+    let k : x.key ≡ y.key = one_key w x.key y.key x.is_key y.is_key (sym x.row_is ∙ y.row_is) in
     let metric = same_Some r.metric s.metric (sym x.metric_is ∙ ap (λ (z : RowKey). names Metric z.metric) k ∙ y.metric_is) in
     let tags = tags_once names x.key.pairs.items y.key.pairs.items r.tags s.tags (ap (λ (z : RowKey). z.pairs.items) k) x.tags_are y.tags_are in
     let time = x.time_is ∙ ap (λ (z : RowKey). z.base * 1000 + d.item.offset) k ∙ sym y.time_is in
@@ -164,15 +168,15 @@ only_dot x d c = at (split x d [] c)
     at (inl same) = same
     at (inr none) = absurd (not_in d none)
 
-wrote_accepted : (h0 h : History) (e : Entry) (step : Step) → Begins h0 h → IsLawful h → (row : Row) (q v : List ℕ) (r : Reading) → ((a b : List ℕ) → HadCell h0 row a b → CellReads (name_of h) row.bytes a b r → AcceptedBy (name_of h) h0 r)
-    → (IsPut step r → IsPut e.step r) → Wrote row q v step → MayStep h0 e.caller step → CellReads (name_of h) row.bytes q v r → AcceptedBy (name_of h) (Then h0 e) r
+wrote_accepted : (h0 h : History) (e : Entry) (step : Step) → Begins h0 h → IsLawful h → (row : Row) (q v : List ℕ) (r : Reading) → ((a b : List ℕ) → HadCell h0 row a b → CellReads (store_after h).widths (name_of h) row.bytes a b r → AcceptedBy (name_of h) h0 r)
+    → (IsPut step r → IsPut e.step r) → Wrote row q v step → MayStep h0 e.caller step → CellReads (store_after h).widths (name_of h) row.bytes q v r → AcceptedBy (name_of h) (Then h0 e) r
 wrote_accepted h0 h e (PutPoint point p qual value) b l row q v r go put w may c =
     let x = put_reads h0 h point p qual value b l may in
     let dot = put_dot point x.len in
     let reads : IsDots q v (dot ∷ []) = moved qual value q v (dot ∷ []) w.1 w.2 x.reads in
     let same : dot ≡ c.dot = only_dot dot c.dot (subst (λ (ds : List Dot). Contains ds c.dot) (one_dots q v c.dots (dot ∷ []) c.reads reads) c.among) in
-    let here : DotReads (name_of h) row.bytes c.dot (reading_of point) = subst (λ (y : Row). DotReads (name_of h) y.bytes c.dot (reading_of point)) w.0 (subst (λ (d : Dot). DotReads (name_of h) p.bytes d (reading_of point)) same x.dot_reads) in
-    inr (e, (len h0 + 1, entry_at-last h0 e), put (reading_once (name_of h) row.bytes c.dot (reading_of point) r here c.dot_reads))
+    let here : DotReads (store_after h).widths (name_of h) row.bytes c.dot (reading_of point) = subst (λ (y : Row). DotReads (store_after h).widths (name_of h) y.bytes c.dot (reading_of point)) w.0 (subst (λ (d : Dot). DotReads (store_after h).widths (name_of h) p.bytes d (reading_of point)) same x.dot_reads) in
+    inr (e, (len h0 + 1, entry_at-last h0 e), put (reading_once (store_after h).widths (name_of h) row.bytes c.dot (reading_of point) r here c.dot_reads))
 wrote_accepted h0 h e (PutMerged p qual value) b l row q v r go put w may c =
     let reads : IsDots q v may.dots = moved qual value q v may.dots w.1 w.2 may.reads in
     let had = may.each c.dot (subst (λ (ds : List Dot). Contains ds c.dot) (one_dots q v c.dots may.dots c.reads reads) c.among) in
@@ -185,9 +189,9 @@ wrote_accepted h0 h e (Claim p x y) b l row q v r go put w may c = absurd w
 wrote_accepted h0 h e (DropCells p which) b l row q v r go put w may c = absurd w
 
 -- what a cell that was there reads was accepted
-pub had_accepted : (h0 h : History) → Begins h0 h → IsLawful h → (row : Row) (q v : List ℕ) (r : Reading) → row.table ≡ Points → HadCell h0 row q v → CellReads (name_of h) row.bytes q v r → AcceptedBy (name_of h) h0 r
+pub had_accepted : (h0 h : History) → Begins h0 h → IsLawful h → (row : Row) (q v : List ℕ) (r : Reading) → row.table ≡ Points → HadCell h0 row q v → CellReads (store_after h).widths (name_of h) row.bytes q v r → AcceptedBy (name_of h) h0 r
 had_accepted (Base base) h b l row q v r t (inl based) c =
-    inl (record { row = row.bytes; qual = q; value = v; stands = ap (λ (x : Row). value_at base x q) (sym (points_row row t)) ∙ based; reads = c })
+    inl (record { row = row.bytes; qual = q; value = v; stands = ap (λ (x : Row). value_at base x q) (sym (points_row row t)) ∙ based; reads = carry_back b (λ (w : Widths). CellReads w (name_of h) row.bytes q v r) c })
 had_accepted (Base base) h b l row q v r t (inr w) c = absurd (not_Some w.0 (sym w.1.1))
 had_accepted (Then h0 e) h b l row q v r t had c =
     let before = trans_begins (longer whole) b in
@@ -205,7 +209,7 @@ record Source (h : History) (r : Reading) : Type 0 where
   qual : List ℕ
   value : List ℕ
   had : HadCell h (point_row row) qual value
-  reads : CellReads (name_of h) row qual value r
+  reads : CellReads (store_after h).widths (name_of h) row qual value r
 
 put_source : (h : History) (r : Reading) (e : Entry) (step : Step) → e.step ≡ step → IsLawful h → Had h e → IsPut step r → (before : History) → Begins before h → MayStep before e.caller step → Source h r
 put_source h r e (PutPoint point row qual value) is l had put before b may =
@@ -216,7 +220,7 @@ put_source h r e (PutPoint point row qual value) is l had put before b may =
       qual = qual;
       value = value;
       had = inr (e, had, subst (λ (s : Step). Wrote (point_row row.bytes) qual value s) (sym is) (same, refl, refl));
-      reads = record { dots = put_dot point x.len ∷ []; reads = x.reads; dot = put_dot point x.len; among = here (put_dot point x.len) []; dot_reads = subst (DotReads (name_of h) row.bytes (put_dot point x.len)) put x.dot_reads };
+      reads = record { dots = put_dot point x.len ∷ []; reads = x.reads; dot = put_dot point x.len; among = here (put_dot point x.len) []; dot_reads = subst (DotReads (store_after h).widths (name_of h) row.bytes (put_dot point x.len)) put x.dot_reads };
     }
 put_source h r e Open is l had put before b may = absurd put
 put_source h r e (Read row) is l had put before b may = absurd put
@@ -227,7 +231,7 @@ put_source h r e (PutMerged p x y) is l had put before b may = absurd put
 put_source h r e (DropCells p which) is l had put before b may = absurd put
 
 source : (h : History) (r : Reading) → IsLawful h → Accepted h r → Source h r
-source h r l (inl based) = record { row = based.row; qual = based.qual; value = based.value; had = inl based.stands; reads = based.reads }
+source h r l (inl based) = record { row = based.row; qual = based.qual; value = based.value; had = inl based.stands; reads = carry (base_begins h) (λ (w : Widths). CellReads w (name_of h) based.row based.qual based.value r) based.reads }
 source h r l (inr w) =
     let st = stood h w.1.0 w.0 w.1.1 in
     put_source h r w.0 w.0.step refl l w.1 w.2 st.before (trans_begins (longer whole) st.begins) (lawful_begins st.begins l).1.may

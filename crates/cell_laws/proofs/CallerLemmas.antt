@@ -20,6 +20,9 @@ use Rattle.cell_laws.proofs.Written as written
 -- ---- the store without a cell
 -- no cell is in it, and it is sound
 pub use Rattle.cell_laws.proofs.EmptyStore.{no_cell, nothing, empty_base}
+-- ---- widths
+-- they are those of the base and of each beginning, and what holds with the ones holds with the others
+pub use Rattle.cell_laws.proofs.SameWidths.{same_widths, base_widths, carry, carry_back, seen_widths, seen_carry, seen_back}
 -- ---- histories and their entries
 -- a history that begins another
 pub use Rattle.cell_laws.proofs.Beginnings.{Begins}

@@ -1,13 +1,14 @@
 -- A row that is compacted twice: its history is lawful, and one cell is left.
 use Rattle.std.proofs.Common.{◌≡◌, ◌≢◌, ◌⊎◌, inl, inr, ℕ, zero, suc, ◌%◌, ◌≤◌, ◌<◌, true, false, List, [], ◌∷◌, length, refl, ap, subst, ◌∙◌, arith, rules}
 use Rattle.std.specs.Prelude.{◌++◌, pos, neg_ℤ, Some, option_and_then, Contains, All, AllPairs, FitsSigned}
-use Rattle.std.specs.FinMap.{empty}
+use Rattle.row_key.specs.Made.{three}
 use Rattle.tsd_base.specs.declared.kinds.Kind.{Kind}
 use Rattle.tsd_base.specs.declared.kinds.Kind.TheVariants.{Metric, TagKey, TagValue}
 use Rattle.tsd_base.specs.Alphabet.{IsName}
 use Rattle.tsd_base.specs.TagList.{Pair, IsTags}
 use Rattle.tsd_base.specs.Points.{DataPoint}
-use Rattle.row_key.specs.Key.{IsId, IsKey}
+use Rattle.row_key.specs.Key.{IsId, IsKey, id_bytes}
+use Rattle.cell_model.specs.Store.{no_cells}
 use Rattle.std.specs.declared.cmp.Ordering.TheVariants.{Less}
 use Rattle.list_lemmas.specs.BytesOrder.{bytes_cmp}
 use Rattle.std.specs.List.{flat_map}
@@ -26,7 +27,7 @@ use Rattle.cell_model.specs.declared.events.Reply.TheVariants.{Opened, BumpReply
 use Rattle.cell_model.specs.Machine.{kind_qual}
 use Rattle.cell_model.specs.History.{History}
 use Rattle.cell_model.specs.History.History.{Base, Then}
-use Rattle.cell_model.specs.IdRows.{id_number, id_bytes, name_row, id_row, id_of}
+use Rattle.cell_model.specs.IdRows.{id_number, name_row, id_row, id_of}
 use Rattle.cell_model.specs.Layout.{IsPoint, HasKey, names_of}
 use Rattle.cell_model.specs.Lawful.{IsLawful, PointBasis, HadCell}
 use Rattle.cell_laws.specs.Examples.{did, name_a, series_row, point, at_start, at_minute, at_quarter, at_second, three_qual, three_value, four_qual, four_value, compacted, OneCellIsLeft}
@@ -80,9 +81,9 @@ tags : IsTags ((104 ∷ [], name_a) ∷ [])
 tags = record { some = omega arith; most = omega arith; rising = pairs_none (λ (s t : Pair). bytes_cmp s.0 t.0 ≡ Less) (104 ∷ [], name_a); names = ((name_h, is_name), tt) }
 
 abbrev AreIds : ℕ × ℕ → Type 0
-AreIds i = IsId i.0 × IsId i.1
+AreIds i = IsId 3 i.0 × IsId 3 i.1
 
-is_key : IsKey (record { metric = 1; base = 1356998400; pairs = record { items = (1, 1) ∷ [] } })
+is_key : IsKey three (record { metric = 1; base = 1356998400; pairs = record { items = (1, 1) ∷ [] } })
 is_key = record {
   metric = (omega arith, omega arith);
   base = omega arith;
@@ -99,14 +100,14 @@ ones kind name = 1
 abbrev Has : History → Kind → List ℕ → ℕ → Type 0
 Has h kind name id = id_of h kind name ≡ Some id
 
-id_after : (h : History) (kind : Kind) (name : List ℕ) → IsFresh h → value_in (sheet h) (name_row name) (kind_qual kind) ≡ Some (id_bytes 1) → id_of h kind name ≡ Some 1
+id_after : (h : History) (kind : Kind) (name : List ℕ) → IsFresh h → value_in (sheet h) (name_row name) (kind_qual kind) ≡ Some (id_bytes 3 1) → id_of h kind name ≡ Some 1
 id_after h kind name fresh is = ap (option_and_then id_number) (value_after h (name_row name) (kind_qual kind) fresh ∙ is)
 
 abbrev Names : List (Kind × List ℕ)
 Names = (Metric, 109 ∷ []) ∷ (TagKey, 104 ∷ []) ∷ (TagValue, name_a) ∷ []
 
-resolved : (h : History) → IsFresh h → value_in (sheet h) (name_row (109 ∷ [])) (kind_qual Metric) ≡ Some (id_bytes 1) → value_in (sheet h) (name_row (104 ∷ [])) (kind_qual TagKey) ≡ Some (id_bytes 1)
-    → value_in (sheet h) (name_row name_a) (kind_qual TagValue) ≡ Some (id_bytes 1) → (x : Kind × List ℕ) → Contains Names x → Has h x.0 x.1 1
+resolved : (h : History) → IsFresh h → value_in (sheet h) (name_row (109 ∷ [])) (kind_qual Metric) ≡ Some (id_bytes 3 1) → value_in (sheet h) (name_row (104 ∷ [])) (kind_qual TagKey) ≡ Some (id_bytes 3 1)
+    → value_in (sheet h) (name_row name_a) (kind_qual TagValue) ≡ Some (id_bytes 3 1) → (x : Kind × List ℕ) → Contains Names x → Has h x.0 x.1 1
 resolved h fresh m k v = in_three (λ (x : Kind × List ℕ). Has h x.0 x.1 1) (Metric, 109 ∷ []) (TagKey, 104 ∷ []) (TagValue, name_a) (id_after h Metric (109 ∷ []) fresh m) (id_after h TagKey (104 ∷ []) fresh k) (id_after h TagValue name_a fresh v)
 
 abbrev FitsDot : Dot → Type 0
@@ -134,7 +135,7 @@ least_two _ eight f = omega arith
 is_start : IsPoint (point 1356998400000 false (pos 42))
 is_start = record { metric = name_m; tags = tags; timed = record { most = omega arith; whole = λ e. refl } }
 
-key_start : HasKey ones (point 1356998400000 false (pos 42)) (record { metric = 1; base = 1356998400; pairs = record { items = (1, 1) ∷ [] } })
+key_start : HasKey three ones (point 1356998400000 false (pos 42)) (record { metric = 1; base = 1356998400; pairs = record { items = (1, 1) ∷ [] } })
 key_start = record {
   is_key = is_key;
   metric = refl;
@@ -162,7 +163,7 @@ short_start = record { len = one; fits = fits_start; bytes_are = refl; least = �
 is_minute : IsPoint (point 1356998460000 false (pos 300))
 is_minute = record { metric = name_m; tags = tags; timed = record { most = omega arith; whole = λ e. refl } }
 
-key_minute : HasKey ones (point 1356998460000 false (pos 300)) (record { metric = 1; base = 1356998400; pairs = record { items = (1, 1) ∷ [] } })
+key_minute : HasKey three ones (point 1356998460000 false (pos 300)) (record { metric = 1; base = 1356998400; pairs = record { items = (1, 1) ∷ [] } })
 key_minute = record {
   is_key = is_key;
   metric = refl;
@@ -190,7 +191,7 @@ short_minute = record { len = two; fits = fits_minute; bytes_are = refl; least =
 is_quarter : IsPoint (point 1356998400250 true (neg_ℤ (pos 1)))
 is_quarter = record { metric = name_m; tags = tags; timed = record { most = omega arith; whole = λ e. cc } }
 
-key_quarter : HasKey ones (point 1356998400250 true (neg_ℤ (pos 1))) (record { metric = 1; base = 1356998400; pairs = record { items = (1, 1) ∷ [] } })
+key_quarter : HasKey three ones (point 1356998400250 true (neg_ℤ (pos 1))) (record { metric = 1; base = 1356998400; pairs = record { items = (1, 1) ∷ [] } })
 key_quarter = record {
   is_key = is_key;
   metric = refl;
@@ -218,7 +219,7 @@ short_quarter = record { len = one; fits = fits_quarter; bytes_are = refl; least
 is_second : IsPoint (point 1356998401000 false (pos 7))
 is_second = record { metric = name_m; tags = tags; timed = record { most = omega arith; whole = λ e. refl } }
 
-key_second : HasKey ones (point 1356998401000 false (pos 7)) (record { metric = 1; base = 1356998400; pairs = record { items = (1, 1) ∷ [] } })
+key_second : HasKey three ones (point 1356998401000 false (pos 7)) (record { metric = 1; base = 1356998400; pairs = record { items = (1, 1) ∷ [] } })
 key_second = record {
   is_key = is_key;
   metric = refl;
@@ -295,8 +296,8 @@ longer : (q r : List ℕ) → length q < length r → q ≢ r
 longer q r lt e = let same : length q ≡ length r = ap length e in omega (arith, lt, same)
 
 -- what a put of a point stands on
-basis : (h : History) → IsFresh h → (p : DataPoint) (q v : List ℕ) → IsPoint p → ((x : Kind × List ℕ) → Contains (names_of p) x → Has h x.0 x.1 1) → HasKey ones p (record { metric = 1; base = 1356998400; pairs = record { items = (1, 1) ∷ [] } })
-    → IsDots q v (dot_of (p.time % HOUR_MILLIS) p.fine p.value (length v) ∷ []) → IsShortest p.value v → PointBasis (Has h) p series_row q v
+basis : (h : History) → IsFresh h → (p : DataPoint) (q v : List ℕ) → IsPoint p → ((x : Kind × List ℕ) → Contains (names_of p) x → Has h x.0 x.1 1) → HasKey three ones p (record { metric = 1; base = 1356998400; pairs = record { items = (1, 1) ∷ [] } })
+    → IsDots q v (dot_of (p.time % HOUR_MILLIS) p.fine p.value (length v) ∷ []) → IsShortest p.value v → PointBasis three (Has h) p series_row q v
 basis h fresh p q v ok names k dots short = record {
   is_point = ok;
   in_points = refl;
@@ -308,34 +309,34 @@ basis h fresh p q v ok names k dots short = record {
 -- ---- the history
 
 abbrev g1 : History
-g1 = Then (Base empty) (did 1 Open (Opened 1))
+g1 = Then (Base (no_cells three)) (did 1 Open (Opened 1))
 
 abbrev g2 : History
 g2 = Then g1 (did 1 (Bump Metric) (BumpReply (Given 1)))
 
 abbrev g3 : History
-g3 = Then g2 (did 1 (Claim (id_row 1) (kind_qual Metric) (109 ∷ [])) (ClaimReply Done))
+g3 = Then g2 (did 1 (Claim (id_row three Metric 1) (kind_qual Metric) (109 ∷ [])) (ClaimReply Done))
 
 abbrev g4 : History
-g4 = Then g3 (did 1 (Claim (name_row (109 ∷ [])) (kind_qual Metric) (id_bytes 1)) (ClaimReply Done))
+g4 = Then g3 (did 1 (Claim (name_row (109 ∷ [])) (kind_qual Metric) (id_bytes 3 1)) (ClaimReply Done))
 
 abbrev g5 : History
 g5 = Then g4 (did 1 (Bump TagKey) (BumpReply (Given 1)))
 
 abbrev g6 : History
-g6 = Then g5 (did 1 (Claim (id_row 1) (kind_qual TagKey) (104 ∷ [])) (ClaimReply Done))
+g6 = Then g5 (did 1 (Claim (id_row three TagKey 1) (kind_qual TagKey) (104 ∷ [])) (ClaimReply Done))
 
 abbrev g7 : History
-g7 = Then g6 (did 1 (Claim (name_row (104 ∷ [])) (kind_qual TagKey) (id_bytes 1)) (ClaimReply Done))
+g7 = Then g6 (did 1 (Claim (name_row (104 ∷ [])) (kind_qual TagKey) (id_bytes 3 1)) (ClaimReply Done))
 
 abbrev g8 : History
 g8 = Then g7 (did 1 (Bump TagValue) (BumpReply (Given 1)))
 
 abbrev g9 : History
-g9 = Then g8 (did 1 (Claim (id_row 1) (kind_qual TagValue) name_a) (ClaimReply Done))
+g9 = Then g8 (did 1 (Claim (id_row three TagValue 1) (kind_qual TagValue) name_a) (ClaimReply Done))
 
 abbrev g10 : History
-g10 = Then g9 (did 1 (Claim (name_row name_a) (kind_qual TagValue) (id_bytes 1)) (ClaimReply Done))
+g10 = Then g9 (did 1 (Claim (name_row name_a) (kind_qual TagValue) (id_bytes 3 1)) (ClaimReply Done))
 
 abbrev g11 : History
 g11 = Then g10 (did 1 (PutPoint (point 1356998400000 false (pos 42)) series_row at_start (42 ∷ [])) Written)
@@ -362,34 +363,34 @@ abbrev g18 : History
 g18 = Then g17 (did 1 (DropCells series_row ((three_qual, 14) ∷ (at_second, 16) ∷ [])) (Removed 2))
 
 m1 : IsLawful g1
-m1 = more (Base empty) (did 1 Open (Opened 1)) empty_base refl tt refl refl
+m1 = more (Base (no_cells three)) (did 1 Open (Opened 1)) (empty_base three) refl tt refl refl
 
 m2 : IsLawful g2
 m2 = more g1 (did 1 (Bump Metric) (BumpReply (Given 1))) m1 refl (1, refl) tt refl
 
 m3 : IsLawful g3
-m3 = more g2 (did 1 (Claim (id_row 1) (kind_qual Metric) (109 ∷ [])) (ClaimReply Done)) m2 refl (1, refl) (record { kind = Metric; number = 1; is_kind = refl; is_id = refl; is_name = name_m; bumped = (2, refl) }) refl
+m3 = more g2 (did 1 (Claim (id_row three Metric 1) (kind_qual Metric) (109 ∷ [])) (ClaimReply Done)) m2 refl (1, refl) (record { kind = Metric; number = 1; is_kind = refl; is_id = refl; is_name = name_m; bumped = (2, refl) }) refl
 
 m4 : IsLawful g4
-m4 = more g3 (did 1 (Claim (name_row (109 ∷ [])) (kind_qual Metric) (id_bytes 1)) (ClaimReply Done)) m3 refl (1, refl) (record { who = 1; reversed = (3, refl) }) refl
+m4 = more g3 (did 1 (Claim (name_row (109 ∷ [])) (kind_qual Metric) (id_bytes 3 1)) (ClaimReply Done)) m3 refl (1, refl) (record { who = 1; reversed = (3, refl) }) refl
 
 m5 : IsLawful g5
 m5 = more g4 (did 1 (Bump TagKey) (BumpReply (Given 1))) m4 refl (1, refl) tt refl
 
 m6 : IsLawful g6
-m6 = more g5 (did 1 (Claim (id_row 1) (kind_qual TagKey) (104 ∷ [])) (ClaimReply Done)) m5 refl (1, refl) (record { kind = TagKey; number = 1; is_kind = refl; is_id = refl; is_name = name_h; bumped = (5, refl) }) refl
+m6 = more g5 (did 1 (Claim (id_row three TagKey 1) (kind_qual TagKey) (104 ∷ [])) (ClaimReply Done)) m5 refl (1, refl) (record { kind = TagKey; number = 1; is_kind = refl; is_id = refl; is_name = name_h; bumped = (5, refl) }) refl
 
 m7 : IsLawful g7
-m7 = more g6 (did 1 (Claim (name_row (104 ∷ [])) (kind_qual TagKey) (id_bytes 1)) (ClaimReply Done)) m6 refl (1, refl) (record { who = 1; reversed = (6, refl) }) refl
+m7 = more g6 (did 1 (Claim (name_row (104 ∷ [])) (kind_qual TagKey) (id_bytes 3 1)) (ClaimReply Done)) m6 refl (1, refl) (record { who = 1; reversed = (6, refl) }) refl
 
 m8 : IsLawful g8
 m8 = more g7 (did 1 (Bump TagValue) (BumpReply (Given 1))) m7 refl (1, refl) tt refl
 
 m9 : IsLawful g9
-m9 = more g8 (did 1 (Claim (id_row 1) (kind_qual TagValue) name_a) (ClaimReply Done)) m8 refl (1, refl) (record { kind = TagValue; number = 1; is_kind = refl; is_id = refl; is_name = is_name; bumped = (8, refl) }) refl
+m9 = more g8 (did 1 (Claim (id_row three TagValue 1) (kind_qual TagValue) name_a) (ClaimReply Done)) m8 refl (1, refl) (record { kind = TagValue; number = 1; is_kind = refl; is_id = refl; is_name = is_name; bumped = (8, refl) }) refl
 
 m10 : IsLawful g10
-m10 = more g9 (did 1 (Claim (name_row name_a) (kind_qual TagValue) (id_bytes 1)) (ClaimReply Done)) m9 refl (1, refl) (record { who = 1; reversed = (9, refl) }) refl
+m10 = more g9 (did 1 (Claim (name_row name_a) (kind_qual TagValue) (id_bytes 3 1)) (ClaimReply Done)) m9 refl (1, refl) (record { who = 1; reversed = (9, refl) }) refl
 
 m11 : IsLawful g11
 m11 = more g10 (did 1 (PutPoint (point 1356998400000 false (pos 42)) series_row at_start (42 ∷ [])) Written) m10 refl (1, refl) (basis g10 refl (point 1356998400000 false (pos 42)) at_start (42 ∷ []) is_start (resolved g10 refl refl refl refl) key_start dots_start short_start) refl

@@ -14,18 +14,18 @@ use Rattle.cell_model.specs.declared.answers.Bumped.TheVariants.{Given, Full}
 use Rattle.cell_model.specs.declared.answers.Claimed.TheVariants.{Held}
 use Rattle.cell_model.specs.declared.events.Place.{Place}
 use Rattle.cell_model.specs.declared.events.Content.{Content}
-use Rattle.cell_model.specs.Store.{Store, place_of, value_at, written}
-use Rattle.std.specs.FinMap.{get}
-use Rattle.cell_model.specs.Machine.{after, claim_reply, or_written, counter_row, counter_of, kind_qual, MOST_IDS}
+use Rattle.cell_model.specs.Store.{Store, place_of, value_at, written, get}
+use Rattle.cell_model.specs.Machine.{after, claim_reply, or_written, counter_row, counter_of, kind_qual, greatest}
 use Rattle.cell_model.specs.declared.events.Reply.TheVariants.{BumpReply, ClaimReply}
 use Rattle.cell_model.specs.declared.events.Entry.{Entry}
 use Rattle.cell_model.specs.History.{History, len, store_after, base_of, Had}
 use Rattle.cell_laws.proofs.Beginnings.{Begins}
 use Rattle.cell_model.specs.History.History.{Base, Then}
 use Rattle.cell_laws.proofs.Beginnings.Begins.{whole, longer}
-use Rattle.cell_model.specs.IdRows.{id_bytes, id_number}
+use Rattle.cell_model.specs.KindWidths.{Widths, kind_bytes}
+use Rattle.cell_model.specs.IdRows.{id_number}
 use Rattle.cell_model.specs.Lawful.{IsLawful, MayStep, ClaimBasis, given}
-use Rattle.cell_model.proofs.CallerLemmas.{content-written, content-written_other, get-dropped_other, same_or_not}
+use Rattle.cell_model.proofs.CallerLemmas.{greatest_fits, content-written, content-written_other, get-dropped_other, same_or_not}
 use Rattle.cell_laws.proofs.Keeps.{lawful_begins}
 use Rattle.cell_laws.proofs.Ids.{same_kind, claimed_name, not_zero, Names_Ids}
 use Rattle.cell_laws.proofs.LawsHold.{number-bytes}
@@ -37,10 +37,10 @@ counter_value o = option_map_or (from_be_bytes w64) (option_map (λ (c : Content
 counter_same : (s s' : Store) (kind : Kind) → get s' (place_of counter_row (kind_qual kind)) ≡ get s (place_of counter_row (kind_qual kind)) → counter_of s kind ≤ counter_of s' kind
 counter_same s s' kind e = let same : counter_of s' kind ≡ counter_of s kind = ap (λ (o : Option Content). option_map_or (from_be_bytes w64) (option_map (λ (c : Content). c.value) o) 0) e in omega (arith, same)
 
-pub counter_written : (s : Store) (kind : Kind) (n version : ℕ) → n < MOST_IDS → counter_of (written s counter_row (kind_qual kind) (to_be_bytes w64 (n + 1)) version) kind ≡ n + 1
+pub counter_written : (s : Store) (kind : Kind) (n version : ℕ) → n < greatest s.widths kind → counter_of (written s counter_row (kind_qual kind) (to_be_bytes w64 (n + 1)) version) kind ≡ n + 1
 counter_written s kind n version lt =
     ap (λ (o : Option Content). option_map_or (from_be_bytes w64) (option_map (λ (c : Content). c.value) o) 0) (content-written s counter_row (kind_qual kind) (to_be_bytes w64 (n + 1)) version)
-    ∙ from_be_bytes-to_be_bytes_8 (n + 1) (omega arith)
+    ∙ from_be_bytes-to_be_bytes_8 (n + 1) (let most = greatest_fits s.widths kind in omega (arith, lt, most))
 
 pub row_differs : (row : Row) (qual q : List ℕ) → counter_row ≢ row → place_of counter_row q ≢ place_of row qual
 row_differs row qual q ne e = ne (ap (λ (p : Place). p.row) e)
@@ -51,13 +51,13 @@ point_differs row e same = let t : Ids ≡ Points = ap (λ (r : Row). r.table) s
 pub claim_differs : (h : History) (caller : ℕ) (row : Row) (qual value : List ℕ) → IsLawful h → MayStep h caller (Claim row qual value) → counter_row ≢ row
 claim_differs h caller row qual value l may e = at row.table row.bytes may (ap (λ (r : Row). r.table) e) (ap (λ (r : Row). r.bytes) e)
   where
-    at : (table : Table) (bytes : List ℕ) → ClaimBasis (Had h) caller table bytes qual value → Ids ≡ table → 0 ∷ [] ≡ bytes → ⊥
+    at : (table : Table) (bytes : List ℕ) → ClaimBasis (store_after h).widths (Had h) caller table bytes qual value → Ids ≡ table → 0 ∷ [] ≡ bytes → ⊥
     at Names bytes basis t b = Names_Ids (sym t)
     at Points bytes basis t b = absurd basis
     at Ids bytes basis t b = not_zero bytes (claimed_name h basis.who _ qual bytes l basis.reversed) (sym b)
 
 claim_counter : (s : Store) (row : Row) (qual value : List ℕ) (version : ℕ) (kind : Kind) (o : Option (List ℕ)) → counter_row ≢ row → counter_of s kind ≤ counter_of (or_written o (written s row qual value version) s) kind
-claim_counter s row qual value version kind None ne = counter_same s _ kind (content-written_other s row qual value version (place_of counter_row (kind_qual kind)) (row_differs row qual (kind_qual kind) ne))
+claim_counter s row qual value version kind None ne = counter_same s (written s row qual value version) kind (content-written_other s row qual value version (place_of counter_row (kind_qual kind)) (row_differs row qual (kind_qual kind) ne))
 claim_counter s row qual value version kind (Some v) ne = omega arith
 
 -- no step lowers a counter
@@ -65,24 +65,24 @@ counter_grows : (h : History) (caller : ℕ) (step : Step) (place : ℕ) (kind :
 counter_grows h caller Open place kind l may = omega arith
 counter_grows h caller (Read row) place kind l may = omega arith
 counter_grows h caller (NextRow table from to) place kind l may = omega arith
-counter_grows h caller (Bump other) place kind l may = at (nat_lt (counter_of (store_after h) other) MOST_IDS) refl (same_or_not (place_of counter_row (kind_qual kind)) (place_of counter_row (kind_qual other)))
+counter_grows h caller (Bump other) place kind l may = at (nat_lt (counter_of (store_after h) other) (greatest (store_after h).widths other)) refl (same_or_not (place_of counter_row (kind_qual kind)) (place_of counter_row (kind_qual other)))
   where
     s : Store
     s = store_after h
 
-    at : (b : Bool) → nat_lt (counter_of (store_after h) other) MOST_IDS ≡ b → (place_of counter_row (kind_qual kind) ≡ place_of counter_row (kind_qual other)) ⊎ (place_of counter_row (kind_qual kind) ≢ place_of counter_row (kind_qual other))
+    at : (b : Bool) → nat_lt (counter_of (store_after h) other) (greatest (store_after h).widths other) ≡ b → (place_of counter_row (kind_qual kind) ≡ place_of counter_row (kind_qual other)) ⊎ (place_of counter_row (kind_qual kind) ≢ place_of counter_row (kind_qual other))
         → counter_of (store_after h) kind ≤ counter_of (if b then written (store_after h) counter_row (kind_qual other) (to_be_bytes w64 (counter_of (store_after h) other + 1)) (place % 2 ^ 64) else store_after h) kind
     at false t d = omega arith
-    at true t (inr ne) = counter_same (store_after h) _ kind (content-written_other (store_after h) counter_row (kind_qual other) _ _ (place_of counter_row (kind_qual kind)) ne)
+    at true t (inr ne) = counter_same (store_after h) (written (store_after h) counter_row (kind_qual other) (to_be_bytes w64 (counter_of (store_after h) other + 1)) (place % 2 ^ 64)) kind (content-written_other (store_after h) counter_row (kind_qual other) _ _ (place_of counter_row (kind_qual kind)) ne)
     at true t (inl e) =
         let one : other ≡ kind = same_kind other kind (ap (λ (p : Place). p.qual) (sym e)) in
-        let below : counter_of (store_after h) other < MOST_IDS = search (rules, t) in
+        let below : counter_of (store_after h) other < greatest (store_after h).widths other = search (rules, t) in
         subst (λ (k : Kind). counter_of (store_after h) k ≤ counter_of (written (store_after h) counter_row (kind_qual other) (to_be_bytes w64 (counter_of (store_after h) other + 1)) (place % 2 ^ 64)) k) one
         (let n = counter_written (store_after h) other (counter_of (store_after h) other) (place % 2 ^ 64) below in omega (arith, n))
 counter_grows h caller (Claim row qual value) place kind l may = claim_counter (store_after h) row qual value _ kind (value_at (store_after h) row qual) (claim_differs h caller row qual value l may)
-counter_grows h caller (PutPoint point row qual value) place kind l may = counter_same (store_after h) _ kind (content-written_other (store_after h) row qual value _ (place_of counter_row (kind_qual kind)) (row_differs row qual (kind_qual kind) (point_differs row may.in_points)))
-counter_grows h caller (PutMerged row qual value) place kind l may = counter_same (store_after h) _ kind (content-written_other (store_after h) row qual value _ (place_of counter_row (kind_qual kind)) (row_differs row qual (kind_qual kind) (point_differs row may.in_points)))
-counter_grows h caller (DropCells row which) place kind l may = counter_same (store_after h) _ kind (get-dropped_other (store_after h) row which (place_of counter_row (kind_qual kind)) (point_differs row may.in_points))
+counter_grows h caller (PutPoint point row qual value) place kind l may = counter_same (store_after h) (after (store_after h) place (PutPoint point row qual value)) kind (content-written_other (store_after h) row qual value _ (place_of counter_row (kind_qual kind)) (row_differs row qual (kind_qual kind) (point_differs row may.in_points)))
+counter_grows h caller (PutMerged row qual value) place kind l may = counter_same (store_after h) (after (store_after h) place (PutMerged row qual value)) kind (content-written_other (store_after h) row qual value _ (place_of counter_row (kind_qual kind)) (row_differs row qual (kind_qual kind) (point_differs row may.in_points)))
+counter_grows h caller (DropCells row which) place kind l may = counter_same (store_after h) (after (store_after h) place (DropCells row which)) kind (get-dropped_other (store_after h) row which (place_of counter_row (kind_qual kind)) (point_differs row may.in_points))
 
 pub counter_keeps : {h0 h : History} (kind : Kind) → Begins h0 h → IsLawful h → counter_of (store_after h0) kind ≤ counter_of (store_after h) kind
 counter_keeps kind whole l = omega arith
@@ -95,21 +95,21 @@ pub record Counted (h : History) (caller : ℕ) (kind : Kind) (id : ℕ) : Type 
   pub now : counter_of (store_after (Then h (given caller kind id))) kind ≡ id
 
 pub given_counts : (h : History) (caller : ℕ) (kind : Kind) (id : ℕ) → IsLawful (Then h (given caller kind id)) → Counted h caller kind id
-given_counts h caller kind id l = at (nat_lt (counter_of (store_after h) kind) MOST_IDS) refl l.2
+given_counts h caller kind id l = at (nat_lt (counter_of (store_after h) kind) (greatest (store_after h).widths kind)) refl l.2
   where
-    at : (b : Bool) → nat_lt (counter_of (store_after h) kind) MOST_IDS ≡ b → BumpReply (Given id) ≡ BumpReply (if b then Given (counter_of (store_after h) kind + 1) else Full) → Counted h caller kind id
+    at : (b : Bool) → nat_lt (counter_of (store_after h) kind) (greatest (store_after h).widths kind) ≡ b → BumpReply (Given id) ≡ BumpReply (if b then Given (counter_of (store_after h) kind + 1) else Full) → Counted h caller kind id
     at false t e = cc
     at true t e =
         let is : id ≡ counter_of (store_after h) kind + 1 = cc in
-        let below : counter_of (store_after h) kind < MOST_IDS = search (rules, t) in
+        let below : counter_of (store_after h) kind < greatest (store_after h).widths kind = search (rules, t) in
         let n = counter_written (store_after h) kind (counter_of (store_after h) kind) ((len h + 1) % 2 ^ 64) below in
         record {
           above = is;
           now = ap (λ (b : Bool). counter_of (if b then written (store_after h) counter_row (kind_qual kind) (to_be_bytes w64 (counter_of (store_after h) kind + 1)) ((len h + 1) % 2 ^ 64) else store_after h) kind) t ∙ n ∙ sym is;
         }
 
-pub same_number : (a b : ℕ) → a ≤ MOST_IDS → b ≤ MOST_IDS → id_bytes a ≡ id_bytes b → a ≡ b
-same_number a b la lb e = let s : Some a ≡ Some b = sym (number-bytes a la) ∙ ap id_number e ∙ number-bytes b lb in cc
+pub same_number : (w : Widths) (kind : Kind) (a b : ℕ) → a ≤ greatest w kind → b ≤ greatest w kind → kind_bytes w kind a ≡ kind_bytes w kind b → a ≡ b
+same_number w kind a b la lb e = let s : Some a ≡ Some b = sym (number-bytes w kind a la) ∙ ap id_number e ∙ number-bytes w kind b lb in cc
 
 pub len_begins : {h0 h : History} → Begins h0 h → len h0 ≤ len h
 len_begins whole = omega arith

@@ -11,9 +11,8 @@ use Rattle.cell_model.specs.declared.answers.Bumped.TheVariants.{Given, Full}
 use Rattle.std.specs.Int.{w64, to_be_bytes}
 use Rattle.cell_model.specs.declared.events.Place.{Place}
 use Rattle.cell_model.specs.declared.events.Content.{Content}
-use Rattle.cell_model.specs.Store.{Store, place_of, content_at, value_at, written}
-use Rattle.std.specs.FinMap.{get}
-use Rattle.cell_model.specs.Machine.{after, reply_of, claim_reply, or_written, counter_row, counter_of, kind_qual, MOST_IDS}
+use Rattle.cell_model.specs.Store.{Store, place_of, content_at, value_at, written, get}
+use Rattle.cell_model.specs.Machine.{after, reply_of, claim_reply, or_written, counter_row, counter_of, kind_qual, greatest}
 use Rattle.cell_model.specs.declared.events.Reply.TheVariants.{BumpReply, ClaimReply}
 use Rattle.cell_model.specs.declared.events.Entry.{Entry}
 use Rattle.cell_model.specs.History.{History, len, store_after, base_of, Had}
@@ -24,17 +23,19 @@ use Rattle.tsd_base.specs.Alphabet.{is_name_byte, IsName}
 use Rattle.std.specs.List.{list_all}
 use Rattle.tsd_base.specs.declared.kinds.Kind.TheVariants.{Metric, TagKey, TagValue}
 use Rattle.cell_model.specs.Sound.{IsSound}
-use Rattle.cell_model.specs.IdRows.{name_row, id_row, id_bytes, name_in}
+use Rattle.cell_model.specs.KindWidths.{Widths, kind_bytes}
+use Rattle.cell_model.specs.IdRows.{name_row, id_row, name_in}
 use Rattle.cell_model.specs.Lawful.{IsLawful, MayStep, NamesBasis, IdsBasis, claimed, given}
 use Rattle.cell_model.proofs.CallerLemmas.{content-written, content-written_other, get-dropped_other, same_or_not}
+use Rattle.cell_laws.proofs.SameWidths.{carry}
 use Rattle.cell_laws.proofs.Keeps.{IsUid, other_row, points_other, keeps, stood, lawful_begins}
 
 -- the name's forward cell has this value, the bytes of an id whose reverse cell has the name
 pub record Reversed (s : Store) (kind : Kind) (name value : List ℕ) : Type 0 where
   pub id : ℕ
   pub least : 1 ≤ id
-  pub most : id ≤ MOST_IDS
-  pub value_is : value ≡ id_bytes id
+  pub most : id ≤ greatest s.widths kind
+  pub value_is : value ≡ kind_bytes s.widths kind id
   pub name_is : name_in s kind id ≡ Some name
 
 -- kinds are told apart by their qualifiers
@@ -78,7 +79,7 @@ pub step_from : (h : History) (caller : ℕ) (step : Step) (s : Store) (place : 
 step_from h caller Open s place p c may u is = inl is
 step_from h caller (Read row) s place p c may u is = inl is
 step_from h caller (NextRow table from to) s place p c may u is = inl is
-step_from h caller (Bump kind) s place p c may u is = at (nat_lt (counter_of s kind) MOST_IDS) is
+step_from h caller (Bump kind) s place p c may u is = at (nat_lt (counter_of s kind) (greatest s.widths kind)) is
   where
     at : (b : Bool) → get (if b then written s counter_row (kind_qual kind) (to_be_bytes w64 (counter_of s kind + 1)) (place % 2 ^ 64) else s) p ≡ Some c → (get s p ≡ Some c) ⊎ Wrote s (Bump kind) p c
     at true is = inl (sym (content-written_other s counter_row (kind_qual kind) _ _ p (other_row p counter_row (kind_qual kind) u.no_counter)) ∙ is)
@@ -159,11 +160,11 @@ claim_wrote h who row qual value legal =
     ap (λ o. value_at (or_written o (written s row qual value version) s) row qual) (done_absent (value_at s row qual) legal)
     ∙ ap (option_map (λ (c : Content). c.value)) (content-written s row qual value version)
 
-pub given_range : (n number : ℕ) → BumpReply (Given number) ≡ BumpReply (if nat_lt n MOST_IDS then Given (n + 1) else Full) → (1 ≤ number) × (number ≤ MOST_IDS)
-given_range n number = at (nat_lt n MOST_IDS) refl
+pub given_range : (most n number : ℕ) → BumpReply (Given number) ≡ BumpReply (if nat_lt n most then Given (n + 1) else Full) → (1 ≤ number) × (number ≤ most)
+given_range most n number = at (nat_lt n most) refl
   where
-    at : (b : Bool) → nat_lt n MOST_IDS ≡ b → BumpReply (Given number) ≡ BumpReply (if b then Given (n + 1) else Full) → (1 ≤ number) × (number ≤ MOST_IDS)
-    at true t e = let is : number ≡ n + 1 = cc in let below : n < MOST_IDS = search (rules, t) in (omega arith, omega arith)
+    at : (b : Bool) → nat_lt n most ≡ b → BumpReply (Given number) ≡ BumpReply (if b then Given (n + 1) else Full) → (1 ≤ number) × (number ≤ most)
+    at true t e = let is : number ≡ n + 1 = cc in let below : n < most = search (rules, t) in (omega (arith, is), omega (arith, is, below))
     at false t e = cc
 
 -- what a claim of a reverse cell that was done shows of each later store
@@ -172,16 +173,20 @@ reverse_of h h1 who kind id name b l1 l had =
     let row : Row = record { table = Names; bytes = id } in
     let st = stood h1 had.0 (claimed who row (kind_qual kind) name) had.1 in
     let here = lawful_begins st.begins l1 in
-    let basis : NamesBasis (Had st.before) who id (kind_qual kind) name = here.1.may in
+    let basis : NamesBasis (store_after st.before).widths (Had st.before) who id (kind_qual kind) name = here.1.may in
     let bump = stood st.before basis.bumped.0 (given who basis.kind basis.number) basis.bumped.1 in
-    let range = given_range (counter_of (store_after bump.before) basis.kind) basis.number (lawful_begins bump.begins here.0).2 in
+    let before : Begins st.before h = trans_begins (longer whole) (trans_begins st.begins b) in
+    let range = given_range (greatest (store_after bump.before).widths basis.kind) (counter_of (store_after bump.before) basis.kind) basis.number (lawful_begins bump.begins here.0).2 in
+    let one_kind : basis.kind ≡ kind = sym (same_kind kind basis.kind basis.is_kind) in
+    let most : basis.number ≤ greatest (store_after h).widths kind = subst (λ (k : Kind). basis.number ≤ greatest (store_after h).widths k) one_kind (carry (trans_begins (trans_begins (longer whole) bump.begins) before) (λ (w : Widths). basis.number ≤ greatest w basis.kind) range.1) in
+    let value_is : id ≡ kind_bytes (store_after h).widths kind basis.number = subst (λ (k : Kind). id ≡ kind_bytes (store_after h).widths k basis.number) one_kind (carry before (λ (w : Widths). id ≡ kind_bytes w basis.kind basis.number) basis.is_id) in
     let stands = value_keeps row (kind_qual kind) name (trans_begins st.begins b) l (reverse_uid id (kind_qual kind)) (claim_wrote st.before who row (kind_qual kind) name here.2) in
     record {
       id = basis.number;
       least = range.0;
-      most = range.1;
-      value_is = basis.is_id;
-      name_is = ap (λ (x : List ℕ). value_at (store_after h) (record { table = Names; bytes = x }) (kind_qual kind)) (sym basis.is_id) ∙ stands;
+      most = most;
+      value_is = value_is;
+      name_is = ap (λ (x : List ℕ). value_at (store_after h) (record { table = Names; bytes = x }) (kind_qual kind)) (sym value_is) ∙ stands;
     }
 
 -- each forward cell of a lawful history has its reverse cell
@@ -192,13 +197,16 @@ reversed h kind name value l n is =
     (elim (came h (place_of (name_row name) (kind_qual kind)) st.content l (forward_uid name (kind_qual kind) n) st.is) [
       | inl based ↦
           let r = (base_sound h l).forward name (kind_qual kind) st.content.value (not_zero name n) (ap (option_map (λ (c : Content). c.value)) based) in
+          let one_kind : r.kind ≡ kind = sym (same_kind kind r.kind r.is_kind) in
+          let start = base_begins h in
+          let name_is : name_in (base_of h) kind r.id ≡ Some name = subst (λ (k : Kind). name_in (base_of h) k r.id ≡ Some name) one_kind r.name_is in
           record {
             id = r.id;
             least = r.given.is_id.0;
-            most = r.given.is_id.1;
-            value_is = r.value_is;
-            name_is = value_keeps (id_row r.id) (kind_qual kind) name (base_begins h) l (reverse_uid (id_bytes r.id) (kind_qual kind))
-                (subst (λ (k : Kind). name_in (base_of h) k r.id ≡ Some name) (sym (same_kind kind r.kind r.is_kind)) r.name_is);
+            most = carry start (λ (w : Widths). r.id ≤ greatest w kind) (subst (λ (k : Kind). r.id ≤ greatest (base_of h).widths k) one_kind r.given.is_id.1);
+            value_is = carry start (λ (w : Widths). st.content.value ≡ kind_bytes w kind r.id) (subst (λ (k : Kind). st.content.value ≡ kind_bytes (base_of h).widths k r.id) one_kind r.value_is);
+            name_is = carry start (λ (w : Widths). value_at (store_after h) (id_row w kind r.id) (kind_qual kind) ≡ Some name)
+                (value_keeps (id_row (base_of h).widths kind r.id) (kind_qual kind) name start l (reverse_uid (kind_bytes (base_of h).widths kind r.id) (kind_qual kind)) name_is);
           }
       | inr c ↦
           let here = lawful_begins c.begins l in
@@ -211,4 +219,4 @@ pub claimed_name : (h : History) (who : ℕ) (id qual name : List ℕ) → IsLaw
 claimed_name h who id qual name l had =
     let st = stood h had.0 (claimed who (record { table = Names; bytes = id }) qual name) had.1 in
     let here = lawful_begins st.begins l in
-    let basis : NamesBasis (Had st.before) who id qual name = here.1.may in basis.is_name
+    let basis : NamesBasis (store_after st.before).widths (Had st.before) who id qual name = here.1.may in basis.is_name

@@ -1,7 +1,6 @@
 -- Steps that open, read, merge or drop leave the ids, the names and what was accepted, and so the readings that stand.
 use Rattle.std.proofs.Common.{◌≡◌, ◌⊎◌, inl, inr, ℕ, ◌+◌, ◌<◌, ◌≤◌, Bool, true, false, List, refl, sym, ap, subst, ◌∙◌, arith}
 use Rattle.std.specs.Prelude.{◌↔◌, Option, Some, nat_le, if◌then◌else◌, option_map, option_and_then}
-use Rattle.std.specs.FinMap.{get}
 use Rattle.tsd_base.specs.declared.kinds.Kind.{Kind}
 use Rattle.row_key.specs.declared.tables.Table.TheVariants.{Ids, Names, Points}
 use Rattle.cell_model.specs.declared.row.Row.{Row}
@@ -16,7 +15,7 @@ use Rattle.cell_model.specs.IdRows.{id_number, id_row, name_row, id_of, name_of}
 use Rattle.cell_model.specs.Lawful.{IsLawful, MayStep}
 use Rattle.cell_model.specs.Machine.{after, kind_qual}
 use Rattle.cell_model.specs.Readings.{Reading, OneValued, HasReading, IsPut, Accepted}
-use Rattle.cell_model.specs.Store.{Store, place_of}
+use Rattle.cell_model.specs.Store.{Store, place_of, get}
 use Rattle.cell_model.proofs.CallerLemmas.{content-written_other, get-dropped_other}
 use Rattle.cell_laws.specs.Laws.{IsCompaction, IsInvisible, CompactionIsInvisible, SameAcceptedSameStanding}
 use Rattle.cell_laws.proofs.Entries.{bounded, entry_at-last, entry_at-more}
@@ -66,7 +65,7 @@ module _ (h : History) (e : Entry) (l : IsLawful (Then h e)) (i : IsInvisible e.
       ap (λ (o : Option Content). option_and_then id_number (option_map (λ (c : Content). c.value) o)) (leaves h e.caller e.step (store_after h) (len h + 1) (place_of (name_row name) (kind_qual kind)) i l.1.may ids_other)
 
   names_stay : name_of (Then h e) ≡ name_of h
-  names_stay = λ j kind id. ap (option_map (λ (c : Content). c.value)) (leaves h e.caller e.step (store_after h) (len h + 1) (place_of (id_row id) (kind_qual kind)) i l.1.may names_other) j
+  names_stay = λ j kind id. ap (option_map (λ (c : Content). c.value)) (leaves h e.caller e.step (store_after h) (len h + 1) (place_of (id_row (store_after h).widths kind id) (kind_qual kind)) i l.1.may names_other) j
 
   accepted_more : (r : Reading) → Accepted h r → Accepted (Then h e) r
   accepted_more r (inl based) = inl (subst (λ (names : Kind → ℕ → Option (List ℕ)). HasReading names (base_of h) r) (sym names_stay) based)

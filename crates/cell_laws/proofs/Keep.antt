@@ -2,7 +2,6 @@
 use Rattle.std.proofs.Common.{◌≡◌, ◌≢◌, ◌⊎◌, inl, inr, ℕ, ◌+◌, ◌%◌, ◌^◌, Bool, true, false, List, [], ◌∷◌, refl, sym, ap, subst, ◌∙◌}
 use Rattle.std.specs.Prelude.{Option, None, Some, option_map, nat_eq, nat_lt, if◌then◌else◌, Contains}
 use Rattle.std.specs.Int.{w64, to_be_bytes}
-use Rattle.std.specs.FinMap.{get, remove}
 use Rattle.cell_model.specs.declared.row.Row.{Row}
 use Rattle.cell_model.specs.declared.events.Step.{Step}
 use Rattle.cell_model.specs.declared.events.Step.TheVariants.{Open, Read, NextRow, Bump, Claim, PutPoint, PutMerged, DropCells}
@@ -11,8 +10,8 @@ use Rattle.list_lemmas.proofs.ListMembers.{here, there}
 use Rattle.qual_codec.proofs.CallerLemmas.{below_then}
 use Rattle.cell_model.specs.declared.events.Place.{Place}
 use Rattle.cell_model.specs.declared.events.Content.{Content}
-use Rattle.cell_model.specs.Store.{Store, place_of, content_at, value_at, written, is_dropped, dropped}
-use Rattle.cell_model.specs.Machine.{after, or_written, counter_row, counter_of, kind_qual, MOST_IDS}
+use Rattle.cell_model.specs.Store.{Store, place_of, content_at, value_at, written, is_dropped, dropped, get, remove, with_cells}
+use Rattle.cell_model.specs.Machine.{after, stepped, or_written, counter_row, counter_of, kind_qual, greatest}
 use Rattle.cell_model.specs.declared.events.Entry.{Entry}
 use Rattle.cell_model.specs.History.{History, len, store_after, entry_at, Had}
 use Rattle.cell_model.specs.History.History.{Base, Then}
@@ -102,20 +101,24 @@ claim_all : (h : History) (row r : Row) (s : Store) (qual value : List ℕ) (ver
 claim_all h row r s qual value version None keeps = λ q v c. kept_written s row r q qual value version (keeps q v c)
 claim_all h row r s qual value version (Some w) keeps = keeps
 
+-- other widths keep
+widened : (h : History) (row : Row) (s t : Store) → AllKept h row t → AllKept h row (with_cells s t)
+widened h row s t keeps q v c = let k = keeps q v c in record { other = k.other; value = k.value; stands = k.stands; at_least = k.at_least }
+
 -- a step keeps
 step_all : (h : History) (row : Row) (caller : ℕ) (step : Step) (place : ℕ) (s : Store) → MayStep h caller step → AllKept h row s → AllKept h row (after s place step)
 step_all h row caller Open place s may keeps = keeps
 step_all h row caller (Read r) place s may keeps = keeps
 step_all h row caller (NextRow table from to) place s may keeps = keeps
-step_all h row caller (Bump kind) place s may keeps =
-    elim (nat_lt (counter_of s kind) MOST_IDS) as (λ b. AllKept h row (if b then written s counter_row (kind_qual kind) (to_be_bytes w64 (counter_of s kind + 1)) (place % 2 ^ 64) else s)) [
+step_all h row caller (Bump kind) place s may keeps = widened h row s (stepped s place (Bump kind))
+    (elim (nat_lt (counter_of s kind) (greatest s.widths kind)) as (λ b. AllKept h row (if b then written s counter_row (kind_qual kind) (to_be_bytes w64 (counter_of s kind + 1)) (place % 2 ^ 64) else s)) [
       | true ↦ λ q v c. kept_written s row counter_row q (kind_qual kind) _ _ (keeps q v c)
       | false ↦ keeps
-    ]
-step_all h row caller (Claim r qual value) place s may keeps = claim_all h row r s qual value _ (value_at s r qual) keeps
+    ])
+step_all h row caller (Claim r qual value) place s may keeps = widened h row s (stepped s place (Claim r qual value)) (claim_all h row r s qual value _ (value_at s r qual) keeps)
 step_all h row caller (PutPoint point r qual value) place s may keeps = λ q v c. kept_written s row r q qual value _ (keeps q v c)
 step_all h row caller (PutMerged r qual value) place s may keeps = λ q v c. kept_written s row r q qual value _ (keeps q v c)
-step_all h row caller (DropCells r which) place s may keeps = at (same_or_not (place_of row []) (place_of r []))
+step_all h row caller (DropCells r which) place s may keeps = widened h row s (dropped s r which) (at (same_or_not (place_of row []) (place_of r [])))
   where
     at : (place_of row [] ≡ place_of r []) ⊎ (place_of row [] ≢ place_of r []) → AllKept h row (dropped s r which)
     at (inl same) = let e = ap (λ (p : Place). p.row) same in

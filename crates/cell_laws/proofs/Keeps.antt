@@ -8,10 +8,9 @@ use Rattle.cell_model.specs.declared.events.Step.TheVariants.{Open, Read, NextRo
 use Rattle.std.specs.Int.{w64, to_be_bytes}
 use Rattle.cell_model.specs.declared.events.Place.{Place}
 use Rattle.cell_model.specs.declared.events.Content.{Content}
-use Rattle.cell_model.specs.Store.{Store, place_of, value_at, written}
-use Rattle.std.specs.FinMap.{get}
+use Rattle.cell_model.specs.Store.{Store, place_of, value_at, written, get}
 use Rattle.list_lemmas.proofs.BoolTests.{nat_eq_is, not_Some}
-use Rattle.cell_model.specs.Machine.{after, or_written, counter_row, counter_of, kind_qual, MOST_IDS}
+use Rattle.cell_model.specs.Machine.{after, or_written, counter_row, counter_of, kind_qual, greatest}
 use Rattle.cell_model.specs.declared.events.Entry.{Entry}
 use Rattle.cell_model.specs.History.{History, len, store_after, entry_at}
 use Rattle.cell_laws.proofs.Beginnings.{Begins}
@@ -47,7 +46,7 @@ step_keeps h caller Open s place p c may u is = is
 step_keeps h caller (Read row) s place p c may u is = is
 step_keeps h caller (NextRow table from to) s place p c may u is = is
 step_keeps h caller (Bump kind) s place p c may u is =
-    elim (nat_lt (counter_of s kind) MOST_IDS) as (λ b. get (if b then written s counter_row (kind_qual kind) (to_be_bytes w64 (counter_of s kind + 1)) (place % 2 ^ 64) else s) p ≡ Some c) [
+    elim (nat_lt (counter_of s kind) (greatest s.widths kind)) as (λ b. get (if b then written s counter_row (kind_qual kind) (to_be_bytes w64 (counter_of s kind + 1)) (place % 2 ^ 64) else s) p ≡ Some c) [
       | true ↦ content-written_other s counter_row (kind_qual kind) _ _ p (other_row p counter_row (kind_qual kind) u.no_counter) ∙ is
       | false ↦ is
     ]

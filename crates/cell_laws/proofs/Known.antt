@@ -2,7 +2,6 @@
 use Rattle.std.proofs.Common.{◌≡◌, ◌≢◌, ◌⊎◌, inl, inr, ℕ, ◌+◌, ◌%◌, ◌^◌, ◌≤◌, Bool, true, false, List, sym, ap, ◌∙◌}
 use Rattle.std.specs.Prelude.{Option, None, Some, option_map, option_and_then, find, nat_lt, if◌then◌else◌}
 use Rattle.std.specs.Int.{w64, to_be_bytes}
-use Rattle.std.specs.FinMap.{entries}
 use Rattle.row_key.specs.declared.tables.Table.{Table}
 use Rattle.row_key.specs.declared.tables.Table.TheVariants.{Ids, Names, Points}
 use Rattle.tsd_base.specs.declared.kinds.Kind.{Kind}
@@ -13,9 +12,9 @@ use Rattle.cell_model.specs.declared.events.Step.{Step}
 use Rattle.cell_model.specs.declared.events.Step.TheVariants.{Open, Read, NextRow, Bump, Claim, PutPoint, PutMerged, DropCells}
 use Rattle.cell_model.specs.declared.events.Place.{Place}
 use Rattle.cell_model.specs.declared.events.Content.{Content}
-use Rattle.cell_model.specs.Store.{Store, place_of, content_at, value_at, cells_of, is_between, written, value_among}
+use Rattle.cell_model.specs.Store.{Store, place_of, content_at, value_at, cells_of, is_between, written, value_among, entries, dropped}
 use Rattle.cell_model.specs.declared.events.Reply.{Reply}
-use Rattle.cell_model.specs.Machine.{after, reply_of, or_written, counter_row, counter_of, kind_qual, MOST_IDS}
+use Rattle.cell_model.specs.Machine.{after, reply_of, or_written, counter_row, counter_of, kind_qual, greatest}
 use Rattle.cell_model.specs.declared.events.Reply.TheVariants.{Next}
 use Rattle.cell_model.specs.declared.events.Entry.{Entry}
 use Rattle.cell_model.specs.History.{History, len, store_after, Had}
@@ -25,7 +24,10 @@ use Rattle.cell_laws.proofs.Beginnings.Begins.{whole, longer}
 use Rattle.cell_laws.specs.Laws.{KnownIsAllowed, KnownEntryIsAllowed}
 use Rattle.tsd_base.specs.Alphabet.{IsName}
 use Rattle.cell_laws.proofs.Points.{point_name}
-use Rattle.cell_model.specs.IdRows.{name_row, id_bytes, id_number, id_of}
+use Rattle.cell_model.specs.KindWidths.{Widths, kind_bytes}
+use Rattle.cell_model.specs.IdRows.{name_row, id_number, id_of}
+use Rattle.cell_model.specs.Layout.{IsLayout}
+use Rattle.cell_laws.proofs.SameWidths.{seen_carry}
 use Rattle.cell_model.specs.Lawful.{IsLawful, MayStep, HasOpened, ClaimBasis, HadCell, Wrote}
 use Rattle.cell_model.specs.Seen.{Seen, Saw, Fits, KnowsCell, Shows, HasSeenOpening}
 use Rattle.cell_model.specs.Seen.Shows.{by_read, by_next, by_claim, by_held, by_point, by_merged}
@@ -90,10 +92,10 @@ put_had h e s row r q v qual value version more wrote go is (inl same) =
 put_had h e s row r q v qual value version more wrote go is (inr other) =
     more (go (value_step s (written s r qual value version) row q v (λ c e. sym (content-written_other s r qual value version (place_of row q) other) ∙ e) is))
 
-no_points_claim : (Has : Entry → Type 0) (caller : ℕ) (t : Table) (bytes qual value : List ℕ) → t ≡ Points → ClaimBasis Has caller t bytes qual value → ⊥
-no_points_claim Has caller Ids bytes qual value e b = cc
-no_points_claim Has caller Names bytes qual value e b = cc
-no_points_claim Has caller Points bytes qual value e b = b
+no_points_claim : (w : Widths) (Has : Entry → Type 0) (caller : ℕ) (t : Table) (bytes qual value : List ℕ) → t ≡ Points → ClaimBasis w Has caller t bytes qual value → ⊥
+no_points_claim w Has caller Ids bytes qual value e b = cc
+no_points_claim w Has caller Names bytes qual value e b = cc
+no_points_claim w Has caller Points bytes qual value e b = b
 
 claim_back : (s : Store) (row r : Row) (q v qual value : List ℕ) (version : ℕ) (o : Option (List ℕ)) → (r ≡ row → ⊥) → value_at (or_written o (written s r qual value version) s) row q ≡ Some v → value_at s row q ≡ Some v
 claim_back s row r q v qual value version None ne is =
@@ -106,35 +108,35 @@ had_step : (h : History) (row : Row) (q v : List ℕ) → row.table ≡ Points �
 had_step h row q v p go e Open w may is = had_more h row q v e (go is)
 had_step h row q v p go e (Read r) w may is = had_more h row q v e (go is)
 had_step h row q v p go e (NextRow table from to) w may is = had_more h row q v e (go is)
-had_step h row q v p go e (Bump kind) w may is = had_more h row q v e (go (at (nat_lt (counter_of (store_after h) kind) MOST_IDS) is))
+had_step h row q v p go e (Bump kind) w may is = had_more h row q v e (go (at (nat_lt (counter_of (store_after h) kind) (greatest (store_after h).widths kind)) is))
   where
     at : (b : Bool) → value_at (if b then written (store_after h) counter_row (kind_qual kind) (to_be_bytes w64 (counter_of (store_after h) kind + 1)) ((len h + 1) % 2 ^ 64) else store_after h) row q ≡ Some v → value_at (store_after h) row q ≡ Some v
     at false e = e
-    at true e = value_step (store_after h) _ row q v (λ c x. sym (content-written_other (store_after h) counter_row (kind_qual kind) _ _ (place_of row q) (λ same. let t : Points ≡ Ids = sym p ∙ ap (λ (y : Place). y.row.table) same in cc)) ∙ x) e
+    at true e = value_step (store_after h) (written (store_after h) counter_row (kind_qual kind) (to_be_bytes w64 (counter_of (store_after h) kind + 1)) ((len h + 1) % 2 ^ 64)) row q v (λ c x. sym (content-written_other (store_after h) counter_row (kind_qual kind) _ _ (place_of row q) (λ same. let t : Points ≡ Ids = sym p ∙ ap (λ (y : Place). y.row.table) same in cc)) ∙ x) e
 had_step h row q v p go e (Claim r qual value) w may is =
-    had_more h row q v e (go (claim_back (store_after h) row r q v qual value _ (value_at (store_after h) r qual) (λ same. no_points_claim (Had h) e.caller r.table r.bytes qual value (ap (λ (y : Row). y.table) same ∙ p) may) is))
+    had_more h row q v e (go (claim_back (store_after h) row r q v qual value _ (value_at (store_after h) r qual) (λ same. no_points_claim (store_after h).widths (Had h) e.caller r.table r.bytes qual value (ap (λ (y : Row). y.table) same ∙ p) may) is))
 had_step h row q v p go e (PutPoint point r qual value) w may is =
     put_had h e (store_after h) row r q v qual value _ (had_more h row q v e) (λ x. w r qual value x) go is (same_or_not (place_of row q) (place_of r qual))
 had_step h row q v p go e (PutMerged r qual value) w may is =
     put_had h e (store_after h) row r q v qual value _ (had_more h row q v e) (λ x. w r qual value x) go is (same_or_not (place_of row q) (place_of r qual))
 had_step h row q v p go e (DropCells r which) w may is =
-    had_more h row q v e (go (value_step (store_after h) _ row q v (λ c x. get-dropped (store_after h) r which (place_of row q) c x) is))
+    had_more h row q v e (go (value_step (store_after h) (dropped (store_after h) r which) row q v (λ c x. get-dropped (store_after h) r which (place_of row q) c x) is))
 
 -- a cell of a point row came with the base or was put
 pub had_cell : (h : History) (row : Row) (q v : List ℕ) → IsLawful h → row.table ≡ Points → value_at (store_after h) row q ≡ Some v → HadCell h row q v
 had_cell (Base base) row q v l p is = inl is
 had_cell (Then h e) row q v l p is = had_step h row q v p (had_cell h row q v l.0 p) e e.step (λ r a b x. x) l.1.may is
 
-claim_known : (s : Seen) (h : History) (table : Table) (row qual value : List ℕ) → Fits s h → ClaimBasis (λ e. (place : ℕ) × Saw s place e) s.caller table row qual value → ClaimBasis (Had h) s.caller table row qual value
+claim_known : (s : Seen) (h : History) (table : Table) (row qual value : List ℕ) → Fits s h → ClaimBasis s.base.widths (λ e. (place : ℕ) × Saw s place e) s.caller table row qual value → ClaimBasis (store_after h).widths (Had h) s.caller table row qual value
 claim_known s h Names row qual value fits k =
-    record { kind = k.kind; number = k.number; is_kind = k.is_kind; is_id = k.is_id; is_name = k.is_name; bumped = (k.bumped.0, fits.seen k.bumped.0 _ k.bumped.1) }
+    record { kind = k.kind; number = k.number; is_kind = k.is_kind; is_id = seen_carry fits (λ (w : Widths). row ≡ kind_bytes w k.kind k.number) k.is_id; is_name = k.is_name; bumped = (k.bumped.0, fits.seen k.bumped.0 _ k.bumped.1) }
 claim_known s h Ids row qual value fits k = record { who = k.who; reversed = (k.reversed.0, fits.seen k.reversed.0 _ k.reversed.1) }
 claim_known s h Points row qual value fits k = k
 
-known_name : (s : Seen) (h : History) (kind : Kind) (name : List ℕ) (id : ℕ) → IsLawful h → Fits s h → IsName name → KnowsCell s (name_row name) (kind_qual kind) (id_bytes id) × (id ≤ MOST_IDS) → id_of h kind name ≡ Some id
+known_name : (s : Seen) (h : History) (kind : Kind) (name : List ℕ) (id : ℕ) → IsLawful h → Fits s h → IsName name → KnowsCell s (name_row name) (kind_qual kind) (kind_bytes s.base.widths kind id) × (id ≤ greatest s.base.widths kind) → id_of h kind name ≡ Some id
 known_name s h kind name id l f n k =
-    let st = known_cell s h (name_row name) (kind_qual kind) (id_bytes id) l f k.0 in
-    ap (option_and_then id_number) (value_keeps (name_row name) (kind_qual kind) (id_bytes id) st.begins l (forward_uid name (kind_qual kind) n) st.stands) ∙ number-bytes id k.1
+    let st = known_cell s h (name_row name) (kind_qual kind) (kind_bytes s.base.widths kind id) l f k.0 in
+    ap (option_and_then id_number) (value_keeps (name_row name) (kind_qual kind) (kind_bytes s.base.widths kind id) st.begins l (forward_uid name (kind_qual kind) n) st.stands) ∙ number-bytes s.base.widths kind id k.1
 
 known_had : (s : Seen) (h : History) (row : Row) (q v : List ℕ) → IsLawful h → Fits s h → row.table ≡ Points → KnowsCell s row q v → HadCell h row q v
 known_had s h row q v l f p k =
@@ -147,7 +149,7 @@ known_is_allowed s h (NextRow table from to) l fits k = tt
 known_is_allowed s h (Bump kind) l fits k = tt
 known_is_allowed s h (Claim row qual value) l fits k = claim_known s h row.table row.bytes qual value fits k
 known_is_allowed s h (PutPoint point row qual value) l fits k =
-    record { is_point = k.is_point; in_points = k.in_points; ids = k.ids; resolved = λ kind name c. known_name s h kind name (k.ids kind name) l fits (point_name point kind name k.is_point c) (k.resolved kind name c); layout = k.layout }
+    record { is_point = k.is_point; in_points = k.in_points; ids = k.ids; resolved = λ kind name c. known_name s h kind name (k.ids kind name) l fits (point_name point kind name k.is_point c) (k.resolved kind name c); layout = seen_carry fits (λ (w : Widths). IsLayout w k.ids point row.bytes qual value) k.layout }
 known_is_allowed s h (PutMerged row qual value) l fits k =
     record { in_points = k.in_points; dots = k.dots; reads = k.reads; each = λ d c. let w = k.each d c in (w.0, w.1, w.2, known_had s h row w.0 w.1 l fits k.in_points w.3, w.4, w.5) }
 known_is_allowed s h (DropCells row which) l fits k =

@@ -1,27 +1,20 @@
-use Rattle.std.proofs.Common.{◌≡◌, ℕ, ◌+◌, ◌≤◌, ◌<◌, Bool, true, false, List, ◌∷◌, refl, sym, ap, subst, ◌∙◌, arith, rules}
+use Rattle.std.proofs.Common.{◌≡◌, ℕ, ◌+◌, ◌≤◌, ◌<◌, Bool, true, false, List, refl, sym, ap, subst, ◌∙◌, arith, rules}
 use Rattle.std.specs.Prelude.{Option, None, Some, option_and_then, nat_le, if◌then◌else◌}
-use Rattle.std.specs.Int.{w32, byte_at, from_be_bytes}
-use Rattle.std.proofs.lemmas.Nat.{from_be_bytes-to_be_bytes_4}
 use Rattle.tsd_base.specs.declared.kinds.Kind.{Kind}
 use Rattle.cell_model.specs.Store.{value_at}
-use Rattle.cell_model.specs.Machine.{kind_qual, MOST_IDS}
+use Rattle.cell_model.specs.Machine.{kind_qual}
 use Rattle.cell_model.specs.History.{History, len, store_after, first}
 use Rattle.cell_laws.proofs.Beginnings.{Begins}
 use Rattle.cell_model.specs.History.History.{Base, Then}
 use Rattle.cell_laws.proofs.Beginnings.Begins.{whole, longer}
 use Rattle.tsd_base.specs.Alphabet.{IsName}
-use Rattle.cell_model.specs.IdRows.{name_row, id_bytes, id_number, name_in, id_of}
+use Rattle.cell_model.specs.IdRows.{name_row, id_number, name_in, id_of}
 use Rattle.cell_model.specs.Lawful.{IsLawful}
 use Rattle.cell_laws.specs.Laws.{KeepsId, OneName, NamesBack}
+pub use Rattle.cell_model.proofs.CallerLemmas.{number-bytes}
 use Rattle.cell_laws.proofs.Keeps.{lawful_begins}
 use Rattle.list_lemmas.proofs.BoolTests.{not_Some, same_Some}
 use Rattle.cell_laws.proofs.Ids.{Reversed, value_keeps, forward_uid, reversed}
-
--- the number of an id's bytes is the id
-pub number-bytes : (id : ℕ) → id ≤ MOST_IDS → id_number (id_bytes id) ≡ Some id
-number-bytes id most =
-    let high : byte_at 3 id ≡ 0 = omega arith in
-    ap (λ b. Some (from_be_bytes w32 (b ∷ id_bytes id))) (sym high) ∙ ap Some (from_be_bytes-to_be_bytes_4 id (omega arith))
 
 -- a forward cell
 pub record Forward (h : History) (kind : Kind) (name : List ℕ) (id : ℕ) : Type 0 where
@@ -35,7 +28,7 @@ forward_at : (h : History) (kind : Kind) (name : List ℕ) (id : ℕ) → IsLawf
 forward_at h kind name id l n None is e = absurd (not_Some id (sym e))
 forward_at h kind name id l n (Some v) is e =
     let r = reversed h kind name v l n is in
-    record { value = v; is = is; back = r; id_is = same_Some _ _ (sym (ap id_number r.value_is ∙ number-bytes r.id r.most) ∙ e) }
+    record { value = v; is = is; back = r; id_is = same_Some _ _ (sym (ap id_number r.value_is ∙ number-bytes (store_after h).widths kind r.id r.most) ∙ e) }
 
 pub forward : (h : History) (kind : Kind) (name : List ℕ) (id : ℕ) → IsLawful h → IsName name → id_of h kind name ≡ Some id → Forward h kind name id
 forward h kind name id l n e = forward_at h kind name id l n _ refl e

@@ -1,4 +1,5 @@
 mod Beginnings
+mod SameWidths
 mod Keeps
 mod Entries
 mod Ids

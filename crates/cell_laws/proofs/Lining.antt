@@ -2,14 +2,14 @@
 use Rattle.std.proofs.Common.{◌≡◌, ℕ, Bool, true, false, cond, List, [], ◌∷◌, refl, sym, ap, ◌∙◌}
 use Rattle.std.specs.Prelude.{Option, None, Some, option_map, map}
 use Rattle.std.specs.Ordering.{eq_by_cmp}
-use Rattle.std.specs.FinMap.{get, entries, find, get-entries, get-from_entries, same_map}
+use Rattle.std.specs.FinMap.{find, get-entries, get-from_entries}
 use Rattle.cell_model.specs.declared.events.Place.{Place}
 use Rattle.cell_model.specs.declared.events.Content.{Content}
-use Rattle.cell_model.specs.Store.{place_cmp}
-use Rattle.cell_model.specs.Counts.{line_of, lines_of}
+use Rattle.cell_model.specs.Store.{entries, get, place_cmp}
+use Rattle.cell_model.specs.Counts.{line_of, lines_of, listing_of}
 use Rattle.cell_model.specs.Listed.{entry_of_line, store_of}
 use Rattle.cell_laws.specs.Laws.{LinesTellStore}
-use Rattle.cell_model.proofs.CallerLemmas.{places_total, exact_places}
+use Rattle.cell_model.proofs.CallerLemmas.{places_total, same_store}
 
 without_version : Content → Content
 without_version c = record { value = c.value; version = 0 }
@@ -31,5 +31,5 @@ same_content None h = refl
 same_content (Some c) h = ap (λ (n : ℕ). Some (record { value = c.value; version = n })) (sym (h c refl))
 
 pub lines_tell_store : LinesTellStore
-lines_tell_store s h = same_map places_total exact_places (store_of (lines_of s)) s
-    (λ q. get-from_entries places_total (map entry_of_line (lines_of s)) q ∙ find_told (entries s) q ∙ ap (option_map without_version) (sym (get-entries s q)) ∙ same_content (get s q) (λ c is. h q.row q.qual c is))
+lines_tell_store s h = same_store (store_of (listing_of s)) s refl
+    (λ q. get-from_entries places_total (map entry_of_line (lines_of s)) q ∙ find_told (entries s) q ∙ ap (option_map without_version) (sym (get-entries s.cells q)) ∙ same_content (get s q) (λ c is. h q.row q.qual c is))

@@ -4,7 +4,11 @@ use Rattle.std.specs.Prelude.{nat_le, if◌then◌else◌}
 use Rattle.cell_model.specs.Machine.{reply_of}
 use Rattle.cell_model.specs.History.{History, len, store_after, first}
 use Rattle.cell_model.specs.History.History.{Base, Then}
+use Rattle.cell_model.specs.KindWidths.{Widths}
+use Rattle.cell_model.specs.IdRows.{id_of}
+use Rattle.cell_model.specs.Layout.{RowResolved}
 use Rattle.cell_model.specs.Lawful.{IsAllowed}
+use Rattle.cell_laws.proofs.SameWidths.{seen_back}
 use Rattle.cell_laws.specs.Laws.{FirstIsLawful, EntriesAreLawful, SeenCellReads}
 use Rattle.cell_laws.proofs.Beginnings.{Begins}
 use Rattle.cell_laws.proofs.Beginnings.Begins.{whole, longer}
@@ -57,4 +61,4 @@ pub seen_cell_reads : SeenCellReads
 seen_cell_reads s h row q v l f p k =
     let st = known_cell s h row q v l f k in
     let lb = lawful_begins st.begins l in
-    (each_reads st.behind row q v lb p st.stands, resolved_keeps row.bytes st.begins l (row_resolved st.behind row q v lb p st.stands))
+    (each_reads st.behind row q v lb p st.stands, seen_back f (λ (w : Widths). RowResolved w (id_of h) row.bytes) (resolved_keeps row.bytes st.begins l (row_resolved st.behind row q v lb p st.stands)))

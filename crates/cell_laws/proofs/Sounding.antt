@@ -11,18 +11,20 @@ use Rattle.cell_model.specs.declared.events.Place.{Place}
 use Rattle.cell_model.specs.declared.events.Content.{Content}
 use Rattle.cell_model.specs.declared.events.Step.{Step}
 use Rattle.cell_model.specs.declared.events.Step.TheVariants.{Open, Read, NextRow, Bump, Claim, PutPoint, PutMerged, DropCells}
-use Rattle.cell_model.specs.Store.{Store, place_of, content_at, value_at, written}
-use Rattle.cell_model.specs.Machine.{after, or_written, counter_row, counter_of, kind_qual, MOST_IDS}
-use Rattle.cell_model.specs.History.{History, len, store_after, Had}
+use Rattle.cell_model.specs.Store.{Store, place_of, content_at, value_at, written, dropped}
+use Rattle.cell_model.specs.Machine.{after, or_written, counter_row, counter_of, kind_qual, greatest}
+use Rattle.cell_model.specs.History.{History, base_of, len, store_after, Had}
 use Rattle.cell_laws.proofs.Beginnings.{Begins}
 use Rattle.cell_model.specs.History.History.{Base, Then}
 use Rattle.cell_laws.proofs.Beginnings.Begins.{whole, longer}
-use Rattle.cell_model.specs.IdRows.{name_row, reverse_row, id_row, id_bytes, id_of}
+use Rattle.cell_model.specs.KindWidths.{Widths, IsKindId, kind_bytes}
+use Rattle.cell_model.specs.IdRows.{name_row, reverse_row, id_row, id_of}
 use Rattle.cell_model.specs.Lawful.{IsLawful, MayStep, NamesBasis, IdsBasis, claimed, given}
 use Rattle.cell_model.specs.Sound.{IsCounter, CountersRead, IsGiven, IsForward, IsReverse}
 use Rattle.cell_laws.specs.Laws.{StaysSound, IsTaken, RowIdsAreTaken}
 use Rattle.cell_model.specs.Readings.{point_row}
 use Rattle.cell_model.proofs.CallerLemmas.{content-written_other, get-dropped, same_or_not}
+use Rattle.cell_laws.proofs.SameWidths.{carry}
 use Rattle.cell_laws.proofs.Keeps.{IsUid, stood, lawful_begins}
 use Rattle.cell_laws.proofs.Entries.{entry_at-last}
 use Rattle.cell_laws.proofs.Ids.{came, same_kind, mapped_Some, reverse_uid, base_sound, base_begins, trans_begins, value_keeps, claim_wrote, given_range, not_zero}
@@ -32,7 +34,7 @@ use Rattle.cell_laws.proofs.Known.{value-written, value_step}
 use Rattle.cell_laws.proofs.Written.{row_resolved, each_reads}
 
 given_keeps : {h0 h : History} (kind : Kind) (id : ℕ) → Begins h0 h → IsLawful h → IsGiven (store_after h0) kind id → IsGiven (store_after h) kind id
-given_keeps kind id b l g = record { is_id = g.is_id; counted = let low = g.counted in let grows = counter_keeps kind b l in omega (arith, low, grows) }
+given_keeps kind id b l g = record { is_id = carry b (λ (w : Widths). IsKindId w kind id) g.is_id; counted = let low = g.counted in let grows = counter_keeps kind b l in omega (arith, low, grows) }
 
 -- a reverse cell that stands
 record Reverses (h : History) (bytes qual name : List ℕ) : Type 0 where
@@ -45,10 +47,10 @@ reverse_had h h1 who bytes qual name b l1 l had =
     let row : Row = reverse_row bytes in
     let st = stood h1 had.0 (claimed who row qual name) had.1 in
     let here = lawful_begins st.begins l1 in
-    let basis : NamesBasis (Had st.before) who bytes qual name = here.1.may in
+    let basis : NamesBasis (store_after st.before).widths (Had st.before) who bytes qual name = here.1.may in
     let bump = stood st.before basis.bumped.0 (given who basis.kind basis.number) basis.bumped.1 in
     let lb = lawful_begins bump.begins here.0 in
-    let range = given_range (counter_of (store_after bump.before) basis.kind) basis.number lb.2 in
+    let range = given_range (greatest (store_after bump.before).widths basis.kind) (counter_of (store_after bump.before) basis.kind) basis.number lb.2 in
     let count = given_counts bump.before who basis.kind basis.number lb in
     let now = count.now in
     let later = trans_begins st.begins b in
@@ -59,8 +61,8 @@ reverse_had h h1 who bytes qual name b l1 l had =
         id = basis.number;
         is_kind = basis.is_kind;
         is_name = basis.is_name;
-        given = record { is_id = range; counted = omega (arith, now, grows) };
-        bytes_are = basis.is_id;
+        given = record { is_id = carry (trans_begins (trans_begins (longer whole) bump.begins) (trans_begins (longer whole) later)) (λ (w : Widths). IsKindId w basis.kind basis.number) range; counted = omega (arith, now, grows) };
+        bytes_are = carry (trans_begins (longer whole) later) (λ (w : Widths). bytes ≡ kind_bytes w basis.kind basis.number) basis.is_id;
       };
       stands = value_keeps row qual name later l (reverse_uid bytes qual) (claim_wrote st.before who row qual name here.2);
     }
@@ -73,7 +75,7 @@ reverse_after h bytes qual name l is =
     (elim (came h (place_of row qual) st.content l (reverse_uid bytes qual) st.is) [
       | inl based ↦
           let r = (base_sound h l).reverse bytes qual st.content.value (ap (option_map (λ (c : Content). c.value)) based) in
-          record { kind = r.kind; id = r.id; is_kind = r.is_kind; is_name = r.is_name; given = given_keeps r.kind r.id (base_begins h) l r.given; bytes_are = r.bytes_are }
+          record { kind = r.kind; id = r.id; is_kind = r.is_kind; is_name = r.is_name; given = given_keeps r.kind r.id (base_begins h) l r.given; bytes_are = carry (base_begins h) (λ (w : Widths). bytes ≡ kind_bytes w r.kind r.id) r.bytes_are }
       | inr c ↦
           (reverse_had h (Then c.before (claimed c.caller row qual st.content.value)) c.caller bytes qual st.content.value c.begins (lawful_begins c.begins l) l (len c.before + 1, entry_at-last c.before (claimed c.caller row qual st.content.value))).is
     ])
@@ -98,8 +100,9 @@ forward_after h name qual value l ne is =
             is_kind = r.is_kind;
             is_name = r.is_name;
             given = given_keeps r.kind r.id (base_begins h) l r.given;
-            value_is = r.value_is;
-            name_is = value_keeps (id_row r.id) (kind_qual r.kind) name (base_begins h) l (reverse_uid (id_bytes r.id) (kind_qual r.kind)) r.name_is;
+            value_is = carry (base_begins h) (λ (w : Widths). st.content.value ≡ kind_bytes w r.kind r.id) r.value_is;
+            name_is = carry (base_begins h) (λ (w : Widths). value_at (store_after h) (id_row w r.kind r.id) (kind_qual r.kind) ≡ Some name)
+                (value_keeps (id_row (base_of h).widths r.kind r.id) (kind_qual r.kind) name (base_begins h) l (reverse_uid (kind_bytes (base_of h).widths r.kind r.id) (kind_qual r.kind)) r.name_is);
           }
       | inr c ↦
           let here = lawful_begins c.begins l in
@@ -136,7 +139,7 @@ step_counters : (h : History) (caller : ℕ) (step : Step) (place : ℕ) → IsL
 step_counters h caller Open place l may go qual v is = go qual v is
 step_counters h caller (Read row) place l may go qual v is = go qual v is
 step_counters h caller (NextRow table from to) place l may go qual v is = go qual v is
-step_counters h caller (Bump kind) place l may go qual v is = at (nat_lt (counter_of (store_after h) kind) MOST_IDS) refl is (same_or_not (place_of counter_row qual) (place_of counter_row (kind_qual kind)))
+step_counters h caller (Bump kind) place l may go qual v is = at (nat_lt (counter_of (store_after h) kind) (greatest (store_after h).widths kind)) refl is (same_or_not (place_of counter_row qual) (place_of counter_row (kind_qual kind)))
   where
     s : Store
     s = store_after h
@@ -144,20 +147,20 @@ step_counters h caller (Bump kind) place l may go qual v is = at (nat_lt (counte
     bytes : List ℕ
     bytes = to_be_bytes w64 (counter_of (store_after h) kind + 1)
 
-    at : (b : Bool) → nat_lt (counter_of (store_after h) kind) MOST_IDS ≡ b
+    at : (b : Bool) → nat_lt (counter_of (store_after h) kind) (greatest (store_after h).widths kind) ≡ b
         → value_at (if b then written (store_after h) counter_row (kind_qual kind) (to_be_bytes w64 (counter_of (store_after h) kind + 1)) (place % 2 ^ 64) else store_after h) counter_row qual ≡ Some v
-        → (place_of counter_row qual ≡ place_of counter_row (kind_qual kind)) ⊎ (place_of counter_row qual ≢ place_of counter_row (kind_qual kind)) → IsCounter qual v
+        → (place_of counter_row qual ≡ place_of counter_row (kind_qual kind)) ⊎ (place_of counter_row qual ≢ place_of counter_row (kind_qual kind)) → IsCounter (store_after h).widths qual v
     at false t e d = go qual v e
     at true t e (inr ne) = go qual v (counter_other (store_after h) counter_row (kind_qual kind) (to_be_bytes w64 (counter_of (store_after h) kind + 1)) qual v (place % 2 ^ 64) ne e)
     at true t e (inl same) =
-        let below : counter_of (store_after h) kind < MOST_IDS = search (rules, t) in
+        let below : counter_of (store_after h) kind < greatest (store_after h).widths kind = search (rules, t) in
         let here = value-written (store_after h) counter_row (kind_qual kind) (to_be_bytes w64 (counter_of (store_after h) kind + 1)) (place % 2 ^ 64) in
         let there = subst (λ (p : Place). value_at (written (store_after h) counter_row (kind_qual kind) (to_be_bytes w64 (counter_of (store_after h) kind + 1)) (place % 2 ^ 64)) p.row p.qual ≡ Some v) same e in
         record { kind = kind; number = counter_of (store_after h) kind + 1; is_kind = ap (λ (p : Place). p.qual) same; least = omega arith; most = omega (arith, below); value_is = same_value v _ (sym there ∙ here) }
 step_counters h caller (Claim row q value) place l may go qual v is = go qual v (claim_counters (store_after h) row q value qual v _ (value_at (store_after h) row q) (claim_differs h caller row q value l may) is)
 step_counters h caller (PutPoint point row q value) place l may go qual v is = go qual v (counter_other (store_after h) row q value qual v _ (apart row qual q (point_differs row may.in_points)) is)
 step_counters h caller (PutMerged row q value) place l may go qual v is = go qual v (counter_other (store_after h) row q value qual v _ (apart row qual q (point_differs row may.in_points)) is)
-step_counters h caller (DropCells row which) place l may go qual v is = go qual v (value_step (store_after h) _ counter_row qual v (λ c e. get-dropped (store_after h) row which (place_of counter_row qual) c e) is)
+step_counters h caller (DropCells row which) place l may go qual v is = go qual v (value_step (store_after h) (dropped (store_after h) row which) counter_row qual v (λ c e. get-dropped (store_after h) row which (place_of counter_row qual) c e) is)
 
 counters_after : (h : History) → IsLawful h → CountersRead (store_after h)
 counters_after (Base base) l = l.sound.counters
@@ -178,7 +181,8 @@ taken h kind name id l n ne is =
     let f = forward h kind name id l n is in
     let g = forward_after h name (kind_qual kind) f.value l ne f.is in
     let one_kind : kind ≡ g.kind = same_kind kind g.kind g.is_kind in
-    let one : f.back.id ≡ g.id = same_number f.back.id g.id f.back.most g.given.is_id.1 (sym f.back.value_is ∙ g.value_is) in
+    let one : f.back.id ≡ g.id = same_number (store_after h).widths kind f.back.id g.id f.back.most (subst (λ (k : Kind). g.id ≤ greatest (store_after h).widths k) (sym one_kind) g.given.is_id.1)
+    (sym f.back.value_is ∙ subst (λ (k : Kind). f.value ≡ kind_bytes (store_after h).widths k g.id) (sym one_kind) g.value_is) in
     record {
       name = name;
       is_name = n;

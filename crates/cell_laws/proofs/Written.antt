@@ -18,7 +18,10 @@ use Rattle.cell_laws.proofs.Beginnings.{Begins}
 use Rattle.cell_model.specs.History.History.{Base, Then}
 use Rattle.cell_laws.proofs.Beginnings.Begins.{whole, longer}
 use Rattle.cell_model.specs.IdRows.{id_of}
+use Rattle.row_key.specs.Key.{IsKey, key_bytes}
+use Rattle.cell_model.specs.KindWidths.{Widths}
 use Rattle.cell_model.specs.Layout.{RowResolved, names_of, tag_names}
+use Rattle.cell_laws.proofs.SameWidths.{carry}
 use Rattle.cell_model.specs.Lawful.{IsLawful, MayStep, PointBasis, HadCell, Wrote}
 use Rattle.cell_laws.specs.Laws.{EachReads}
 use Rattle.list_lemmas.proofs.ListMembers.{here, there}
@@ -54,11 +57,11 @@ pub each_reads : EachReads
 each_reads h row q v l p is = had_reads h row q v l p (had_cell h row q v l p is)
 
 -- a row keeps its names
-pub resolved_keeps : {h0 h : History} (row : List ℕ) → Begins h0 h → IsLawful h → RowResolved (id_of h0) row → RowResolved (id_of h) row
+pub resolved_keeps : {h0 h : History} (row : List ℕ) → Begins h0 h → IsLawful h → RowResolved (store_after h0).widths (id_of h0) row → RowResolved (store_after h).widths (id_of h) row
 resolved_keeps row b l r = record {
   key = r.key;
-  is_key = r.is_key;
-  row_is = r.row_is;
+  is_key = carry b (λ (w : Widths). IsKey w r.key) r.is_key;
+  row_is = carry b (λ (w : Widths). row ≡ key_bytes w r.key) r.row_is;
   name = r.name;
   is_name = r.is_name;
   metric_is = id_keeps Metric r.name r.key.metric b l r.is_name r.metric_is;
@@ -71,7 +74,7 @@ pub record Resolves (h : History) (kind : Kind) (name : List ℕ) (id : ℕ) : T
   pub id_is : id_of h kind name ≡ Some id
 
 abbrev pub Basis : History → DataPoint → Row → List ℕ → List ℕ → Type 0
-Basis h point row q v = PointBasis (λ kind name id. id_of h kind name ≡ Some id) point row q v
+Basis h point row q v = PointBasis (store_after h).widths (λ kind name id. id_of h kind name ≡ Some id) point row q v
 
 pub point_resolves : (h : History) (p : DataPoint) (row : Row) (q v : List ℕ) → (b : Basis h p row q v) → (kind : Kind) (name : List ℕ) → Contains (names_of p) (kind, name) → Resolves h kind name (b.ids kind name)
 point_resolves h p row q v b kind name c = record { is_name = point_name p kind name b.is_point c; id_is = b.resolved kind name c }
@@ -86,7 +89,7 @@ pub value_resolves : (h : History) (p : DataPoint) (row : Row) (q v : List ℕ) 
 value_resolves h p row q v b t c = point_resolves h p row q v b TagValue t.1 (there _ _ (tag_names p.tags) (tag_in p.tags t c).1)
 
 -- the row of a point that may be put has its names
-pub put_resolved : (h : History) (p : DataPoint) (row : Row) (q v : List ℕ) → Basis h p row q v → RowResolved (id_of h) row.bytes
+pub put_resolved : (h : History) (p : DataPoint) (row : Row) (q v : List ℕ) → Basis h p row q v → RowResolved (store_after h).widths (id_of h) row.bytes
 put_resolved h p row q v b =
     let has = b.layout.has in
     let m = metric_resolves h p row q v b in
@@ -109,15 +112,15 @@ some_dot [] h = absurd (omega (arith, h))
 some_dot (d ∷ ds) h = (d, here d ds)
 
 abbrev Before : History → Row → Type 0
-Before h row = (q v : List ℕ) → HadCell h row q v → RowResolved (id_of h) row.bytes
+Before h row = (q v : List ℕ) → HadCell h row q v → RowResolved (store_after h).widths (id_of h) row.bytes
 
-wrote_resolved : (h : History) (caller : ℕ) (row : Row) (q v : List ℕ) (step : Step) → MayStep h caller step → Wrote row q v step → Before h row → RowResolved (id_of h) row.bytes
+wrote_resolved : (h : History) (caller : ℕ) (row : Row) (q v : List ℕ) (step : Step) → MayStep h caller step → Wrote row q v step → Before h row → RowResolved (store_after h).widths (id_of h) row.bytes
 wrote_resolved h caller row q v Open may w go = absurd w
 wrote_resolved h caller row q v (Read r) may w go = absurd w
 wrote_resolved h caller row q v (NextRow table from to) may w go = absurd w
 wrote_resolved h caller row q v (Bump kind) may w go = absurd w
 wrote_resolved h caller row q v (Claim r qual value) may w go = absurd w
-wrote_resolved h caller row q v (PutPoint point r qual value) may w go = subst (λ (x : Row). RowResolved (id_of h) x.bytes) w.0 (put_resolved h point r qual value may)
+wrote_resolved h caller row q v (PutPoint point r qual value) may w go = subst (λ (x : Row). RowResolved (store_after h).widths (id_of h) x.bytes) w.0 (put_resolved h point r qual value may)
 wrote_resolved h caller row q v (PutMerged r qual value) may w go =
     let d = some_dot may.dots may.reads.items.some in
     let from = may.each d.0 d.1 in
@@ -125,15 +128,15 @@ wrote_resolved h caller row q v (PutMerged r qual value) may w go =
 wrote_resolved h caller row q v (DropCells r which) may w go = absurd w
 
 -- the row of each cell that was ever written has its names
-pub had_resolved : (h : History) (row : Row) (q v : List ℕ) → IsLawful h → row.table ≡ Points → HadCell h row q v → RowResolved (id_of h) row.bytes
+pub had_resolved : (h : History) (row : Row) (q v : List ℕ) → IsLawful h → row.table ≡ Points → HadCell h row q v → RowResolved (store_after h).widths (id_of h) row.bytes
 had_resolved (Base base) row q v l p (inl is) = l.sound.rows row q v p is
 had_resolved (Base base) row q v l p (inr w) = absurd (not_Some w.0 (sym w.1.1))
 had_resolved (Then h last) row q v l p c = resolved_keeps row.bytes (longer whole) l (at (cell_split h last row q v c) (λ a b x. had_resolved h row a b l.0 p x))
   where
-    at : HadCell h row q v ⊎ Wrote row q v last.step → Before h row → RowResolved (id_of h) row.bytes
+    at : HadCell h row q v ⊎ Wrote row q v last.step → Before h row → RowResolved (store_after h).widths (id_of h) row.bytes
     at (inl before) go = go q v before
     at (inr w) go = wrote_resolved h last.caller row q v last.step l.1.may w go
 
 -- the row of each cell that stands has its names
-pub row_resolved : (h : History) (row : Row) (q v : List ℕ) → IsLawful h → row.table ≡ Points → value_at (store_after h) row q ≡ Some v → RowResolved (id_of h) row.bytes
+pub row_resolved : (h : History) (row : Row) (q v : List ℕ) → IsLawful h → row.table ≡ Points → value_at (store_after h) row q ≡ Some v → RowResolved (store_after h).widths (id_of h) row.bytes
 row_resolved h row q v l p is = had_resolved h row q v l p (had_cell h row q v l p is)

@@ -1,6 +1,6 @@
 -- Worked examples, computed by the definitions.
 use Rattle.std.specs.Prelude.{◌≡◌, ℕ, ℤ, pos, neg_ℤ, ◌-◌, ◌^◌, Bool, true, false, List, [], ◌∷◌, ◌++◌, None, Some}
-use Rattle.std.specs.FinMap.{empty}
+use Rattle.row_key.specs.Made.{three}
 use Rattle.tsd_base.specs.declared.kinds.Kind.{Kind}
 use Rattle.tsd_base.specs.declared.kinds.Kind.TheVariants.{Metric, TagKey, TagValue}
 use Rattle.row_key.specs.declared.tables.Table.TheVariants.{Ids, Names, Points}
@@ -15,12 +15,13 @@ use Rattle.cell_model.specs.declared.events.Reply.TheVariants.{Opened, Shown, Bu
 use Rattle.cell_model.specs.declared.events.Entry.{Entry}
 use Rattle.cell_model.specs.declared.row.Found.{Found}
 use Rattle.tsd_base.specs.Points.{DataPoint}
-use Rattle.cell_model.specs.Store.{Store, content_at, cells_of, next_row_of, drop_count}
+use Rattle.cell_model.specs.KindWidths.{kind_bytes}
+use Rattle.cell_model.specs.Store.{Store, no_cells, content_at, cells_of, next_row_of, drop_count}
 use Rattle.cell_model.specs.Ranges.{InOneRange}
 use Rattle.cell_model.specs.Machine.{after, kind_qual, counter_of}
 use Rattle.cell_model.specs.History.{History, store_after}
 use Rattle.cell_model.specs.History.History.{Base, Then}
-use Rattle.cell_model.specs.IdRows.{name_row, id_row, id_bytes, id_of, name_of}
+use Rattle.cell_model.specs.IdRows.{name_row, id_row, id_of, name_of}
 use Rattle.cell_model.specs.Lawful.{IsLawful}
 
 -- the caller made the step and had this reply
@@ -43,17 +44,17 @@ race =
     ∷ did 2 Open (Opened 2)
     ∷ did 1 (Read (name_row name_a)) (Shown [])
     ∷ did 1 (Bump Metric) (BumpReply (Given 1))
-    ∷ did 1 (Claim (id_row 1) (kind_qual Metric) name_a) (ClaimReply Done)
+    ∷ did 1 (Claim (id_row three Metric 1) (kind_qual Metric) name_a) (ClaimReply Done)
     ∷ did 2 (Read (name_row name_a)) (Shown [])
     ∷ did 2 (Bump Metric) (BumpReply (Given 2))
-    ∷ did 2 (Claim (id_row 2) (kind_qual Metric) name_a) (ClaimReply Done)
-    ∷ did 2 (Claim (name_row name_a) (kind_qual Metric) (id_bytes 2)) (ClaimReply Done)
-    ∷ did 1 (Claim (name_row name_a) (kind_qual Metric) (id_bytes 1)) (ClaimReply (Held (id_bytes 2)))
+    ∷ did 2 (Claim (id_row three Metric 2) (kind_qual Metric) name_a) (ClaimReply Done)
+    ∷ did 2 (Claim (name_row name_a) (kind_qual Metric) (kind_bytes three Metric 2)) (ClaimReply Done)
+    ∷ did 1 (Claim (name_row name_a) (kind_qual Metric) (kind_bytes three Metric 1)) (ClaimReply (Held (kind_bytes three Metric 2)))
     ∷ []
 
 -- the race over the empty store
 abbrev pub raced : History
-raced = told (Base empty) race
+raced = told (Base (no_cells three)) race
 
 -- the race is lawful; the name has the id of the one who was first, and the id of the other is wasted
 pub record RaceIsLost : Type 0 where
@@ -100,8 +101,8 @@ four_value = 42 ∷ 255 ∷ 7 ∷ 1 ∷ 44 ∷ 1 ∷ []
 abbrev pub names : Kind → List ℕ → List Entry
 names kind name =
     did 1 (Bump kind) (BumpReply (Given 1))
-    ∷ did 1 (Claim (id_row 1) (kind_qual kind) name) (ClaimReply Done)
-    ∷ did 1 (Claim (name_row name) (kind_qual kind) (id_bytes 1)) (ClaimReply Done)
+    ∷ did 1 (Claim (id_row three kind 1) (kind_qual kind) name) (ClaimReply Done)
+    ∷ did 1 (Claim (name_row name) (kind_qual kind) (kind_bytes three kind 1)) (ClaimReply Done)
     ∷ []
 
 -- three points are put and compacted, then a fourth is put, and all are compacted
@@ -119,7 +120,7 @@ two_compactions =
 
 -- a caller gives ids to the names of a series, puts points and compacts their row twice
 abbrev pub compacted : History
-compacted = told (Base empty) (did 1 Open (Opened 1) ∷ names Metric (109 ∷ []) ++ names TagKey (104 ∷ []) ++ names TagValue name_a ++ two_compactions)
+compacted = told (Base (no_cells three)) (did 1 Open (Opened 1) ∷ names Metric (109 ∷ []) ++ names TagKey (104 ∷ []) ++ names TagValue name_a ++ two_compactions)
 
 -- a cell of this qualifier, value and version
 abbrev pub cell : List ℕ → List ℕ → ℕ → Cell
@@ -132,7 +133,7 @@ pub record OneCellIsLeft : Type 0 where
 
 -- the store of one cell, which was written at this place
 abbrev pub written_at : ℕ → Store
-written_at place = after empty place (PutMerged series_row at_start (42 ∷ []))
+written_at place = after (no_cells three) place (PutMerged series_row at_start (42 ∷ []))
 
 -- the greatest version is 2 ^ 64 - 1, and the one after it is 0; a drop takes versions up to the one that it names
 pub record VersionsEnd : Type 0 where
@@ -144,36 +145,36 @@ pub record VersionsEnd : Type 0 where
 
 -- the least rows of each range of names, and the bytes at which it ends
 pub record RangesEnd : Type 0 where
-  pub low : InOneRange Ids (1 ∷ []) (65 ∷ [])
-  pub capitals : InOneRange Ids (65 ∷ []) (97 ∷ [])
-  pub early : InOneRange Ids (97 ∷ []) (110 ∷ [])
-  pub late : InOneRange Ids (110 ∷ []) (123 ∷ [])
-  pub metric : InOneRange Points (0 ∷ 0 ∷ 1 ∷ []) (0 ∷ 0 ∷ 1 ∷ 255 ∷ 255 ∷ [])
-  pub no_counters : InOneRange Ids (0 ∷ []) (65 ∷ []) → ⊥
-  pub no_capital : InOneRange Ids (1 ∷ []) (65 ∷ 0 ∷ []) → ⊥
-  pub no_small : InOneRange Ids (65 ∷ []) (97 ∷ 0 ∷ []) → ⊥
-  pub no_late : InOneRange Ids (97 ∷ []) (110 ∷ 0 ∷ []) → ⊥
-  pub no_end : InOneRange Ids (110 ∷ []) (123 ∷ 0 ∷ []) → ⊥
-  pub no_other_metric : InOneRange Points (0 ∷ 0 ∷ 1 ∷ []) (0 ∷ 0 ∷ 2 ∷ []) → ⊥
-  pub no_names : (from to : List ℕ) → InOneRange Names from to → ⊥
+  pub low : InOneRange three Ids (1 ∷ []) (65 ∷ [])
+  pub capitals : InOneRange three Ids (65 ∷ []) (97 ∷ [])
+  pub early : InOneRange three Ids (97 ∷ []) (110 ∷ [])
+  pub late : InOneRange three Ids (110 ∷ []) (123 ∷ [])
+  pub metric : InOneRange three Points (0 ∷ 0 ∷ 1 ∷ []) (0 ∷ 0 ∷ 1 ∷ 255 ∷ 255 ∷ [])
+  pub no_counters : InOneRange three Ids (0 ∷ []) (65 ∷ []) → ⊥
+  pub no_capital : InOneRange three Ids (1 ∷ []) (65 ∷ 0 ∷ []) → ⊥
+  pub no_small : InOneRange three Ids (65 ∷ []) (97 ∷ 0 ∷ []) → ⊥
+  pub no_late : InOneRange three Ids (97 ∷ []) (110 ∷ 0 ∷ []) → ⊥
+  pub no_end : InOneRange three Ids (110 ∷ []) (123 ∷ 0 ∷ []) → ⊥
+  pub no_other_metric : InOneRange three Points (0 ∷ 0 ∷ 1 ∷ []) (0 ∷ 0 ∷ 2 ∷ []) → ⊥
+  pub no_names : (from to : List ℕ) → InOneRange three Names from to → ⊥
 
 -- the machine alone: the names `a` and `b`, each with an id
 abbrev pub two_names : List Entry
 two_names =
-    did 1 (PutMerged (name_row (97 ∷ [])) (kind_qual Metric) (id_bytes 1)) Written
-    ∷ did 1 (PutMerged (name_row (98 ∷ [])) (kind_qual Metric) (id_bytes 2)) Written
+    did 1 (PutMerged (name_row (97 ∷ [])) (kind_qual Metric) (kind_bytes three Metric 1)) Written
+    ∷ did 1 (PutMerged (name_row (98 ∷ [])) (kind_qual Metric) (kind_bytes three Metric 2)) Written
     ∷ []
 
 -- the store with these two rows
 abbrev pub named : Store
-named = store_after (told (Base empty) two_names)
+named = store_after (told (Base (no_cells three)) two_names)
 
 -- the row of `a` or of `b` with its cell
 abbrev pub row_a : Found
-row_a = record { row = name_row (97 ∷ []); cells = cell (kind_qual Metric) (id_bytes 1) 1 ∷ [] }
+row_a = record { row = name_row (97 ∷ []); cells = cell (kind_qual Metric) (kind_bytes three Metric 1) 1 ∷ [] }
 
 abbrev pub row_b : Found
-row_b = record { row = name_row (98 ∷ []); cells = cell (kind_qual Metric) (id_bytes 2) 2 ∷ [] }
+row_b = record { row = name_row (98 ∷ []); cells = cell (kind_qual Metric) (kind_bytes three Metric 2) 2 ∷ [] }
 
 -- a range has its first row, and not the row at its end
 pub record NextRowEnds : Type 0 where

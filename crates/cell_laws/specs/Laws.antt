@@ -4,7 +4,8 @@ use Rattle.tsd_base.specs.declared.kinds.Kind.{Kind}
 use Rattle.tsd_base.specs.declared.kinds.Kind.TheVariants.{Metric, TagKey, TagValue}
 use Rattle.tsd_base.specs.Alphabet.{IsName}
 use Rattle.row_key.specs.declared.keys.RowKey.{RowKey}
-use Rattle.row_key.specs.Key.{IsId, IsKey, key_bytes}
+use Rattle.row_key.specs.Key.{IsKey, key_bytes}
+use Rattle.cell_model.specs.KindWidths.{IsKindId, kind_bytes}
 use Rattle.row_key.specs.declared.tables.Table.TheVariants.{Points}
 use Rattle.qual_codec.specs.CellDots.{Reads}
 use Rattle.qual_codec.specs.Order.{IsBelow}
@@ -19,12 +20,12 @@ use Rattle.cell_model.specs.declared.events.Entry.{Entry}
 use Rattle.cell_model.specs.declared.events.Placed.{Placed}
 use Rattle.cell_model.specs.declared.events.Content.{Content}
 use Rattle.cell_model.specs.Store.{Store, content_at, value_at}
-use Rattle.cell_model.specs.Counts.{lines_of}
+use Rattle.cell_model.specs.Counts.{listing_of}
 use Rattle.cell_model.specs.Listed.{store_of}
 use Rattle.cell_model.specs.Machine.{reply_of, counter_of, kind_qual}
 use Rattle.cell_model.specs.History.{History, base_of, len, entry_at, first, store_after, Had}
 use Rattle.cell_model.specs.History.History.{Then}
-use Rattle.cell_model.specs.IdRows.{id_in, id_of, name_of, id_bytes, id_number, id_row, name_row}
+use Rattle.cell_model.specs.IdRows.{id_in, id_of, name_of, id_number, id_row, name_row}
 use Rattle.cell_model.specs.Layout.{RowResolved}
 use Rattle.cell_model.specs.Sound.{IsSound}
 use Rattle.cell_model.specs.Lawful.{IsLawful, IsAllowed, MayStep, HadCell, given, claimed}
@@ -59,26 +60,26 @@ EntriesAreLawful = (h : History) (place : ℕ) (e : Entry) → IsLawful h → en
 -- a cell of a point row that a seen entry shows reads, and the ids of its row are those of names
 abbrev pub SeenCellReads : Type 0
 SeenCellReads = (s : Seen) (h : History) (row : Row) (qual value : List ℕ) → IsLawful h → Fits s h → row.table ≡ Points → KnowsCell s row qual value
-    → Reads qual value × RowResolved (id_of h) row.bytes
+    → Reads qual value × RowResolved s.base.widths (id_of h) row.bytes
 
 -- what a seen entry shows of a name's cell is an id, which the name has in each lawful history that fits
 abbrev pub SeenIdStands : Type 0
 SeenIdStands = (s : Seen) (h : History) (kind : Kind) (name value : List ℕ) → IsLawful h → Fits s h → IsName name → KnowsCell s (name_row name) (kind_qual kind) value
-    → (id : ℕ) × IsId id × (value ≡ id_bytes id) × (id_number value ≡ Some id) × (id_of h kind name ≡ Some id)
+    → (id : ℕ) × IsKindId s.base.widths kind id × (value ≡ kind_bytes s.base.widths kind id) × (id_number value ≡ Some id) × (id_of h kind name ≡ Some id)
 
 -- what a seen entry shows of an id's cell is a name, which the id has in each lawful history that fits
 abbrev pub SeenNameStands : Type 0
-SeenNameStands = (s : Seen) (h : History) (kind : Kind) (id : ℕ) (name : List ℕ) → IsLawful h → Fits s h → KnowsCell s (id_row id) (kind_qual kind) name
+SeenNameStands = (s : Seen) (h : History) (kind : Kind) (id : ℕ) (name : List ℕ) → IsLawful h → Fits s h → KnowsCell s (id_row s.base.widths kind id) (kind_qual kind) name
     → IsName name × (name_of h kind id ≡ Some name)
 
 -- what a bump gave is an id
 abbrev pub GivenIsId : Type 0
-GivenIsId = (s : Seen) (h : History) (place caller : ℕ) (kind : Kind) (id : ℕ) → IsLawful h → Fits s h → Saw s place (given caller kind id) → IsId id
+GivenIsId = (s : Seen) (h : History) (place caller : ℕ) (kind : Kind) (id : ℕ) → IsLawful h → Fits s h → Saw s place (given caller kind id) → IsKindId s.base.widths kind id
 
 -- a caller that was just given an id doesn't find its cell held
 abbrev pub GivenIsFree : Type 0
 GivenIsFree = (before bumped claimed : Seen) (kind : Kind) (id : ℕ) (name value : List ℕ) → Stepped before (Bump kind) (BumpReply (Given id)) bumped
-    → Stepped bumped (Claim (id_row id) (kind_qual kind) name) (ClaimReply (Held value)) claimed → IsPossible claimed → ⊥
+    → Stepped bumped (Claim (id_row before.base.widths kind id) (kind_qual kind) name) (ClaimReply (Held value)) claimed → IsPossible claimed → ⊥
 
 -- a resolved name keeps its id
 abbrev pub KeepsId : Type 0
@@ -115,7 +116,7 @@ pub record IsTakenKey (h : History) (key : RowKey) : Type 0 where
 -- each id in a point row has a name, and isn't above its counter
 abbrev pub RowIdsAreTaken : Type 0
 RowIdsAreTaken = (h : History) (row qual value : List ℕ) → IsLawful h → value_at (store_after h) (point_row row) qual ≡ Some value
-    → (key : RowKey) × IsKey key × (row ≡ key_bytes key) × IsTakenKey h key
+    → (key : RowKey) × IsKey (store_after h).widths key × (row ≡ key_bytes (store_after h).widths key) × IsTakenKey h key
 
 -- the id was up to the counter of the base, and no name had it there
 pub record WasWasted (h : History) (kind : Kind) (id : ℕ) : Type 0 where
@@ -128,7 +129,7 @@ pub record WasLost (h : History) (kind : Kind) (id : ℕ) : Type 0 where
   pub place : ℕ
   pub bumped : entry_at h place ≡ Some (given caller kind id)
   pub once : (other who : ℕ) → entry_at h other ≡ Some (given who kind id) → other ≡ place
-  pub unclaimed : (who : ℕ) (name : List ℕ) → Had h (claimed who (name_row name) (kind_qual kind) (id_bytes id)) → ⊥
+  pub unclaimed : (who : ℕ) (name : List ℕ) → Had h (claimed who (name_row name) (kind_qual kind) (kind_bytes (base_of h).widths kind id)) → ⊥
 
 -- an id up to the counter that no name has was wasted in the base, or by one bump
 abbrev pub Waste : Type 0
@@ -212,7 +213,7 @@ MadeStands = (old new : Seen) (own : List Placed) (h : History) → Made old own
 
 -- a store in which no cell has a version yet is the one that its lines tell
 abbrev pub LinesTellStore : Type 0
-LinesTellStore = (s : Store) → ((row : Row) (qual : List ℕ) (c : Content) → content_at s row qual ≡ Some c → c.version ≡ 0) → store_of (lines_of s) ≡ s
+LinesTellStore = (s : Store) → ((row : Row) (qual : List ℕ) (c : Content) → content_at s row qual ≡ Some c → c.version ≡ 0) → store_of (listing_of s) ≡ s
 
 -- the first entries of a history that fits, up to the seen length, fit
 abbrev pub FirstFits : Type 0

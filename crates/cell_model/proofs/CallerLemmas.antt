@@ -2,6 +2,8 @@
 -- ---- the orders of rows and of places
 -- they are total, and what ties in them is one
 pub use Rattle.cell_model.proofs.Stores.{rows_total, places_total, exact_rows, exact_places}
+-- stores that have the same widths and the same at each place are one
+pub use Rattle.cell_model.proofs.Stores.{same_store, stamped_widths}
 -- two places are one, or they are not
 pub use Rattle.cell_model.proofs.Stores.{same_or_not}
 -- ---- what a store has at a place
@@ -18,3 +20,6 @@ pub use Rattle.cell_model.proofs.Stamps.{bump_stamped, claim_stamped, put_stampe
 pub use Rattle.cell_model.proofs.Stamps.{bump_full, claim_held}
 -- the cell that a step wrote is there
 pub use Rattle.cell_model.proofs.Stamps.{bump_there, claim_there, put_there}
+-- ---- ids of a kind
+-- its width is one, each id fits four bytes, and the number of an id's bytes is the id
+pub use Rattle.cell_model.proofs.KindLemmas.{kind_fits, greatest_fits, number-bytes}

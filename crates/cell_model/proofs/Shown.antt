@@ -6,13 +6,13 @@ use Rattle.std.specs.declared.cmp.Ordering.TheVariants.{Less, Equal, Greater}
 use Rattle.std.specs.Ordering.{ordering_then, eq_by_cmp, is_eq}
 use Rattle.std.specs.Cmp.Lexicographic.{texts_ties, nat_list_cmp_total}
 use Rattle.std.specs.Cmp.{eq_by_cmp_equiv}
-use Rattle.std.specs.FinMap.{entries, get-entries}
+use Rattle.std.specs.FinMap.{get-entries}
 use Rattle.std.specs.FinMap as map
 use Rattle.cell_model.specs.declared.row.Row.{Row}
 use Rattle.qual_codec.specs.declared.cells.Cell.{Cell}
 use Rattle.cell_model.specs.declared.events.Place.{Place}
 use Rattle.cell_model.specs.declared.events.Content.{Content}
-use Rattle.cell_model.specs.Store.{Store, place_cmp, row_cmp, place_of, value_at, cells_of, cell_of, same_bytes, value_among}
+use Rattle.cell_model.specs.Store.{Store, entries, place_cmp, row_cmp, place_of, value_at, cells_of, cell_of, same_bytes, value_among}
 use Rattle.list_lemmas.specs.BytesOrder.{bytes_cmp}
 
 then_both : (a b : Ordering) → is_eq (ordering_then a b) ≡ (is_eq a && is_eq b)
@@ -42,4 +42,4 @@ list_value row qual (e ∷ es) =
 
 -- what the cells of a row have is what the store has
 pub value_among-cells_of : (s : Store) (row : Row) (qual : List ℕ) → value_at s row qual ≡ value_among (cells_of s row) qual
-value_among-cells_of s row qual = ap (option_map (λ (c : Content). c.value)) (get-entries s (place_of row qual)) ∙ list_value row qual (entries s)
+value_among-cells_of s row qual = ap (option_map (λ (c : Content). c.value)) (get-entries s.cells (place_of row qual)) ∙ list_value row qual (entries s)

@@ -4,7 +4,7 @@ use Rattle.std.specs.Prelude.{Option, None, Some, if◌then◌else◌}
 use Rattle.std.specs.Ordering.{nat_cmp, eq_by_cmp, is_eq}
 use Rattle.std.specs.Cmp.{IsTotalOrder, on_total, then_total, nat_cmp_total, tied_itself}
 use Rattle.std.specs.Cmp.Lexicographic.{nat_list_cmp_total}
-use Rattle.std.specs.FinMap.{get, remove, get-insert, get-remove, same_map, slice_cmp-IsAntisymmetric, nat_cmp-IsAntisymmetric}
+use Rattle.std.specs.FinMap.{get-insert, get-remove, same_map, slice_cmp-IsAntisymmetric, nat_cmp-IsAntisymmetric}
 use Rattle.std.proofs.lemmas.Map.Lookups.{CmpEqualImpliesEq, exact_pairs, exact_unsigned}
 use Rattle.list_lemmas.proofs.BoolTests.{is_equal}
 use Rattle.row_key.specs.declared.tables.Table.{Table}
@@ -12,7 +12,7 @@ use Rattle.row_key.specs.declared.tables.Table.TheVariants.{Ids, Names, Points}
 use Rattle.cell_model.specs.declared.row.Row.{Row}
 use Rattle.cell_model.specs.declared.events.Place.{Place}
 use Rattle.cell_model.specs.declared.events.Content.{Content}
-use Rattle.cell_model.specs.Store.{Store, table_number, row_cmp, place_cmp, place_of, content_at, written, stamped, stamped_over, is_dropped, dropped}
+use Rattle.cell_model.specs.Store.{Store, get, remove, table_number, row_cmp, place_cmp, place_of, content_at, written, stamped, stamped_over, is_dropped, dropped}
 use Rattle.list_lemmas.specs.BytesOrder.{bytes_cmp}
 
 pub rows_total : IsTotalOrder row_cmp
@@ -52,20 +52,24 @@ untied p q ne = at (eq_by_cmp place_cmp p q) refl
     at true e = absurd (ne (exact_places p q (is_equal _ e)))
     at false e = refl
 
+-- stores with the same widths that have the same at each place are one
+pub same_store : (s t : Store) → s.widths ≡ t.widths → ((p : Place) → get s p ≡ get t p) → s ≡ t
+same_store s t w e = λ i. record { widths = w i; cells = same_map places_total exact_places s.cells t.cells e i }
+
 -- what was written stands there
 pub content-written : (s : Store) (row : Row) (qual value : List ℕ) (version : ℕ) → content_at (written s row qual value version) row qual ≡ Some (record { value = value; version = version })
 content-written s row qual value version =
     let c : Content = record { value = value; version = version } in
-    get-insert places_total s (place_of row qual) c (place_of row qual) ∙ ap (λ b. cond b (Some c) (content_at s row qual)) (tied (place_of row qual))
+    get-insert places_total s.cells (place_of row qual) c (place_of row qual) ∙ ap (λ b. cond b (Some c) (content_at s row qual)) (tied (place_of row qual))
 
 -- and every other place is as before
 pub content-written_other : (s : Store) (row : Row) (qual value : List ℕ) (version : ℕ) (p : Place) → p ≢ place_of row qual → get (written s row qual value version) p ≡ get s p
 content-written_other s row qual value version p ne =
     let c : Content = record { value = value; version = version } in
-    get-insert places_total s (place_of row qual) c p ∙ ap (λ b. cond b (Some c) (get s p)) (untied p (place_of row qual) ne)
+    get-insert places_total s.cells (place_of row qual) c p ∙ ap (λ b. cond b (Some c) (get s p)) (untied p (place_of row qual) ne)
 
 pub get-removed_other : (s : Store) (q p : Place) → p ≢ q → get (remove s q) p ≡ get s p
-get-removed_other s q p ne = get-remove places_total s q p ∙ ap (λ b. cond b None (get s p)) (untied p q ne)
+get-removed_other s q p ne = get-remove places_total s.cells q p ∙ ap (λ b. cond b None (get s p)) (untied p q ne)
 
 -- a drop leaves other rows
 pub get-dropped_other : (s : Store) (row : Row) (which : List (List ℕ × ℕ)) (p : Place) → p.row ≢ row → get (dropped s row which) p ≡ get s p
@@ -86,7 +90,7 @@ same_or_not p q = at (eq_by_cmp place_cmp p q) refl
 
 -- a cell written twice has the second version
 written_twice : (s : Store) (row : Row) (qual value : List ℕ) (old new : ℕ) → written (written s row qual value old) row qual value new ≡ written s row qual value new
-written_twice s row qual value old new = same_map places_total exact_places _ _ (λ p. at p (same_or_not p (place_of row qual)))
+written_twice s row qual value old new = same_store _ _ refl (λ p. at p (same_or_not p (place_of row qual)))
   where
     at : (p : Place) → (p ≡ place_of row qual) ⊎ (p ≢ place_of row qual) → get (written (written s row qual value old) row qual value new) p ≡ get (written s row qual value new) p
     at p (inl same) = subst (λ (x : Place). get (written (written s row qual value old) row qual value new) x ≡ get (written s row qual value new) x) (sym same)
@@ -114,5 +118,13 @@ get-dropped s row (d ∷ which) p c is =
     at true e one other = removed (same_or_not p (place_of row d.0)) (one e)
       where
         removed : (p ≡ place_of row d.0) ⊎ (p ≢ place_of row d.0) → get (remove s (place_of row d.0)) p ≡ Some c → get s p ≡ Some c
-        removed (inl same) e = let none : get (remove s (place_of row d.0)) p ≡ None = get-remove places_total s (place_of row d.0) p ∙ ap (λ b. cond b None (get s p)) (ap (λ (x : Place). eq_by_cmp place_cmp p x) (sym same) ∙ tied p) in cc
+        removed (inl same) e = let none : get (remove s (place_of row d.0)) p ≡ None = get-remove places_total s.cells (place_of row d.0) p ∙ ap (λ b. cond b None (get s p)) (ap (λ (x : Place). eq_by_cmp place_cmp p x) (sym same) ∙ tied p) in cc
         removed (inr other) e = sym (get-removed_other s (place_of row d.0) p other) ∙ e
+
+-- a stamp leaves the widths
+pub stamped_widths : (s : Store) (row : Row) (qual : List ℕ) (version : ℕ) → (stamped s row qual version).widths ≡ s.widths
+stamped_widths s row qual version = at (content_at s row qual)
+  where
+    at : (o : Option Content) → (stamped_over o s row qual version).widths ≡ s.widths
+    at None = refl
+    at (Some c) = refl

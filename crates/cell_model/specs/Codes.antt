@@ -7,7 +7,9 @@ use Rattle.row_key.specs.declared.tables.Table.{Table}
 use Rattle.row_key.specs.declared.tables.Table.TheVariants.{Ids, Names, Points}
 use Rattle.cell_model.specs.declared.events.Place.{Place}
 use Rattle.cell_model.specs.declared.events.Content.{Content}
-use Rattle.cell_model.specs.Store.{Store, table_number}
+use Rattle.row_key.specs.declared.widths.Widths.{Widths}
+use Rattle.row_key.specs.contracts.widths.Widths as widths
+use Rattle.cell_model.specs.Store.{StoreCells, Store, table_number}
 
 -- the table of a number
 abbrev pub table_at : ℕ → Table
@@ -33,4 +35,4 @@ abbrev pub coded_content : Coded Content
 coded_content = code_by (List ℕ × ℕ) (coded× (coded_list coded_ℕ) coded_ℕ) (λ c. (c.value, c.version)) (λ t. record { value = t.0; version = t.1 }) (λ _. refl)
 
 abbrev pub coded_store : Coded Store
-coded_store = code coded_place coded_content
+coded_store = code_by (Widths × StoreCells) (coded× widths.the_row.coded (code coded_place coded_content)) (λ s. (s.widths, s.cells)) (λ t. record { widths = t.0; cells = t.1 }) (λ _. refl)

@@ -1,13 +1,14 @@
 -- What a store holds, as lines and in numbers.
 use Rattle.std.specs.Prelude.{ℕ, List, [], ◌∷◌, map, filter, nat_eq}
-use Rattle.std.specs.FinMap.{entries, from_entries, keys}
+use Rattle.std.specs.FinMap.{from_entries, keys}
 use Rattle.tsd_base.specs.declared.kinds.Kind.TheVariants.{Metric, TagKey, TagValue}
 use Rattle.row_key.specs.declared.tables.Table.TheVariants.{Points}
 use Rattle.cell_model.specs.declared.row.Row.{Row}
 use Rattle.cell_model.specs.declared.row.ListLine.{ListLine}
 use Rattle.cell_model.specs.declared.events.Place.{Place}
 use Rattle.cell_model.specs.declared.events.Content.{Content}
-use Rattle.cell_model.specs.Store.{Store, row_cmp, table_number}
+use Rattle.cell_model.specs.declared.row.Listing.{Listing}
+use Rattle.cell_model.specs.Store.{Store, entries, row_cmp, table_number}
 use Rattle.cell_model.specs.Machine.{counter_of}
 
 -- a cell with its place, without its version
@@ -17,6 +18,10 @@ line_of e = record { table = e.0.row.table; row = e.0.row.bytes; qual = e.0.qual
 -- all cells of a store, rising by table, row and qualifier
 abbrev pub lines_of : Store → List ListLine
 lines_of s = map line_of (entries s)
+
+-- the same, with the store's widths
+abbrev pub listing_of : Store → Listing
+listing_of s = record { widths = s.widths; lines = lines_of s }
 
 -- the cells of point rows
 abbrev pub point_entries : Store → List (Place × Content)

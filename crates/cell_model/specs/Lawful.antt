@@ -20,7 +20,8 @@ use Rattle.cell_model.specs.declared.events.Reply.TheVariants.{Opened, BumpReply
 use Rattle.cell_model.specs.declared.events.Entry.{Entry}
 use Rattle.cell_model.specs.History.{History, base_of, len, store_after, Had}
 use Rattle.cell_model.specs.History.History.{Base, Then}
-use Rattle.cell_model.specs.IdRows.{reverse_row, id_bytes, id_of}
+use Rattle.cell_model.specs.KindWidths.{Widths, kind_bytes}
+use Rattle.cell_model.specs.IdRows.{reverse_row, id_of}
 use Rattle.cell_model.specs.Sound.{IsBase}
 
 -- this caller was given the id
@@ -32,11 +33,11 @@ abbrev pub claimed : ℕ → Row → List ℕ → List ℕ → Entry
 claimed caller row qual value = record { caller = caller; step = Claim row qual value; reply = ClaimReply Done }
 
 -- what a claim in Names of an id stands on: a bump of the same caller that gave this id
-pub record NamesBasis (Has : Entry → Type 0) (caller : ℕ) (id qual name : List ℕ) : Type 0 where
+pub record NamesBasis (w : Widths) (Has : Entry → Type 0) (caller : ℕ) (id qual name : List ℕ) : Type 0 where
   pub kind : Kind
   pub number : ℕ
   pub is_kind : qual ≡ kind_qual kind
-  pub is_id : id ≡ id_bytes number
+  pub is_id : id ≡ kind_bytes w kind number
   pub is_name : IsName name
   pub bumped : Has (given caller kind number)
 
@@ -46,18 +47,18 @@ pub record IdsBasis (Has : Entry → Type 0) (name qual id : List ℕ) : Type 0 
   pub reversed : Has (claimed who (reverse_row id) qual name)
 
 -- what a claim stands on, among the entries that Has has
-abbrev pub ClaimBasis : (Entry → Type 0) → ℕ → Table → List ℕ → List ℕ → List ℕ → Type 0
-ClaimBasis Has caller Names row qual value = NamesBasis Has caller row qual value
-ClaimBasis Has caller Ids row qual value = IdsBasis Has row qual value
-ClaimBasis Has caller Points row qual value = ⊥
+abbrev pub ClaimBasis : Widths → (Entry → Type 0) → ℕ → Table → List ℕ → List ℕ → List ℕ → Type 0
+ClaimBasis w Has caller Names row qual value = NamesBasis w Has caller row qual value
+ClaimBasis w Has caller Ids row qual value = IdsBasis Has row qual value
+ClaimBasis w Has caller Points row qual value = ⊥
 
 -- what a put of a point stands on: that it is one, an id of each of its names, and the layout with these ids
-pub record PointBasis (Has : Kind → List ℕ → ℕ → Type 0) (point : DataPoint) (row : Row) (qual value : List ℕ) : Type 0 where
+pub record PointBasis (w : Widths) (Has : Kind → List ℕ → ℕ → Type 0) (point : DataPoint) (row : Row) (qual value : List ℕ) : Type 0 where
   pub is_point : IsPoint point
   pub in_points : row.table ≡ Points
   pub ids : Kind → List ℕ → ℕ
   pub resolved : (kind : Kind) (name : List ℕ) → Contains (names_of point) (kind, name) → Has kind name (ids kind name)
-  pub layout : IsLayout ids point row.bytes qual value
+  pub layout : IsLayout w ids point row.bytes qual value
 
 -- what a merged cell stands on: it reads, and each of its data points stood in a cell of the row
 pub record MergedBasis (HasCell : List ℕ → List ℕ → Type 0) (row : Row) (qual value : List ℕ) : Type 0 where
@@ -87,8 +88,8 @@ MayStep h caller Open = caller ≡ len h + 1
 MayStep h caller (Read row) = Unit {0}
 MayStep h caller (NextRow table from to) = Unit {0}
 MayStep h caller (Bump kind) = Unit {0}
-MayStep h caller (Claim row qual value) = ClaimBasis (Had h) caller row.table row.bytes qual value
-MayStep h caller (PutPoint point row qual value) = PointBasis (λ kind name id. id_of h kind name ≡ Some id) point row qual value
+MayStep h caller (Claim row qual value) = ClaimBasis (store_after h).widths (Had h) caller row.table row.bytes qual value
+MayStep h caller (PutPoint point row qual value) = PointBasis (store_after h).widths (λ kind name id. id_of h kind name ≡ Some id) point row qual value
 MayStep h caller (PutMerged row qual value) = MergedBasis (HadCell h row) row qual value
 MayStep h caller (DropCells row which) = DropBasis (HadCell h row) row which
 

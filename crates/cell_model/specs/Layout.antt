@@ -8,6 +8,7 @@ use Rattle.tsd_base.specs.TagList.{Pair, IsTags}
 use Rattle.tsd_base.specs.Moments.{IsTime}
 use Rattle.tsd_base.specs.Points.{DataPoint}
 use Rattle.row_hours.specs.declared.hours.TheConstants.{HOUR_MILLIS}
+use Rattle.row_key.specs.declared.widths.Widths.{Widths}
 use Rattle.row_key.specs.declared.keys.RowKey.{RowKey}
 pub use Rattle.row_hours.specs.Hours.{base_time}
 use Rattle.row_key.specs.Key.{IsKey, key_bytes}
@@ -33,27 +34,27 @@ abbrev pub ids_of_tag : (Kind → List ℕ → ℕ) → Pair → ℕ × ℕ
 ids_of_tag ids t = (ids TagKey t.0, ids TagValue t.1)
 
 -- the key of a point's row, with these ids: its metric, its hour, and its tags
-pub record HasKey (ids : Kind → List ℕ → ℕ) (p : DataPoint) (key : RowKey) : Type 0 where
-  pub is_key : IsKey key
+pub record HasKey (w : Widths) (ids : Kind → List ℕ → ℕ) (p : DataPoint) (key : RowKey) : Type 0 where
+  pub is_key : IsKey w key
   pub metric : key.metric ≡ ids Metric p.metric
   pub base : key.base ≡ base_time p.time
   pub count : length key.pairs.items ≡ length p.tags
   pub each_tag : (t : Pair) → Contains p.tags t → Contains key.pairs.items (ids_of_tag ids t)
   pub each_pair : (i : ℕ × ℕ) → Contains key.pairs.items i → (t : Pair) × Contains p.tags t × (ids_of_tag ids t ≡ i)
 
--- a point's cell, with these ids: the row of its key, one item, and the shortest value
-pub record IsLayout (ids : Kind → List ℕ → ℕ) (p : DataPoint) (row qual value : List ℕ) : Type 0 where
+-- a point's cell, with these ids in the bytes of their kinds: the row of its key, one item, and the shortest value
+pub record IsLayout (w : Widths) (ids : Kind → List ℕ → ℕ) (p : DataPoint) (row qual value : List ℕ) : Type 0 where
   pub key : RowKey
-  pub has : HasKey ids p key
-  pub row_is : row ≡ key_bytes key
+  pub has : HasKey w ids p key
+  pub row_is : row ≡ key_bytes w key
   pub dot : IsDots qual value (dot_of (p.time % HOUR_MILLIS) p.fine p.value (length value) ∷ [])
   pub shortest : IsShortest p.value value
 
 -- the row has a key, and each of its ids is that of a name
-pub record RowResolved (ids : Kind → List ℕ → Option ℕ) (row : List ℕ) : Type 0 where
+pub record RowResolved (w : Widths) (ids : Kind → List ℕ → Option ℕ) (row : List ℕ) : Type 0 where
   pub key : RowKey
-  pub is_key : IsKey key
-  pub row_is : row ≡ key_bytes key
+  pub is_key : IsKey w key
+  pub row_is : row ≡ key_bytes w key
   pub name : List ℕ
   pub is_name : IsName name
   pub metric_is : ids Metric name ≡ Some key.metric

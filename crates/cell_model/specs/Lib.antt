@@ -1,4 +1,5 @@
 pub mod PlaceOrder
+pub mod KindWidths
 pub mod Store
 pub mod Rising
 pub mod Codes

@@ -4,7 +4,6 @@ use Rattle.std.specs.Option.{option_map_or}
 use Rattle.std.specs.Int.{w64, to_be_bytes, from_be_bytes}
 use Rattle.tsd_base.specs.declared.kinds.Kind.{Kind}
 use Rattle.tsd_base.specs.declared.kinds.Kind.TheVariants.{Metric, TagKey, TagValue}
-pub use Rattle.row_key.specs.declared.ids.TheConstants.{MOST_IDS}
 use Rattle.row_key.specs.declared.tables.Table.TheVariants.{Ids}
 use Rattle.cell_model.specs.declared.row.Row.{Row}
 use Rattle.cell_model.specs.declared.events.Step.{Step}
@@ -15,7 +14,8 @@ use Rattle.cell_model.specs.declared.answers.Bumped.{Bumped}
 use Rattle.cell_model.specs.declared.answers.Bumped.TheVariants.{Given, Full}
 use Rattle.cell_model.specs.declared.answers.Claimed.{Claimed}
 use Rattle.cell_model.specs.declared.answers.Claimed.TheVariants.{Done, Held}
-use Rattle.cell_model.specs.Store.{Store, value_at, written, cells_of, next_row_of, dropped, drop_count}
+use Rattle.cell_model.specs.Store.{Store, value_at, with_cells, written, cells_of, next_row_of, dropped, drop_count}
+pub use Rattle.cell_model.specs.KindWidths.{greatest}
 
 -- the qualifiers `metrics`, `tagk` and `tagv`
 abbrev pub kind_qual : Kind → List ℕ
@@ -43,21 +43,25 @@ claim_reply (Some value) = Held value
 
 -- the next id, or full where all were given
 abbrev pub bump_reply : Store → Kind → Bumped
-bump_reply s kind = if nat_lt (counter_of s kind) MOST_IDS then Given (counter_of s kind + 1) else Full
+bump_reply s kind = if nat_lt (counter_of s kind) (greatest s.widths kind) then Given (counter_of s kind + 1) else Full
 
--- the store after a step at this place
-abbrev pub after : Store → ℕ → Step → Store
-after s place Open = s
-after s place (Read row) = s
-after s place (NextRow table from to) = s
-after s place (Bump kind) =
-    if nat_lt (counter_of s kind) MOST_IDS
+-- the store whose cells are those after a step at this place
+abbrev pub stepped : Store → ℕ → Step → Store
+stepped s place Open = s
+stepped s place (Read row) = s
+stepped s place (NextRow table from to) = s
+stepped s place (Bump kind) =
+    if nat_lt (counter_of s kind) (greatest s.widths kind)
     then written s counter_row (kind_qual kind) (to_be_bytes w64 (counter_of s kind + 1)) (place % 2 ^ 64)
     else s
-after s place (Claim row qual value) = or_written (value_at s row qual) (written s row qual value (place % 2 ^ 64)) s
-after s place (PutPoint point row qual value) = written s row qual value (place % 2 ^ 64)
-after s place (PutMerged row qual value) = written s row qual value (place % 2 ^ 64)
-after s place (DropCells row which) = dropped s row which
+stepped s place (Claim row qual value) = or_written (value_at s row qual) (written s row qual value (place % 2 ^ 64)) s
+stepped s place (PutPoint point row qual value) = written s row qual value (place % 2 ^ 64)
+stepped s place (PutMerged row qual value) = written s row qual value (place % 2 ^ 64)
+stepped s place (DropCells row which) = dropped s row which
+
+-- the store after a step at this place: no step changes the widths
+abbrev pub after : Store → ℕ → Step → Store
+after s place step = with_cells s (stepped s place step)
 
 -- the reply to a step at this place, of which only an opening tells the place
 abbrev pub reply_of : Store → ℕ → Step → Reply

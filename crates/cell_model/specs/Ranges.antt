@@ -1,16 +1,17 @@
 -- The ranges that a next row may look through: each lies among the rows of one region.
 use Rattle.std.specs.Prelude.{◌≡◌, ◌⊎◌, ℕ, false, List, [], ◌∷◌, ◌++◌, length}
 use Rattle.std.specs.Ordering.{is_lt}
+use Rattle.row_key.specs.declared.widths.Widths.{Widths}
 use Rattle.row_key.specs.declared.tables.Table.{Table}
 use Rattle.row_key.specs.declared.tables.Table.TheVariants.{Ids, Names, Points}
 use Rattle.list_lemmas.specs.BytesOrder.{bytes_cmp}
 
--- both begin with one metric's three bytes
-pub record SameMetric (from to : List ℕ) : Type 0 where
+-- both begin with the bytes of one metric's id
+pub record SameMetric (w : Widths) (from to : List ℕ) : Type 0 where
   pub metric : List ℕ
   pub from_rest : List ℕ
   pub to_rest : List ℕ
-  pub three : length metric ≡ 3
+  pub whole : length metric ≡ w.metric
   pub from_is : from ≡ metric ++ from_rest
   pub to_is : to ≡ metric ++ to_rest
 
@@ -22,7 +23,7 @@ pub record IsWithin (low high : ℕ) (from to : List ℕ) : Type 0 where
   pub to_at : is_lt (bytes_cmp (high ∷ []) to) ≡ false
 
 -- names by their first byte: up to 40, capitals up to 60, a to m, n to z; points by metric; no range of Names
-abbrev pub InOneRange : Table → List ℕ → List ℕ → Type 0
-InOneRange Ids from to = IsWithin 1 65 from to ⊎ IsWithin 65 97 from to ⊎ IsWithin 97 110 from to ⊎ IsWithin 110 123 from to
-InOneRange Points from to = SameMetric from to
-InOneRange Names from to = ⊥
+abbrev pub InOneRange : Widths → Table → List ℕ → List ℕ → Type 0
+InOneRange w Ids from to = IsWithin 1 65 from to ⊎ IsWithin 65 97 from to ⊎ IsWithin 97 110 from to ⊎ IsWithin 110 123 from to
+InOneRange w Points from to = SameMetric w from to
+InOneRange w Names from to = ⊥

@@ -5,6 +5,7 @@ use Rattle.tsd_base.specs.declared.kinds.Kind.TheVariants.{Metric, TagKey, TagVa
 use Rattle.tsd_base.specs.TagList.{Pair, RiseByKey}
 use Rattle.tsd_base.specs.Points.{DataPoint}
 use Rattle.row_key.specs.declared.tables.Table.TheVariants.{Points}
+use Rattle.row_key.specs.declared.widths.Widths.{Widths}
 use Rattle.row_key.specs.declared.keys.RowKey.{RowKey}
 use Rattle.row_key.specs.Key.{IsKey, key_bytes}
 use Rattle.qual_codec.specs.declared.cells.Dot.{Dot}
@@ -53,22 +54,22 @@ pub record Named (names : Kind → ℕ → Option (List ℕ)) (pairs : List (ℕ
   pub back : (t : Pair) → Contains tags t → (p : ℕ × ℕ) × Contains pairs p × IsNamed names p t
 
 -- one data point of the row is this reading, with these names
-pub record DotReads (names : Kind → ℕ → Option (List ℕ)) (row : List ℕ) (d : Dot) (r : Reading) : Type 0 where
+pub record DotReads (w : Widths) (names : Kind → ℕ → Option (List ℕ)) (row : List ℕ) (d : Dot) (r : Reading) : Type 0 where
   pub key : RowKey
-  pub is_key : IsKey key
-  pub row_is : row ≡ key_bytes key
+  pub is_key : IsKey w key
+  pub row_is : row ≡ key_bytes w key
   pub metric_is : names Metric key.metric ≡ Some r.metric
   pub tags_are : Named names key.pairs.items r.tags
   pub time_is : r.time ≡ key.base * 1000 + d.item.offset
   pub value_is : r.value ≡ d.value
 
 -- a cell of the row has this reading, with these names
-pub record CellReads (names : Kind → ℕ → Option (List ℕ)) (row qual value : List ℕ) (r : Reading) : Type 0 where
+pub record CellReads (w : Widths) (names : Kind → ℕ → Option (List ℕ)) (row qual value : List ℕ) (r : Reading) : Type 0 where
   pub dots : List Dot
   pub reads : IsDots qual value dots
   pub dot : Dot
   pub among : Contains dots dot
-  pub dot_reads : DotReads names row dot r
+  pub dot_reads : DotReads w names row dot r
 
 -- a point cell of the store has the reading, with these names
 pub record HasReading (names : Kind → ℕ → Option (List ℕ)) (s : Store) (r : Reading) : Type 0 where
@@ -76,7 +77,7 @@ pub record HasReading (names : Kind → ℕ → Option (List ℕ)) (s : Store) (
   pub qual : List ℕ
   pub value : List ℕ
   pub stands : value_at s (point_row row) qual ≡ Some value
-  pub reads : CellReads names row qual value r
+  pub reads : CellReads s.widths names row qual value r
 
 -- the reading stands after the history
 abbrev pub IsStanding : History → Reading → Type 0

@@ -13,9 +13,10 @@ use Rattle.tsd_base.specs.Points.{DataPoint}
 use Rattle.cell_model.specs.declared.answers.Claimed.TheVariants.{Done, Held}
 use Rattle.cell_model.specs.Store.{Store, value_among}
 use Rattle.cell_model.specs.declared.events.Reply.{Reply}
-use Rattle.cell_model.specs.Machine.{kind_qual, MOST_IDS}
+use Rattle.cell_model.specs.KindWidths.{greatest, kind_bytes}
+use Rattle.cell_model.specs.Machine.{kind_qual}
 use Rattle.cell_model.specs.declared.events.Reply.TheVariants.{Opened, Shown, Next, ClaimReply, Written}
-use Rattle.cell_model.specs.IdRows.{name_row, id_bytes}
+use Rattle.cell_model.specs.IdRows.{name_row}
 use Rattle.cell_model.specs.declared.events.Entry.{Entry}
 use Rattle.cell_model.specs.History.{History, base_of, len, entry_at}
 use Rattle.cell_model.specs.Lawful.{ClaimBasis, PointBasis, MergedBasis, DropBasis, IsLawful}
@@ -93,8 +94,8 @@ Knows s Open = ⊥
 Knows s (Read row) = Unit {0}
 Knows s (NextRow table from to) = Unit {0}
 Knows s (Bump kind) = Unit {0}
-Knows s (Claim row qual value) = ClaimBasis (λ e. (place : ℕ) × Saw s place e) s.caller row.table row.bytes qual value
-Knows s (PutPoint point row qual value) = PointBasis (λ kind name id. KnowsCell s (name_row name) (kind_qual kind) (id_bytes id) × (id ≤ MOST_IDS)) point row qual value
+Knows s (Claim row qual value) = ClaimBasis s.base.widths (λ e. (place : ℕ) × Saw s place e) s.caller row.table row.bytes qual value
+Knows s (PutPoint point row qual value) = PointBasis s.base.widths (λ kind name id. KnowsCell s (name_row name) (kind_qual kind) (kind_bytes s.base.widths kind id) × (id ≤ greatest s.base.widths kind)) point row qual value
 Knows s (PutMerged row qual value) = MergedBasis (KnowsCell s row) row qual value
 Knows s (DropCells row which) = DropBasis (KnowsCell s row) row which
 

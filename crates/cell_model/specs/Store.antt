@@ -1,10 +1,12 @@
--- The store: a finite map from a row and a qualifier to a value with its version. A row without a cell isn't there.
+-- The store: how many bytes the ids of each kind have, and a finite map from a row and a qualifier to a value with its version. A row without a cell isn't there.
 use Rattle.std.specs.Prelude.{ℕ, ◌+◌, Bool, false, ◌&&◌, not, List, [], ◌∷◌, map, filter, find, Option, None, Some, option_map, nat_eq, nat_le, if◌then◌else◌}
 use Rattle.std.specs.Ordering.{nat_cmp, eq_by_cmp, is_lt}
 use Rattle.std.specs.Cmp.Lexicographic.{pointwise}
 pub use Rattle.cell_model.specs.PlaceOrder.{table_number, row_cmp, place_cmp}
 use Rattle.list_lemmas.specs.BytesOrder.{bytes_cmp}
-use Rattle.std.specs.FinMap.{FinMap, get, insert, remove, entries}
+use Rattle.std.specs.FinMap.{FinMap, empty}
+use Rattle.std.specs.FinMap as fin
+use Rattle.row_key.specs.declared.widths.Widths.{Widths}
 use Rattle.row_key.specs.declared.tables.Table.{Table}
 use Rattle.cell_model.specs.declared.row.Row.{Row}
 use Rattle.cell_model.specs.declared.events.Place.{Place}
@@ -12,9 +14,38 @@ use Rattle.cell_model.specs.declared.events.Content.{Content}
 use Rattle.qual_codec.specs.declared.cells.Cell.{Cell}
 use Rattle.cell_model.specs.declared.row.Found.{Found}
 
--- the store: what stands at each place that has a cell
-abbrev pub Store : Type 0
-Store = FinMap place_cmp Content
+-- what stands at each place that has a cell
+abbrev pub StoreCells : Type 0
+StoreCells = FinMap place_cmp Content
+
+-- the store: the widths of its ids, and its cells
+pub record Store : Type 0 where
+  pub widths : Widths
+  pub cells : StoreCells
+
+-- the store without a cell
+abbrev pub no_cells : Widths → Store
+no_cells w = record { widths = w; cells = empty }
+
+-- what stands at a place
+abbrev pub get : Store → Place → Option Content
+get s p = fin.get s.cells p
+
+-- all cells with their places, rising by place
+abbrev pub entries : Store → List (Place × Content)
+entries s = fin.entries s.cells
+
+-- the store with this content at a place, over an older one too
+abbrev pub insert : Store → Place → Content → Store
+insert s p c = record { widths = s.widths; cells = fin.insert s.cells p c }
+
+-- the store with nothing at a place
+abbrev pub remove : Store → Place → Store
+remove s p = record { widths = s.widths; cells = fin.remove s.cells p }
+
+-- the store with the cells of another one
+abbrev pub with_cells : Store → Store → Store
+with_cells s t = record { widths = s.widths; cells = t.cells }
 
 -- the place of a row's cell
 abbrev pub place_of : Row → List ℕ → Place

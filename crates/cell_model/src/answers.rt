@@ -11,7 +11,7 @@ use std::alloc::{AllocError, AllocFailed};
 pub enum Bumped {
     /// The next id of the kind, which nobody was given before.
     Given { id: u32 },
-    /// All 16,777,215 ids of the kind were given.
+    /// All ids of the kind were given.
     Full,
 }
 

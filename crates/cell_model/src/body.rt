@@ -3,7 +3,7 @@ ghost use Rattle.std.specs.Prelude.{◌≡◌, ◌≢◌, IfOk, OnOk, OnErr, Non
 ghost use Rattle.cell_model.specs.declared.row.Row.{Row};
 ghost use Rattle.cell_model.specs.declared.events.Step.TheVariants.{Bump, Claim, PutMerged, DropCells};
 ghost use Rattle.cell_model.specs.Store.{Store, content_at, value_at, cells_of, next_row_of, is_between, drop_count, stamped};
-ghost use Rattle.cell_model.specs.Counts.{counters_of, lines_of, point_entries, point_rows};
+ghost use Rattle.cell_model.specs.Counts.{counters_of, listing_of, point_entries, point_rows};
 ghost use Rattle.cell_model.specs.Sound.{CountersRead};
 ghost use Rattle.cell_model.specs.Ranges.{InOneRange};
 ghost use Rattle.cell_model.specs.Machine.{after, bump_reply, claim_reply, counter_row, kind_qual};
@@ -11,7 +11,7 @@ ghost use Rattle.cell_model.specs.Machine.{after, bump_reply, claim_reply, count
 use crate::answers::{Bumped, Claimed, Tally};
 use crate::row::{Cells, Drops, Found, Listing, Row};
 use qual_codec::Bytes;
-use row_key::Table;
+use row_key::{Table, Widths};
 use std::alloc::{AllocError, Global};
 use tsd_base::kinds::Kind;
 
@@ -26,6 +26,10 @@ pub trait Body {
     /// The rows that it is over.
     ghost covers: { Self → Row → Bool };
 
+    /// How many bytes the ids of each kind have.
+    fn widths(&self) -> Widths
+        ensures { result ≡ (content self.now).widths };
+
     /// The cells of a row, in byte order of qualifier.
     fn read(&self, alloc: Global, row: &Row) -> Result<Cells, AllocError>
         requires covered { IsTrue (covers self.now row.now) }
@@ -39,11 +43,11 @@ pub trait Body {
         from: &Bytes,
         to: &Bytes,
     ) -> Result<Option<Found>, AllocError>
-        requires range { InOneRange table from.now to.now }
+        requires range { InOneRange (content self.now).widths table from.now to.now }
         requires covered { (row : Row) → IsTrue (is_between table from.now to.now row) → IsTrue (covers self.now row) }
         ensures { IfOk result (λ found. found ≡ next_row_of (content self.now) table from.now to.now) };
 
-    /// Adds one to the counter of a kind and answers it, unless it is 16,777,215. It takes no memory.
+    /// Adds one to the counter of a kind and answers it, unless it is the greatest id of the kind. It takes no memory.
     fn bump(&mut self, kind: Kind) -> Bumped
         requires covered { IsTrue (covers self.old counter_row) }
         ensures reply { result ≡ bump_reply (content self.old) kind }
@@ -111,5 +115,5 @@ pub trait Body {
 
     /// All cells, rising by table, row and qualifier.
     fn listing(&self, alloc: Global) -> Result<Listing, AllocError>
-        ensures { IfOk result (λ lines. lines ≡ lines_of (content self.now)) };
+        ensures { IfOk result (λ listed. listed ≡ listing_of (content self.now)) };
 }

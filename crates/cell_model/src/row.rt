@@ -10,7 +10,7 @@ use packed_cells::block::Block;
 use packed_cells::small_value::{Narrow, Wide};
 use packed_cells::strip::Strip;
 use qual_codec::{Bytes, CellRef};
-use row_key::Table;
+use row_key::{Table, Widths};
 use std::alloc::{AllocError, Global};
 use std::marker::Model;
 
@@ -191,15 +191,15 @@ pub struct ListLine {
     pub value: Bytes,
 }
 
-/// All cells of a store, rising by table, row and qualifier.
+/// The lines of a listing, rising by table, row and qualifier.
 ///
-/// Contracts see it as the list of the lines.
+/// Contracts see them as the list of the lines.
 #[derive(Drop)]
-pub struct Listing {
+pub struct LineList {
     list: Vec<ListLine>,
 }
 
-impl Model for Listing {
+impl Model for LineList {
     ghost use Rattle.std.specs.Prelude.{List};
     ghost use Rattle.cell_model.specs.declared.row.ListLine.{ListLine};
     ghost use Rattle.cell_model.specs.Rising.{LinesRise};
@@ -211,12 +211,12 @@ impl Model for Listing {
     ghost invariant = { λ l. LinesRise l.list.items };
 }
 
-impl Listing {
-    /// The listing of an empty store.
-    pub fn none(alloc: Global) -> Listing
+impl LineList {
+    /// No line.
+    pub fn none(alloc: Global) -> LineList
         ensures { result ≡ [] }
     {
-        Listing {
+        LineList {
             list: Vec::new(alloc),
         }
     }
@@ -264,6 +264,57 @@ impl Listing {
         ensures rising { LinesRise self.now }
     {
         self.list.as_slice()
+    }
+}
+
+/// All cells of a store as lines, and how many bytes its ids have.
+#[derive(Drop)]
+pub struct Listing {
+    pub widths: Widths,
+    pub lines: LineList,
+}
+
+impl Listing {
+    /// The listing of an empty store whose ids have these widths.
+    pub fn none(alloc: Global, widths: Widths) -> Listing
+        ensures { result ≡ record { widths = widths; lines = [] } }
+    {
+        Listing {
+            widths,
+            lines: LineList::none(alloc),
+        }
+    }
+
+    /// How many bytes the ids of each kind have.
+    pub fn widths(&self) -> Widths
+        ensures { result ≡ self.now.widths }
+    {
+        self.widths
+    }
+
+    /// Adds a line as [`LineList::add`] does.
+    pub fn add(
+        &mut self,
+        alloc: Global,
+        table: Table,
+        row: &[u8],
+        qual: &[u8],
+        value: &[u8],
+    ) -> Result<bool, AllocError>
+        ensures ok { IfOk result (λ added. Adds self.old.lines (record { table = table; row = row.now; qual = qual.now; value = value.now }) added self.new.lines) }
+        ensures widths { self.new.widths ≡ self.old.widths }
+        ensures err { OnErr result (self.new ≡ self.old) }
+    {
+        self.lines.add(alloc, table, row, qual, value)
+    }
+
+    /// The lines, rising by table, row and qualifier.
+    #[inline]
+    pub fn lines(&self) -> &[ListLine]
+        ensures lines { result.now ≡ self.now.lines }
+        ensures rising { LinesRise self.now.lines }
+    {
+        self.lines.lines()
     }
 }
 

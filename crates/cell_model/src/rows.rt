@@ -1,5 +1,5 @@
 //! One caller's view of a store that others may step too.
-ghost use Rattle.std.specs.Prelude.{ℕ, ◌+◌, ◌≤◌, IfOk, IfErr, OnOk, OnErr};
+ghost use Rattle.std.specs.Prelude.{ℕ, ◌≡◌, ◌+◌, ◌≤◌, IfOk, IfErr, OnOk, OnErr};
 ghost use Rattle.tsd_base.specs.Points.{data_point};
 ghost use Rattle.tsd_io.specs.Causes.{Rose};
 ghost use Rattle.cell_model.specs.declared.events.Step.TheVariants.{Read, NextRow, Bump, Claim, PutPoint, PutMerged, DropCells};
@@ -10,7 +10,7 @@ ghost use Rattle.cell_model.specs.Seen.{Seen, Waited, Stepped, IsPossible, Knows
 use crate::answers::{Bumped, Claimed, RowsFault, Stopped};
 use crate::row::{Cells, Drops, Found, Row};
 use qual_codec::Bytes;
-use row_key::Table;
+use row_key::{Table, Widths};
 use std::alloc::Global;
 use tsd_base::kinds::Kind;
 use tsd_base::points::Point;
@@ -33,6 +33,10 @@ pub trait Rows {
     /// For how many further steps that take no memory there is room.
     ghost spare: { Self → ℕ };
 
+    /// How many bytes the ids of each kind have. It is no step.
+    fn widths(&self) -> Widths
+        ensures { result ≡ (seen self.now).base.widths };
+
     /// The cells of a row, in byte order of qualifier.
     fn read(&mut self, alloc: Global, row: &Row) -> Result<Cells, RowsFault>
         ensures ok { IfOk result (λ cells. Stepped (seen self.old) (Read row.now) (Shown cells) (seen self.new)) }
@@ -51,7 +55,7 @@ pub trait Rows {
         from: &Bytes,
         to: &Bytes,
     ) -> Result<Option<Found>, RowsFault>
-        requires range { InOneRange table from.now to.now }
+        requires range { InOneRange (seen self.old).base.widths table from.now to.now }
         ensures ok { IfOk result (λ found. Stepped (seen self.old) (NextRow table from.now to.now) (Next found) (seen self.new)) }
         ensures err { OnErr result (Waited (seen self.old) (seen self.new)) }
         ensures possible { OnOk result (IsPossible (seen self.new)) }

@@ -1,5 +1,5 @@
 -- A range that a next row may look through lies in one region.
-use Rattle.std.proofs.Common.{◌≡◌, inl, inr, ℕ, ◌+◌, ◌%◌, ◌≤◌, ◌<◌, Bool, true, false, List, [], ◌∷◌, ◌++◌, length, refl, sym, ap, subst, ◌∙◌, arith, rules, nat_eq}
+use Rattle.std.proofs.Common.{◌≡◌, inl, inr, ℕ, ◌+◌, ◌-◌, ◌%◌, ◌≤◌, ◌<◌, Bool, true, false, List, [], ◌∷◌, ◌++◌, length, refl, sym, ap, subst, ◌∙◌, arith, rules, nat_eq}
 use Rattle.std.specs.Prelude.{not, ◌&&◌, if◌then◌else◌}
 use Rattle.std.specs.declared.cmp.Ordering.{Ordering}
 use Rattle.std.specs.declared.cmp.Ordering.TheVariants.{Less, Equal, Greater}
@@ -8,11 +8,13 @@ use Rattle.std.specs.Cmp.{ranked}
 use Rattle.row_key.specs.declared.tables.Table.{Table}
 use Rattle.row_key.specs.declared.tables.Table.TheVariants.{Ids, Names, Points}
 use Rattle.list_lemmas.specs.BytesOrder.{bytes_cmp}
+use Rattle.std.proofs.lemmas.List.{get_or_append_left}
 use Rattle.cell_model.specs.Store.{is_between}
 use Rattle.cell_model.specs.Ranges.{IsWithin, InOneRange}
 use Rattle.list_lemmas.proofs.BoolTests.{nat_eq-refl}
 use Rattle.list_lemmas.proofs.OrderedBytes.{prefix_between}
-use Rattle.row_key.specs.Regions.{name_region, ids_region, third_byte, region_number}
+use Rattle.row_key.specs.declared.widths.Widths.{Widths}
+use Rattle.row_key.specs.Regions.{name_region, ids_region, metric_byte, region_number}
 use Rattle.cell_parts.specs.Laws.{LooksInOne}
 
 and_first : (a b : Bool) → (a && b) ≡ true → a ≡ true
@@ -27,11 +29,11 @@ not_true : (b : Bool) → not b ≡ true → b ≡ false
 not_true true e = cc
 not_true false e = refl
 
-third_of : (m xs ys : List ℕ) → length m ≡ 3 → third_byte (m ++ xs) ≡ third_byte (m ++ ys)
-third_of [] xs ys e = absurd (omega (arith, e))
-third_of (a ∷ []) xs ys e = absurd (omega (arith, e))
-third_of (a ∷ b ∷ []) xs ys e = absurd (omega (arith, e))
-third_of (a ∷ b ∷ c ∷ m) xs ys e = refl
+-- the last byte of a metric's id is the same whatever stands behind it
+metric_of : (w : Widths) (m xs ys : List ℕ) → length m ≡ w.metric → metric_byte w (m ++ xs) ≡ metric_byte w (m ++ ys)
+metric_of w m xs ys e =
+    let some = w.metric_fits.0 in
+    get_or_append_left m xs 0 (w.metric - 1) (omega (arith, e, some)) ∙ sym (get_or_append_left m ys 0 (w.metric - 1) (omega (arith, e, some)))
 
 record Head (low : ℕ) (r : List ℕ) : Type 0 where
   first : ℕ
@@ -110,28 +112,28 @@ names_in low high k from to bytes some region w up down =
 same_region : (a b : ℕ) → a ≡ b → nat_eq a b ≡ true
 same_region a b e = subst (λ (n : ℕ). nat_eq a n ≡ true) e (nat_eq-refl a)
 
-names_all : (from to bytes : List ℕ) → InOneRange Ids from to → is_lt (bytes_cmp bytes from) ≡ false → is_lt (bytes_cmp bytes to) ≡ true → ids_region bytes ≡ ids_region from
-names_all from to bytes (inl w) up down = names_in 1 65 1 from to bytes (omega arith) (λ b le lt. one b lt) w up down
-names_all from to bytes (inr (inl w)) up down = names_in 65 97 2 from to bytes (omega arith) two w up down
-names_all from to bytes (inr (inr (inl w))) up down = names_in 97 110 3 from to bytes (omega arith) three w up down
-names_all from to bytes (inr (inr (inr w))) up down = names_in 110 123 4 from to bytes (omega arith) (λ b le lt. four b le) w up down
+names_all : (w : Widths) (from to bytes : List ℕ) → InOneRange w Ids from to → is_lt (bytes_cmp bytes from) ≡ false → is_lt (bytes_cmp bytes to) ≡ true → ids_region bytes ≡ ids_region from
+names_all v from to bytes (inl w) up down = names_in 1 65 1 from to bytes (omega arith) (λ b le lt. one b lt) w up down
+names_all v from to bytes (inr (inl w)) up down = names_in 65 97 2 from to bytes (omega arith) two w up down
+names_all v from to bytes (inr (inr (inl w))) up down = names_in 97 110 3 from to bytes (omega arith) three w up down
+names_all v from to bytes (inr (inr (inr w))) up down = names_in 110 123 4 from to bytes (omega arith) (λ b le lt. four b le) w up down
 
-looks : (D : ℕ) (table : Table) (from to : List ℕ) → InOneRange table from to → (t : Table) (bytes : List ℕ) → is_between table from to (record { table = t; bytes = bytes }) ≡ true → nat_eq (region_number D t bytes) (region_number D table from) ≡ true
-looks D Names from to r t bytes e = absurd r
-looks D Ids from to r Names bytes e = absurd cc
-looks D Ids from to r Points bytes e = absurd cc
-looks D Points from to r Ids bytes e = absurd cc
-looks D Points from to r Names bytes e = absurd cc
-looks D Ids from to r Ids bytes e =
+looks : (v : Widths) (D : ℕ) (table : Table) (from to : List ℕ) → InOneRange v table from to → (t : Table) (bytes : List ℕ) → is_between table from to (record { table = t; bytes = bytes }) ≡ true → nat_eq (region_number v D t bytes) (region_number v D table from) ≡ true
+looks v D Names from to r t bytes e = absurd r
+looks v D Ids from to r Names bytes e = absurd cc
+looks v D Ids from to r Points bytes e = absurd cc
+looks v D Points from to r Ids bytes e = absurd cc
+looks v D Points from to r Names bytes e = absurd cc
+looks v D Ids from to r Ids bytes e =
     let up = not_true _ (and_first _ _ e) in
     let down = and_second _ _ e in
-    same_region (ids_region bytes) (ids_region from) (names_all from to bytes r up down)
-looks D Points from to r Points bytes e =
+    same_region (ids_region bytes) (ids_region from) (names_all v from to bytes r up down)
+looks v D Points from to r Points bytes e =
     let up = not_true _ (and_first _ _ e) in
     let down = and_second _ _ e in
     let w = prefix_between r.metric r.from_rest r.to_rest bytes (subst (λ (z : List ℕ). is_lt (bytes_cmp bytes z) ≡ false) r.from_is up) (subst (λ (z : List ℕ). is_lt (bytes_cmp bytes z) ≡ true) r.to_is down) in
-    let same : third_byte bytes ≡ third_byte from = ap third_byte w.1 ∙ third_of r.metric w.0 r.from_rest r.three ∙ ap third_byte (sym r.from_is) in
-    same_region (region_number D Points bytes) (region_number D Points from) (ap (λ n. 9 + n % D) same)
+    let same : metric_byte v bytes ≡ metric_byte v from = ap (metric_byte v) w.1 ∙ metric_of v r.metric w.0 r.from_rest r.whole ∙ ap (metric_byte v) (sym r.from_is) in
+    same_region (region_number v D Points bytes) (region_number v D Points from) (ap (λ n. 9 + n % D) same)
 
 pub looks_in_one : LooksInOne
-looks_in_one D table from to r row e = looks D table from to r row.table row.bytes e
+looks_in_one w D table from to r row e = looks w D table from to r row.table row.bytes e

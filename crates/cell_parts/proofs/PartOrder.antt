@@ -6,7 +6,8 @@ use Rattle.std.specs.List.Sorted.{IsPermutation, IsSortedBy}
 use Rattle.std.specs.declared.cmp.Ordering.{Ordering}
 use Rattle.std.specs.declared.cmp.Ordering.TheVariants.{Less, Equal, Greater}
 use Rattle.std.specs.Ordering.{eq_by_cmp, is_eq, is_lt, ordering_reverse}
-use Rattle.std.specs.FinMap.{entries, entries_sorted, entries-from_sorted, from_sorted, get-from_entries, get-from_sorted, same_map}
+use Rattle.std.specs.FinMap.{entries_sorted, entries-from_sorted, from_sorted, get-from_entries, get-from_sorted}
+use Rattle.row_key.specs.declared.widths.Widths.{Widths}
 use Rattle.std.specs.FinMap.Entries.{find, is_sorted, below_all}
 use Rattle.std.proofs.lemmas.List.Sorted.{Contains-permutation, IsPermutation-map, IsPermutation-sym}
 use Rattle.std.proofs.lemmas.Map.Keys.{IsDistinct-IsPermutation}
@@ -16,8 +17,8 @@ use Rattle.list_lemmas.proofs.ListMembers.{here, there}
 use Rattle.cell_model.specs.declared.row.Row.{Row}
 use Rattle.cell_model.specs.declared.events.Place.{Place}
 use Rattle.cell_model.specs.declared.events.Content.{Content}
-use Rattle.cell_model.specs.Store.{Store, place_cmp}
-use Rattle.cell_model.proofs.CallerLemmas.{places_total, exact_places}
+use Rattle.cell_model.specs.Store.{Store, entries, place_cmp}
+use Rattle.cell_model.proofs.CallerLemmas.{places_total, exact_places, same_store}
 use Rattle.cell_parts.specs.StoreParts.{part, of_region}
 use Rattle.cell_parts.specs.JoinedParts.{AreParts, joined}
 use Rattle.cell_parts.proofs.PlaceTests.{tied}
@@ -127,7 +128,7 @@ rises (e ∷ f ∷ es) up d =
     below Equal is apart low = let t : true ≡ false = sym (ap is_eq is) ∙ apart in absurd cc
     below Greater is apart low = let t : true ≡ false = sym (ap is_lt (places_total.antisymm f.0 e.0 ∙ ap ordering_reverse is)) ∙ low in absurd cc
 
-module _ (region : Row → ℕ) where
+module _ (w : Widths) (region : Row → ℕ) where
   -- the places of a part are of its region, and so none of them is in a later part
   own_rows : (k : ℕ) (es : List (Place × Content)) → AllAre (λ q. region q.row ≡ k) (filter (λ (e : Place × Content). of_region region k e.0.row) es)
   unfolding AllAre
@@ -142,22 +143,22 @@ module _ (region : Row → ℕ) where
   own_places : (k : ℕ) (p : Store) → part (of_region region k) p ≡ p → AllAre (λ q. region q.row ≡ k) (entries p)
   own_places k p is = subst (AllAre (λ q. region q.row ≡ k)) (sym (entries-part (of_region region k) p) ∙ ap entries is) (own_rows k (entries p))
 
-  none_later : (n : ℕ) (ps : List Store) (es : List (Place × Content)) → AreParts region (n + 1) ps → AllAre (λ q. region q.row ≡ n) es → AllAre (λ q. find place_cmp q (flat_map entries ps) ≡ None) es
+  none_later : (n : ℕ) (ps : List Store) (es : List (Place × Content)) → AreParts w region (n + 1) ps → AllAre (λ q. region q.row ≡ n) es → AllAre (λ q. find place_cmp q (flat_map entries ps) ≡ None) es
   unfolding AllAre
   none_later n ps [] are own = tt
-  none_later n ps (e ∷ es) are own = (none_below region (n + 1) ps e.0 are (omega (arith, own.0)), none_later n ps es are own.1)
+  none_later n ps (e ∷ es) are own = (none_below w region (n + 1) ps e.0 are (omega (arith, own.0)), none_later n ps es are own.1)
 
-  distinct_parts : (n : ℕ) (ps : List Store) → AreParts region n ps → IsDistinct is_place (places (flat_map entries ps))
+  distinct_parts : (n : ℕ) (ps : List Store) → AreParts w region n ps → IsDistinct is_place (places (flat_map entries ps))
   unfolding IsDistinct
   distinct_parts n [] are = tt
   distinct_parts n (p ∷ ps) are =
       subst (IsDistinct is_place) (sym (map_join (λ (e : Place × Content). e.0) (entries p) (flat_map entries ps)))
-      (distinct_join (entries p) (flat_map entries ps) (distinct_sorted (entries p) (entries_sorted p)) (distinct_parts (n + 1) ps are.1) (none_later n ps (entries p) are.1 (own_places n p are.0)))
+      (distinct_join (entries p) (flat_map entries ps) (distinct_sorted (entries p) (entries_sorted p.cells)) (distinct_parts (n + 1) ps are.2) (none_later n ps (entries p) are.2 (own_places n p are.0)))
 
-  pub entries-joined : (ps : List Store) (es : List (Place × Content)) → AreParts region 0 ps → IsPermutation (flat_map entries ps) es → IsSortedBy (λ (a b : Place × Content). is_lt (place_cmp a.0 b.0)) es → entries (joined ps) ≡ es
+  pub entries-joined : (ps : List Store) (es : List (Place × Content)) → AreParts w region 0 ps → IsPermutation (flat_map entries ps) es → IsSortedBy (λ (a b : Place × Content). is_lt (place_cmp a.0 b.0)) es → entries (joined w ps) ≡ es
   entries-joined ps es are moved up =
       let d = distinct_parts 0 ps are in
       let e = IsDistinct-IsPermutation is_place flips (places (flat_map entries ps)) (places es) (IsPermutation-map (λ (x : Place × Content). x.0) (flat_map entries ps) es moved) d in
       let sorted = rises es up e in
-      ap entries (same_map places_total exact_places (joined ps) (from_sorted es) (λ q. get-from_entries places_total (flat_map entries ps) q ∙ same_found (flat_map entries ps) es q d e moved ∙ sym (get-from_sorted place_cmp es q sorted)))
+      ap entries (same_store (joined w ps) (record { widths = w; cells = from_sorted es }) refl (λ q. get-from_entries places_total (flat_map entries ps) q ∙ same_found (flat_map entries ps) es q d e moved ∙ sym (get-from_sorted place_cmp es q sorted)))
       ∙ entries-from_sorted place_cmp es sorted

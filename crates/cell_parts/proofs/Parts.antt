@@ -5,7 +5,8 @@ use Rattle.std.specs.Prelude.{Option, None, Some, option_map, map, filter, find,
 use Rattle.std.specs.Int.{w64, to_be_bytes, from_be_bytes}
 use Rattle.std.specs.Option.{option_map_or}
 use Rattle.std.specs.Ordering.{eq_by_cmp}
-use Rattle.std.specs.FinMap.{get, get-empty, empty, insert, remove, entries, entries_sorted, entries-from_sorted, get-from_sorted, get-entries, get-insert, get-remove, same_map}
+use Rattle.std.specs.FinMap.{get-empty, entries_sorted, entries-from_sorted, get-from_sorted, get-entries, get-insert, get-remove}
+use Rattle.row_key.specs.declared.widths.Widths.{Widths}
 use Rattle.std.specs.FinMap.Entries.{is_sorted-where_key, find-where_key}
 use Rattle.std.specs.FinMap.Entries as fe
 use Rattle.list_lemmas.proofs.BoolTests.{is_equal}
@@ -19,12 +20,12 @@ use Rattle.cell_model.specs.declared.events.Step.TheVariants.{Open, Read, NextRo
 use Rattle.cell_model.specs.declared.answers.Bumped.TheVariants.{Given, Full}
 use Rattle.cell_model.specs.declared.events.Place.{Place}
 use Rattle.cell_model.specs.declared.events.Content.{Content}
-use Rattle.cell_model.specs.Store.{Store, row_cmp, place_cmp, place_of, content_at, value_at, written, stamped, stamped_over, is_dropped, dropped, drop_count, cells_of, cell_of, is_between, next_row_of}
-use Rattle.cell_model.specs.Machine.{after, reply_of, counter_row, kind_qual, counter_of, or_written, MOST_IDS, claim_reply}
+use Rattle.cell_model.specs.Store.{Store, entries, get, insert, no_cells, remove, with_cells, row_cmp, place_cmp, place_of, content_at, value_at, written, stamped, stamped_over, is_dropped, dropped, drop_count, cells_of, cell_of, is_between, next_row_of}
+use Rattle.cell_model.specs.Machine.{after, stepped, reply_of, counter_row, kind_qual, counter_of, or_written, greatest, claim_reply}
 use Rattle.cell_model.specs.declared.events.Reply.TheVariants.{Next, Shown, BumpReply, ClaimReply, Removed}
 use Rattle.cell_model.specs.History.{History, store_after, len, base_of}
 use Rattle.cell_model.specs.History.History.{Base, Then}
-use Rattle.cell_model.proofs.CallerLemmas.{places_total, exact_places, exact_rows, same_or_not}
+use Rattle.cell_model.proofs.CallerLemmas.{places_total, exact_places, exact_rows, same_or_not, same_store}
 use Rattle.cell_parts.proofs.PlaceTests.{tied, untied}
 use Rattle.cell_model.specs.declared.events.Placed.{Placed}
 use Rattle.cell_model.specs.Deeds.{placed}
@@ -51,15 +52,12 @@ found_of row cells = record { row = row; cells = cells }
 abbrev shown : Store → Option (Place × Content) → Option Found
 shown s o = option_map (λ e. found_of e.0.row (cells_of s e.0.row)) o
 
-abbrev nothing : Store
-nothing = empty
-
 module _ (mine : Row → Bool) where
   kept : Store → List (Place × Content)
   kept s = filter (λ e. mine e.0.row) (entries s)
 
   kept_sorted : (s : Store) → T (fe.is_sorted place_cmp (filter (λ e. mine e.0.row) (entries s)))
-  kept_sorted s = is_sorted-where_key place_cmp (λ p. mine p.row) (entries s) (entries_sorted s)
+  kept_sorted s = is_sorted-where_key place_cmp (λ p. mine p.row) (entries s) (entries_sorted s.cells)
 
   pub entries-part : (s : Store) → entries (part mine s) ≡ filter (λ e. mine e.0.row) (entries s)
   entries-part s = entries-from_sorted place_cmp _ (kept_sorted s)
@@ -68,60 +66,60 @@ module _ (mine : Row → Bool) where
   get-part s p =
       get-from_sorted place_cmp _ p (kept_sorted s)
       ∙ find-where_key place_cmp (λ x. mine x.row) p (λ x e. ap (λ (y : Place). mine y.row) (sym (exact_places p x e))) (entries s)
-      ∙ ap (λ o. cond (mine p.row) o None) (sym (get-entries s p))
+      ∙ ap (λ o. cond (mine p.row) o None) (sym (get-entries s.cells p))
 
   pub get-mine : (s : Store) (p : Place) → mine p.row ≡ true → get (part mine s) p ≡ get s p
   get-mine s p is = get-part s p ∙ ap (λ b. cond b (get s p) None) is
 
   -- of a store without a cell
-  pub part-empty : part mine nothing ≡ nothing
-  part-empty = same_map places_total exact_places _ _ (λ q. get-part nothing q ∙ ap (λ o. cond (mine q.row) o None) (get-empty place_cmp q) ∙ none_either (mine q.row) ∙ sym (get-empty place_cmp q))
+  pub part-empty : (w : Widths) → part mine (no_cells w) ≡ no_cells w
+  part-empty w = same_store _ _ refl (λ q. get-part (no_cells w) q ∙ ap (λ o. cond (mine q.row) o None) (get-empty place_cmp q) ∙ none_either (mine q.row) ∙ sym (get-empty place_cmp q))
 
   pub part-insert_mine : (s : Store) (p : Place) (c : Content) → mine p.row ≡ true → part mine (insert s p c) ≡ insert (part mine s) p c
-  part-insert_mine s p c is = same_map places_total exact_places _ _ (λ q. at q (same_or_not q p))
+  part-insert_mine s p c is = same_store _ _ refl (λ q. at q (same_or_not q p))
     where
       at : (q : Place) → (q ≡ p) ⊎ (q ≢ p) → get (part mine (insert s p c)) q ≡ get (insert (part mine s) p c) q
       at q (inl same) =
           let there : mine q.row ≡ true = ap (λ (x : Place). mine x.row) same ∙ is in
           let hit : eq_by_cmp place_cmp q p ≡ true = ap (λ x. eq_by_cmp place_cmp x p) same ∙ tied p in
-          get-mine (insert s p c) q there ∙ get-insert places_total s p c q ∙ ap (λ b. cond b (Some c) (get s q)) hit
-          ∙ sym (get-insert places_total (part mine s) p c q ∙ ap (λ b. cond b (Some c) (get (part mine s) q)) hit)
+          get-mine (insert s p c) q there ∙ get-insert places_total s.cells p c q ∙ ap (λ b. cond b (Some c) (get s q)) hit
+          ∙ sym (get-insert places_total (part mine s).cells p c q ∙ ap (λ b. cond b (Some c) (get (part mine s) q)) hit)
       at q (inr other) =
           let miss : eq_by_cmp place_cmp q p ≡ false = untied q p other in
-          get-part (insert s p c) q ∙ ap (λ o. cond (mine q.row) o None) (get-insert places_total s p c q ∙ ap (λ b. cond b (Some c) (get s q)) miss)
-          ∙ sym (get-insert places_total (part mine s) p c q ∙ ap (λ b. cond b (Some c) (get (part mine s) q)) miss ∙ get-part s q)
+          get-part (insert s p c) q ∙ ap (λ o. cond (mine q.row) o None) (get-insert places_total s.cells p c q ∙ ap (λ b. cond b (Some c) (get s q)) miss)
+          ∙ sym (get-insert places_total (part mine s).cells p c q ∙ ap (λ b. cond b (Some c) (get (part mine s) q)) miss ∙ get-part s q)
 
   pub part-insert_other : (s : Store) (p : Place) (c : Content) → mine p.row ≡ false → part mine (insert s p c) ≡ part mine s
-  part-insert_other s p c is = same_map places_total exact_places _ _ (λ q. at q (same_or_not q p))
+  part-insert_other s p c is = same_store _ _ refl (λ q. at q (same_or_not q p))
     where
       at : (q : Place) → (q ≡ p) ⊎ (q ≢ p) → get (part mine (insert s p c)) q ≡ get (part mine s) q
       at q (inl same) =
           let gone : mine q.row ≡ false = ap (λ (x : Place). mine x.row) same ∙ is in
           get-part (insert s p c) q ∙ ap (λ b. cond b (get (insert s p c) q) None) gone ∙ sym (get-part s q ∙ ap (λ b. cond b (get s q) None) gone)
       at q (inr other) =
-          get-part (insert s p c) q ∙ ap (λ o. cond (mine q.row) o None) (get-insert places_total s p c q ∙ ap (λ b. cond b (Some c) (get s q)) (untied q p other)) ∙ sym (get-part s q)
+          get-part (insert s p c) q ∙ ap (λ o. cond (mine q.row) o None) (get-insert places_total s.cells p c q ∙ ap (λ b. cond b (Some c) (get s q)) (untied q p other)) ∙ sym (get-part s q)
 
   pub part-remove_mine : (s : Store) (p : Place) → part mine (remove s p) ≡ remove (part mine s) p
-  part-remove_mine s p = same_map places_total exact_places _ _ (λ q. at q (eq_by_cmp place_cmp q p) refl)
+  part-remove_mine s p = same_store _ _ refl (λ q. at q (eq_by_cmp place_cmp q p) refl)
     where
       at : (q : Place) (b : Bool) → eq_by_cmp place_cmp q p ≡ b → get (part mine (remove s p)) q ≡ get (remove (part mine s) p) q
       at q true e =
-          get-part (remove s p) q ∙ ap (λ o. cond (mine q.row) o None) (get-remove places_total s p q ∙ ap (λ b. cond b None (get s q)) e)
+          get-part (remove s p) q ∙ ap (λ o. cond (mine q.row) o None) (get-remove places_total s.cells p q ∙ ap (λ b. cond b None (get s q)) e)
           ∙ none_either (mine q.row)
-          ∙ sym (get-remove places_total (part mine s) p q ∙ ap (λ b. cond b None (get (part mine s) q)) e)
+          ∙ sym (get-remove places_total (part mine s).cells p q ∙ ap (λ b. cond b None (get (part mine s) q)) e)
       at q false e =
-          get-part (remove s p) q ∙ ap (λ o. cond (mine q.row) o None) (get-remove places_total s p q ∙ ap (λ b. cond b None (get s q)) e)
-          ∙ sym (get-remove places_total (part mine s) p q ∙ ap (λ b. cond b None (get (part mine s) q)) e ∙ get-part s q)
+          get-part (remove s p) q ∙ ap (λ o. cond (mine q.row) o None) (get-remove places_total s.cells p q ∙ ap (λ b. cond b None (get s q)) e)
+          ∙ sym (get-remove places_total (part mine s).cells p q ∙ ap (λ b. cond b None (get (part mine s) q)) e ∙ get-part s q)
 
   pub part-remove_other : (s : Store) (p : Place) → mine p.row ≡ false → part mine (remove s p) ≡ part mine s
-  part-remove_other s p is = same_map places_total exact_places _ _ (λ q. at q (same_or_not q p))
+  part-remove_other s p is = same_store _ _ refl (λ q. at q (same_or_not q p))
     where
       at : (q : Place) → (q ≡ p) ⊎ (q ≢ p) → get (part mine (remove s p)) q ≡ get (part mine s) q
       at q (inl same) =
           let gone : mine q.row ≡ false = ap (λ (x : Place). mine x.row) same ∙ is in
           get-part (remove s p) q ∙ ap (λ b. cond b (get (remove s p) q) None) gone ∙ sym (get-part s q ∙ ap (λ b. cond b (get s q) None) gone)
       at q (inr other) =
-          get-part (remove s p) q ∙ ap (λ o. cond (mine q.row) o None) (get-remove places_total s p q ∙ ap (λ b. cond b None (get s q)) (untied q p other)) ∙ sym (get-part s q)
+          get-part (remove s p) q ∙ ap (λ o. cond (mine q.row) o None) (get-remove places_total s.cells p q ∙ ap (λ b. cond b None (get s q)) (untied q p other)) ∙ sym (get-part s q)
 
   -- the cells of a row, and the rows of a scan
   filter_twice : (row : Row) → mine row ≡ true → (es : List (Place × Content)) → filter (λ e. eq_by_cmp row_cmp row e.0.row) (filter (λ e. mine e.0.row) es) ≡ filter (λ e. eq_by_cmp row_cmp row e.0.row) es
@@ -214,49 +212,55 @@ module _ (mine : Row → Bool) where
         | false ↦ drop_count-part s row which is
       ]
 
-  pub after-mine : (s : Store) (place : ℕ) (step : Step) → is_mine mine step ≡ true → part mine (after s place step) ≡ after (part mine s) place step
-  after-mine s place Open is = refl
-  after-mine s place (Read row) is = refl
-  after-mine s place (NextRow table from to) is = refl
-  after-mine s place (Bump kind) is =
-      elim (nat_lt (counter_of s kind) MOST_IDS) as (λ b. part mine (if b then written s counter_row (kind_qual kind) (to_be_bytes w64 (counter_of s kind + 1)) (place % 2 ^ 64) else s) ≡ (if b then written (part mine s) counter_row (kind_qual kind) (to_be_bytes w64 (counter_of s kind + 1)) (place % 2 ^ 64) else part mine s)) [
+  stepped-mine : (s : Store) (place : ℕ) (step : Step) → is_mine mine step ≡ true → part mine (stepped s place step) ≡ stepped (part mine s) place step
+  stepped-mine s place Open is = refl
+  stepped-mine s place (Read row) is = refl
+  stepped-mine s place (NextRow table from to) is = refl
+  stepped-mine s place (Bump kind) is =
+      elim (nat_lt (counter_of s kind) (greatest s.widths kind)) as (λ b. part mine (if b then written s counter_row (kind_qual kind) (to_be_bytes w64 (counter_of s kind + 1)) (place % 2 ^ 64) else s) ≡ (if b then written (part mine s) counter_row (kind_qual kind) (to_be_bytes w64 (counter_of s kind + 1)) (place % 2 ^ 64) else part mine s)) [
         | true ↦ part-insert_mine s _ _ is
         | false ↦ refl
       ]
-      ∙ ap (λ n. if nat_lt n MOST_IDS then written (part mine s) counter_row (kind_qual kind) (to_be_bytes w64 (n + 1)) (place % 2 ^ 64) else part mine s) (sym (counter-part s kind is))
-  after-mine s place (Claim row qual value) is =
+      ∙ ap (λ n. if nat_lt n (greatest s.widths kind) then written (part mine s) counter_row (kind_qual kind) (to_be_bytes w64 (n + 1)) (place % 2 ^ 64) else part mine s) (sym (counter-part s kind is))
+  stepped-mine s place (Claim row qual value) is =
       elim (value_at s row qual) as (λ o. part mine (or_written o (written s row qual value (place % 2 ^ 64)) s) ≡ or_written o (written (part mine s) row qual value (place % 2 ^ 64)) (part mine s)) [
         | None ↦ part-insert_mine s _ _ is
         | Some v ↦ refl
       ]
       ∙ ap (λ o. or_written o (written (part mine s) row qual value (place % 2 ^ 64)) (part mine s)) (sym (value-part s row qual is))
-  after-mine s place (PutPoint point row qual value) is = part-insert_mine s _ _ is
-  after-mine s place (PutMerged row qual value) is = part-insert_mine s _ _ is
-  after-mine s place (DropCells row which) is = dropped-part s row which is
+  stepped-mine s place (PutPoint point row qual value) is = part-insert_mine s _ _ is
+  stepped-mine s place (PutMerged row qual value) is = part-insert_mine s _ _ is
+  stepped-mine s place (DropCells row which) is = dropped-part s row which is
 
-  pub after-other : (s : Store) (place : ℕ) (step : Step) → is_mine mine step ≡ false → part mine (after s place step) ≡ part mine s
-  after-other s place Open is = refl
-  after-other s place (Read row) is = refl
-  after-other s place (NextRow table from to) is = refl
-  after-other s place (Bump kind) is =
-      elim (nat_lt (counter_of s kind) MOST_IDS) as (λ b. part mine (if b then written s counter_row (kind_qual kind) (to_be_bytes w64 (counter_of s kind + 1)) (place % 2 ^ 64) else s) ≡ part mine s) [
+  stepped-other : (s : Store) (place : ℕ) (step : Step) → is_mine mine step ≡ false → part mine (stepped s place step) ≡ part mine s
+  stepped-other s place Open is = refl
+  stepped-other s place (Read row) is = refl
+  stepped-other s place (NextRow table from to) is = refl
+  stepped-other s place (Bump kind) is =
+      elim (nat_lt (counter_of s kind) (greatest s.widths kind)) as (λ b. part mine (if b then written s counter_row (kind_qual kind) (to_be_bytes w64 (counter_of s kind + 1)) (place % 2 ^ 64) else s) ≡ part mine s) [
         | true ↦ part-insert_other s _ _ is
         | false ↦ refl
       ]
-  after-other s place (Claim row qual value) is =
+  stepped-other s place (Claim row qual value) is =
       elim (value_at s row qual) as (λ o. part mine (or_written o (written s row qual value (place % 2 ^ 64)) s) ≡ part mine s) [
         | None ↦ part-insert_other s _ _ is
         | Some v ↦ refl
       ]
-  after-other s place (PutPoint point row qual value) is = part-insert_other s _ _ is
-  after-other s place (PutMerged row qual value) is = part-insert_other s _ _ is
-  after-other s place (DropCells row which) is = dropped-other s row which is
+  stepped-other s place (PutPoint point row qual value) is = part-insert_other s _ _ is
+  stepped-other s place (PutMerged row qual value) is = part-insert_other s _ _ is
+  stepped-other s place (DropCells row which) is = dropped-other s row which is
+
+  pub after-mine : (s : Store) (place : ℕ) (step : Step) → is_mine mine step ≡ true → part mine (after s place step) ≡ after (part mine s) place step
+  after-mine s place step is = ap (with_cells s) (stepped-mine s place step is)
+
+  pub after-other : (s : Store) (place : ℕ) (step : Step) → is_mine mine step ≡ false → part mine (after s place step) ≡ part mine s
+  after-other s place step is = ap (with_cells s) (stepped-other s place step is)
 
   pub reply-part : (s : Store) (place : ℕ) (step : Step) → is_mine mine step ≡ true → StaysWithin mine step → reply_of (part mine s) place step ≡ reply_of s place step
   reply-part s place Open is stays = refl
   reply-part s place (Read row) is stays = ap Shown (cells-part s row is)
   reply-part s place (NextRow table from to) is stays = ap Next (next-part s table from to stays)
-  reply-part s place (Bump kind) is stays = ap (λ n. BumpReply (if nat_lt n MOST_IDS then Given (n + 1) else Full)) (counter-part s kind is)
+  reply-part s place (Bump kind) is stays = ap (λ n. BumpReply (if nat_lt n (greatest s.widths kind) then Given (n + 1) else Full)) (counter-part s kind is)
   reply-part s place (Claim row qual value) is stays = ap (λ o. ClaimReply (claim_reply o)) (value-part s row qual is)
   reply-part s place (PutPoint point row qual value) is stays = refl
   reply-part s place (PutMerged row qual value) is stays = refl

@@ -3,6 +3,7 @@ use Rattle.std.specs.Prelude.{◌≡◌, ℕ, ◌+◌, ◌<◌, ◌≤◌, Bool,
 use Rattle.cell_model.specs.declared.row.Row.{Row}
 use Rattle.cell_model.specs.declared.events.Step.{Step}
 use Rattle.cell_model.specs.declared.events.Step.TheVariants.{NextRow}
+use Rattle.row_key.specs.declared.widths.Widths.{Widths}
 use Rattle.row_key.specs.declared.tables.Table.{Table}
 use Rattle.row_key.specs.declared.regions.TheConstants.{NAME_REGIONS}
 use Rattle.row_key.specs.Regions.{region_number}
@@ -27,8 +28,8 @@ RepliesApart = (mine : Row → Bool) (s : Store) (place : ℕ) (step : Step) →
 
 -- a next row that meets its condition looks at one region
 abbrev pub LooksInOne : Type 0
-LooksInOne = (D : ℕ) (table : Table) (from to : List ℕ) → InOneRange table from to → StaysWithin (is_in D (region_number D table from)) (NextRow table from to)
+LooksInOne = (w : Widths) (D : ℕ) (table : Table) (from to : List ℕ) → InOneRange w table from to → StaysWithin (is_in w D (region_number w D table from)) (NextRow table from to)
 
--- stores with the same parts are one
+-- stores with the same widths and the same parts are one
 abbrev pub PartsTellStore : Type 0
-PartsTellStore = (D : ℕ) (a b : Store) → 1 ≤ D → ((k : ℕ) → k < NAME_REGIONS + D → part (is_in D k) a ≡ part (is_in D k) b) → a ≡ b
+PartsTellStore = (w : Widths) (D : ℕ) (a b : Store) → 1 ≤ D → a.widths ≡ b.widths → ((k : ℕ) → k < NAME_REGIONS + D → part (is_in w D k) a ≡ part (is_in w D k) b) → a ≡ b

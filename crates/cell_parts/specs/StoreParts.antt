@@ -1,32 +1,33 @@
 -- The part of a store that some rows make, and the entries that look at those rows.
 use Rattle.std.specs.Prelude.{◌≡◌, ℕ, ◌+◌, Bool, true, false, List, [], ◌∷◌, ◌++◌, filter, nat_eq, if◌then◌else◌, cond}
-use Rattle.std.specs.FinMap.{from_sorted, entries}
+use Rattle.std.specs.FinMap.{from_sorted}
+use Rattle.row_key.specs.declared.widths.Widths.{Widths}
 use Rattle.row_key.specs.Regions.{region_number}
 use Rattle.cell_model.specs.declared.row.Row.{Row}
 use Rattle.cell_model.specs.declared.events.Step.{Step}
 use Rattle.cell_model.specs.declared.events.Step.TheVariants.{Open, Read, NextRow, Bump, Claim, PutPoint, PutMerged, DropCells}
 use Rattle.cell_model.specs.declared.events.Entry.{Entry}
 use Rattle.cell_model.specs.declared.events.Placed.{Placed}
-use Rattle.cell_model.specs.Store.{Store, is_between}
+use Rattle.cell_model.specs.Store.{Store, entries, is_between}
 use Rattle.cell_model.specs.Machine.{after, counter_row}
 use Rattle.cell_model.specs.History.{History, len}
 use Rattle.cell_model.specs.History.History.{Base, Then}
 use Rattle.cell_model.specs.Deeds.{placed}
 
--- the region of a row where there are so many data regions
-abbrev pub region_in : ℕ → Row → ℕ
-region_in data_regions row = region_number data_regions row.table row.bytes
+-- the region of a row where ids have these widths and there are so many data regions
+abbrev pub region_in : Widths → ℕ → Row → ℕ
+region_in w data_regions row = region_number w data_regions row.table row.bytes
 
 -- whether the row is of a region, and whether it is of this one where regions are those of `region_in`
 abbrev pub of_region : (Row → ℕ) → ℕ → Row → Bool
 of_region region number row = nat_eq (region row) number
 
-abbrev pub is_in : ℕ → ℕ → Row → Bool
-is_in data_regions = of_region (region_in data_regions)
+abbrev pub is_in : Widths → ℕ → ℕ → Row → Bool
+is_in w data_regions = of_region (region_in w data_regions)
 
 -- the cells of these rows
 abbrev pub part : (Row → Bool) → Store → Store
-part mine s = from_sorted (filter (λ e. mine e.0.row) (entries s))
+part mine s = record { widths = s.widths; cells = from_sorted (filter (λ e. mine e.0.row) (entries s)) }
 
 -- whether the step looks at one of these rows; a scan by its first row
 abbrev pub is_mine : (Row → Bool) → Step → Bool

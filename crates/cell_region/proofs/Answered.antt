@@ -1,5 +1,5 @@
 -- What a call's answer promises, by what it promised of a part.
-use Rattle.std.proofs.Common.{◌≡◌, sym, subst, ◌∙◌}
+use Rattle.std.proofs.Common.{◌≡◌, sym, ap, subst, ◌∙◌}
 use Rattle.std.specs.Prelude.{Result, Ok, Err, IfOk, OnOk, OnErr}
 
 module _ {T E : Type 0} where
@@ -19,3 +19,8 @@ module _ {T E : Type 0} where
   pub either_way : {A : Type 0} (r : Result T E) (P : A → Type 0) (new ok err : A) → OnOk r (new ≡ ok) → OnErr r (new ≡ err) → P ok → P err → P new
   either_way (Ok x) P new ok err is _ p q = subst P (sym is) p
   either_way (Err e) P new ok err _ is p q = subst P (sym is) q
+
+  -- what neither outcome changes stays
+  pub still : {A B : Type 0} (r : Result T E) (f : A → B) (new ok err : A) → OnOk r (new ≡ ok) → OnErr r (new ≡ err) → f ok ≡ f err → f new ≡ f err
+  still (Ok x) f new ok err is _ same = ap f is ∙ same
+  still (Err e) f new ok err _ is same = ap f is

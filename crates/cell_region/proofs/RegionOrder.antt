@@ -5,7 +5,8 @@ use Rattle.std.specs.List.{flat_map, swap}
 use Rattle.std.specs.List.Sorted.{IsPermutation, IsSortedBy}
 use Rattle.std.specs.declared.cmp.Ordering.TheVariants.{Less}
 use Rattle.std.specs.Ordering.{is_lt}
-use Rattle.std.specs.FinMap.{entries, entries_sorted}
+use Rattle.std.specs.FinMap.{entries_sorted}
+use Rattle.cell_model.specs.Store.{entries}
 use Rattle.std.proofs.lemmas.List.{length-map, map-set, get_or-map}
 use Rattle.std.proofs.lemmas.List.Sorted.{IsPermutation-keeps, IsPermutation-refl, IsPermutation-swap, IsPermutation-trans}
 use Rattle.list_lemmas.proofs.ListCuts.{map_join, nothing_behind, take_next}
@@ -16,6 +17,7 @@ use Rattle.cell_model.specs.declared.row.ListLine.{ListLine}
 use Rattle.cell_model.specs.declared.events.Place.{Place}
 use Rattle.cell_model.specs.declared.events.Content.{Content}
 use Rattle.cell_model.specs.PlaceOrder.{place_cmp}
+use Rattle.row_key.specs.declared.widths.Widths.{Widths}
 use Rattle.cell_model.specs.Counts.{line_of, lines_of}
 use Rattle.cell_model.specs.Listed.{entry_of_line}
 use Rattle.cell_model.specs.Rising.{LinesRise, is_above, place_of_line}
@@ -71,15 +73,15 @@ sorted_entries es up k d low lt =
     (λ i. is_lt (place_cmp (place_of_line (sym (get_or-map line_of es (k + 1) d (line_of d) lt) i)) (place_of_line (sym (get_or-map line_of es k d (line_of d) (omega (arith, lt))) i))))
     ∙ up k (line_of d) low (omega (arith, lt, n))
 
-module _ (D : ℕ) (rs : List Region) (complete : AreComplete D rs) (lines : List ListLine) (moved : IsPermutation (lines_among rs) lines) (up : IsSortedBy is_before lines) where
+module _ (w : Widths) (D : ℕ) (rs : List Region) (complete : AreComplete w D rs) (lines : List ListLine) (moved : IsPermutation (lines_among rs) lines) (up : IsSortedBy is_before lines) where
   way : Moved (flat_map entries (map cells_in rs)) lines
   way = moved_lines (flat_map entries (map cells_in rs)) lines (subst (λ (l : List ListLine). IsPermutation l lines) (lines_are rs) moved)
 
-  pub lines_of_all : lines ≡ lines_of (store_of_all rs)
-  lines_of_all = way.are ∙ ap (map line_of) (sym (entries-joined (region_in D) (map cells_in rs) way.list (parts_of D 0 rs complete.in_order) way.moved (sorted_entries way.list (subst (IsSortedBy is_before) way.are up))))
+  pub lines_of_all : lines ≡ lines_of (store_of_all w rs)
+  lines_of_all = way.are ∙ ap (map line_of) (sym (entries-joined w (region_in w D) (map cells_in rs) way.list (parts_of w D 0 rs complete.in_order) way.moved (sorted_entries way.list (subst (IsSortedBy is_before) way.are up))))
 
   pub lines_rise : LinesRise lines
-  lines_rise = subst LinesRise (sym lines_of_all) (each (entries (store_of_all rs)) (sorted-rising place_cmp (entries (store_of_all rs)) (entries_sorted (store_of_all rs))))
+  lines_rise = subst LinesRise (sym lines_of_all) (each (entries (store_of_all w rs)) (sorted-rising place_cmp (entries (store_of_all w rs)) (entries_sorted (store_of_all w rs).cells)))
     where
       each : (es : List (Place × Content)) → AllPairs (λ (p q : Place × Content). place_cmp p.0 q.0 ≡ Less) es → LinesRise (map line_of es)
       each es up i j d lt within =

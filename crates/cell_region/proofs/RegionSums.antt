@@ -7,6 +7,7 @@ use Rattle.std.proofs.lemmas.List.Sums.{sum_by-cons, sum_by-append}
 use Rattle.list_lemmas.proofs.ListCuts.{take_next}
 use Rattle.list_lemmas.proofs.EntryLemmas.{length-entries}
 use Rattle.row_key.proofs.CallerLemmas.{regions_end}
+use Rattle.row_key.specs.declared.widths.Widths.{Widths}
 use Rattle.cell_model.specs.declared.row.Row.{Row}
 use Rattle.cell_model.specs.declared.events.Place.{Place}
 use Rattle.cell_model.specs.declared.events.Content.{Content}
@@ -51,12 +52,12 @@ sums : (f : Region → ℕ) (count : Store → ℕ) → ((r : Region) → f r �
 sums f count same [] = refl
 sums f count same (r ∷ rs) = sum_by-cons f r rs ∙ (λ i. same r i + sums f count same rs i) ∙ sym (sum_by-cons count (cells_in r) (map cells_in rs))
 
-module _ (D : ℕ) (rs : List Region) (complete : AreComplete D rs) where
-  under : (row : Row) → region_in D row < length (map cells_in rs)
-  under row = let end = regions_end D row.table row.bytes complete.least in let same = length-map rs cells_in in let all = complete.all in omega (arith, end, same, all)
+module _ (w : Widths) (D : ℕ) (rs : List Region) (complete : AreComplete w D rs) where
+  under : (row : Row) → region_in w D row < length (map cells_in rs)
+  under row = let end = regions_end w D row.table row.bytes complete.least in let same = length-map rs cells_in in let all = complete.all in omega (arith, end, same, all)
 
-  pub rows_of_all : rows_among rs ≡ length (point_rows (store_of_all rs))
-  rows_of_all = sums (λ (r : Region). length (point_rows (cells_in r))) (λ s. length (point_rows s)) (λ r. refl) rs ∙ point_rows-joined (region_in D) (map cells_in rs) (parts_of D 0 rs complete.in_order) under
+  pub rows_of_all : rows_among rs ≡ length (point_rows (store_of_all w rs))
+  rows_of_all = sums (λ (r : Region). length (point_rows (cells_in r))) (λ s. length (point_rows s)) (λ r. refl) rs ∙ point_rows-joined w (region_in w D) (map cells_in rs) (parts_of w D 0 rs complete.in_order) under
 
-  pub cells_of_all : cells_among rs ≡ length (point_entries (store_of_all rs))
-  cells_of_all = sums (λ (r : Region). length (point_entries (cells_in r))) (λ s. length (point_entries s)) (λ r. refl) rs ∙ point_cells-joined (region_in D) (map cells_in rs) (parts_of D 0 rs complete.in_order) under
+  pub cells_of_all : cells_among rs ≡ length (point_entries (store_of_all w rs))
+  cells_of_all = sums (λ (r : Region). length (point_entries (cells_in r))) (λ s. length (point_entries s)) (λ r. refl) rs ∙ point_cells-joined w (region_in w D) (map cells_in rs) (parts_of w D 0 rs complete.in_order) under

@@ -3,8 +3,9 @@ ghost use Rattle.std.specs.Prelude.{◌≡◌, ◌++◌, IfOk, OnOk};
 ghost use Rattle.cell_model.specs.PlaceOrder.{place_cmp};
 ghost use Rattle.cell_model.specs.Rising.{LinesRise, place_of_line};
 
-use cell_model::{ListLine, Listing};
+use cell_model::{LineList, ListLine, Listing};
 use map_body::store_maps::number;
+use row_key::Widths;
 use std::alloc::{AllocError, Global};
 use std::cmp::Ordering;
 
@@ -14,7 +15,7 @@ pub fn add_lines(
     alloc: Global,
     listing: &Listing,
 ) -> Result<(), AllocError>
-    ensures { OnOk result (lines.new.items ≡ lines.old.items ++ listing.now) }
+    ensures { OnOk result (lines.new.items ≡ lines.old.items ++ listing.now.lines) }
 {
     for line in listing.lines() {
         lines.push(ListLine {
@@ -37,14 +38,21 @@ pub fn place_order(one: &ListLine, other: &ListLine) -> Ordering
     tables.then(rows).then(quals)
 }
 
-/// The listing of lines that rise.
-pub fn listing_of(alloc: Global, lines: Vec<ListLine>) -> Result<Listing, AllocError>
+/// The listing of lines that rise, with these widths.
+pub fn listing_of(
+    alloc: Global,
+    widths: Widths,
+    lines: Vec<ListLine>,
+) -> Result<Listing, AllocError>
     requires { LinesRise lines.items }
-    ensures { IfOk result (λ listing. listing ≡ lines.items) }
+    ensures { IfOk result (λ listing. listing ≡ record { widths = widths; lines = lines.items }) }
 {
-    let mut listing = Listing::none(alloc);
+    let mut rising = LineList::none(alloc);
     for line in lines {
-        listing.push(line)?;
+        rising.push(line)?;
     }
-    Ok(listing)
+    Ok(Listing {
+        widths,
+        lines: rising,
+    })
 }

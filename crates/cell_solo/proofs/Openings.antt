@@ -2,11 +2,11 @@
 use Rattle.std.proofs.Common.{◌≡◌, ℕ, zero, suc, ◌+◌, ◌≤◌, ◌⊎◌, inl, inr, Bool, List, refl, sym, ap, subst, ◌∙◌, arith}
 use Rattle.std.specs.Prelude.{IsTrue}
 use Rattle.cell_model.specs.declared.row.Row.{Row}
-use Rattle.cell_model.specs.declared.row.ListLine.{ListLine}
+use Rattle.cell_model.specs.declared.row.Listing.{Listing}
 use Rattle.cell_model.specs.declared.events.Step.TheVariants.{Open}
 use Rattle.cell_model.specs.declared.events.Reply.TheVariants.{Opened}
 use Rattle.cell_model.specs.Store.{Store}
-use Rattle.cell_model.specs.Counts.{lines_of}
+use Rattle.cell_model.specs.Counts.{listing_of}
 use Rattle.cell_model.specs.Listed.{store_of}
 use Rattle.cell_model.specs.Sound.{IsBase}
 use Rattle.cell_model.specs.History.{History, len, store_after, Had}
@@ -51,11 +51,11 @@ pub play-opened : (base : Store) (n : ℕ) → IsBase base → IsPlay (opened ba
 play-opened base n is = record { lawful = lawful-opened base n is; opened = had-opened base n }
 
 -- the openings over the body's listing are those over its content
-pub begun : (content : Store) (lines : List ListLine) (turns : List Turn) (n : ℕ) → IsBase content → lines ≡ lines_of content → turns ≡ openings n → played (Base (store_of lines)) turns ≡ opened content n
+pub begun : (content : Store) (lines : Listing) (turns : List Turn) (n : ℕ) → IsBase content → lines ≡ listing_of content → turns ≡ openings n → played (Base (store_of lines)) turns ≡ opened content n
 begun content lines turns n is listed told =
     (λ i. played (Base (store_of (listed i))) (told i)) ∙ ap (λ (s : Store). played (Base s) (openings n)) (lines_tell_store content is.versions) ∙ played-openings content n
 
-pub first_play : (content : Store) (covers : Row → Bool) (lines : List ListLine) (turns : List Turn) (n room : ℕ) → IsBase content → ((row : Row) → IsTrue (covers row)) → lines ≡ lines_of content → turns ≡ openings n → 1 ≤ n
+pub first_play : (content : Store) (covers : Row → Bool) (lines : Listing) (turns : List Turn) (n room : ℕ) → IsBase content → ((row : Row) → IsTrue (covers row)) → lines ≡ listing_of content → turns ≡ openings n → 1 ≤ n
     → IsPlayed content covers (record { lines = lines; turns = turns; callers = n; caller = 1; room = room })
 first_play content covers lines turns n room is covered listed told some =
     let begun_is = begun content lines turns n is listed told in

@@ -19,6 +19,7 @@ use Rattle.qual_codec.specs.CellDots.{width_of}
 use Rattle.qual_codec.specs.Spelling.{IsShortest, dot_of}
 use Rattle.tsd_base.specs.declared.kinds.Kind.{Kind}
 use Rattle.cell_model.specs.declared.row.Row.{Row}
+use Rattle.cell_model.specs.KindWidths.{Widths}
 use Rattle.cell_model.specs.Layout.{IsLayout}
 use Rattle.row_key.specs.declared.tables.Table.{Table}
 use Rattle.cell_model.specs.declared.events.Step.{Step}
@@ -220,7 +221,7 @@ abbrev pub point_step : DataPoint → Row → List ℕ → Step
 point_step point row value = PutPoint point row (item_bytes (record { offset = point.time % HOUR_MILLIS; fine = point.fine; len = length value })) value
 
 -- a put of a point's layout is that of its one item
-pub put_of_layout : (ids : Kind → List ℕ → ℕ) (turns new : List Turn) (caller : ℕ) (point : DataPoint) (row : Row) (qual value : List ℕ) → IsLayout ids point row.bytes qual value
+pub put_of_layout : {w : Widths} (ids : Kind → List ℕ → ℕ) (turns new : List Turn) (caller : ℕ) (point : DataPoint) (row : Row) (qual value : List ℕ) → IsLayout w ids point row.bytes qual value
     → new ≡ turns ++ record { caller = caller; step = point_step point row value } ∷ [] → new ≡ turns ++ record { caller = caller; step = PutPoint point row qual value } ∷ []
 put_of_layout ids turns new caller point row qual value layout is =
     let item = (dot_of (point.time % HOUR_MILLIS) point.fine point.value (length value)).item in

@@ -13,14 +13,16 @@ use Rattle.cell_model.specs.declared.events.Placed.{Placed}
 use Rattle.cell_model.specs.Store.{Store}
 use Rattle.cell_model.specs.Listed.{store_of}
 use Rattle.cell_model.specs.Machine.{after, reply_of, counter_row}
-use Rattle.cell_model.specs.History.{History, len, store_after, entry_at, Had}
+use Rattle.cell_model.specs.KindWidths.{Widths}
+use Rattle.cell_model.specs.Ranges.{InOneRange}
+use Rattle.cell_model.specs.History.{History, base_of, len, store_after, entry_at, Had}
 use Rattle.cell_model.specs.History.History.{Base, Then}
 use Rattle.cell_model.specs.Lawful.{HasOpened, ClaimBasis}
 use Rattle.cell_model.specs.declared.answers.RowsFault.{RowsFault}
 use Rattle.cell_model.specs.declared.answers.RowsFault.TheVariants.{OutOfMemory}
 use Rattle.cell_model.specs.Seen.{Fits, Stepped, Waited, IsPossible, Knows, HasSeenOpening, RoseIfStopped}
 use Rattle.cell_solo.specs.Turns.{Turn, opening, entry_of, entries_of, played, all_placed, whole_seen, Play, history_of, sight, IsPlay, IsPlayed, Steps, Stays}
-use Rattle.cell_laws.proofs.CallerLemmas.{known_is_allowed, nothing_waited, bounded, entry_at-last, entry_at-more, claimed_name, Names_Ids, not_zero}
+use Rattle.cell_laws.proofs.CallerLemmas.{base_widths, known_is_allowed, nothing_waited, bounded, entry_at-last, entry_at-more, claimed_name, Names_Ids, not_zero}
 use Rattle.list_lemmas.proofs.BoolTests.{not_Some, nat_eq_is}
 use Rattle.list_lemmas.proofs.ListMembers.{here, there, split}
 
@@ -193,7 +195,7 @@ claims_no_counter content covers p v row qual value is view_is known =
     let knows = subst (λ (w : Play). Knows (sight w) (Claim row qual value)) (sym view_is) known in
     at row.table row.bytes (known_is_allowed (sight p) (history_of p) (Claim row qual value) is.play.lawful (fits_whole (history_of p) p.caller (nat_eq p.callers 1)) knows) (λ e. (ap (λ (r : Row). r.table) e, ap (λ (r : Row). r.bytes) e))
   where
-    at : (table : Table) (bytes : List ℕ) → ClaimBasis (Had (history_of p)) p.caller table bytes qual value → (row ≡ counter_row → (table ≡ Ids) × (bytes ≡ 0 ∷ [])) → row ≢ counter_row
+    at : (table : Table) (bytes : List ℕ) → ClaimBasis (store_after (history_of p)).widths (Had (history_of p)) p.caller table bytes qual value → (row ≡ counter_row → (table ≡ Ids) × (bytes ≡ 0 ∷ [])) → row ≢ counter_row
     at Names bytes basis parts e = Names_Ids (parts e).0
     at Points bytes basis parts e = absurd basis
     at Ids bytes basis parts e = not_zero bytes (claimed_name (history_of p) basis.who _ qual bytes is.play.lawful basis.reversed) (parts e).1
@@ -227,3 +229,17 @@ on_ok (Err e) f p = p
 pub if_err : {T E : Type 0} (r : Result T E) {P Q : E → Type 0} → ((e : E) → P e → Q e) → IfErr r P → IfErr r Q
 if_err (Ok v) f p = p
 if_err (Err e) f p = f e p
+
+-- ---- widths
+
+base-played : (h : History) (turns : List Turn) → base_of (played h turns) ≡ base_of h
+base-played h [] = refl
+base-played h (turn ∷ turns) = base-played (Then h (entry_of h turn)) turns
+
+-- the widths of the lines are those of the base, and these are those of the body
+pub seen_as_listed : (p : Play) → p.lines.widths ≡ (sight p).base.widths
+seen_as_listed p = ap (λ (s : Store). s.widths) (sym (base-played (Base (store_of p.lines)) p.turns))
+
+pub range_here : (content : Store) (covers : Row → Bool) (p : Play) → IsPlayed content covers p → (table : Table) (from to : List ℕ) → InOneRange (sight p).base.widths table from to → InOneRange content.widths table from to
+range_here content covers p is table from to range =
+    subst (λ (w : Widths). InOneRange w table from to) (base_widths (history_of p) ∙ ap (λ (s : Store). s.widths) (sym is.content_is)) range

@@ -9,7 +9,7 @@ use Rattle.row_key.proofs.CallerLemmas.{one_key}
 use Rattle.list_lemmas.proofs.BoolTests.{not_Some, same_Some}
 use Rattle.cell_model.specs.declared.row.Row.{Row}
 use Rattle.cell_model.specs.declared.events.Step.TheVariants.{PutPoint}
-use Rattle.cell_model.specs.History.{History}
+use Rattle.cell_model.specs.History.{History, store_after}
 use Rattle.cell_model.specs.History.History.{Base, Then}
 use Rattle.cell_model.specs.IdRows.{name_of}
 use Rattle.cell_model.specs.Layout.{base_time}
@@ -28,7 +28,7 @@ named_once : (h : History) (row : Row) (p q : DataPoint) (qual value qual' value
 named_once h row p q qual value qual' value' old new =
     let x = old.dot_reads in
     let y = new.dot_reads in
-    let k : x.key ≡ y.key = one_key x.key y.key x.is_key y.is_key (sym x.row_is ∙ y.row_is) in
+    let k : x.key ≡ y.key = one_key (store_after h).widths x.key y.key x.is_key y.is_key (sym x.row_is ∙ y.row_is) in
     let metric = same_Some p.metric q.metric (sym x.metric_is ∙ ap (λ (z : RowKey). name_of h Metric z.metric) k ∙ y.metric_is) in
     let tags = tags_once (name_of h) x.key.pairs.items y.key.pairs.items p.tags q.tags (ap (λ (z : RowKey). z.pairs.items) k) x.tags_are y.tags_are in
     let bases : base_time p.time ≡ base_time q.time = sym old.base ∙ ap (λ (z : RowKey). z.base) k ∙ new.base in

@@ -1,7 +1,7 @@
 -- Callers of one store, in turns, and the history that their steps make: the replies follow from the steps.
 use Rattle.std.specs.Prelude.{◌≡◌, ℕ, zero, suc, ◌+◌, ◌≤◌, Bool, IsTrue, nat_eq, if◌then◌else◌, List, [], ◌∷◌, ◌++◌}
 use Rattle.cell_model.specs.declared.row.Row.{Row}
-use Rattle.cell_model.specs.declared.row.ListLine.{ListLine}
+use Rattle.cell_model.specs.declared.row.Listing.{Listing}
 use Rattle.cell_model.specs.declared.events.Step.{Step}
 use Rattle.cell_model.specs.declared.events.Step.TheVariants.{Open}
 use Rattle.cell_model.specs.declared.events.Reply.{Reply}
@@ -60,7 +60,7 @@ whole_seen h caller alone = record { base = base_of h; caller = caller; absorbed
 
 -- callers 1 to `callers` over the store that the lines tell, what they did, whose turn it is, and for how many further steps there is room
 pub record Play : Type 0 where
-  pub lines : List ListLine
+  pub lines : Listing
   pub turns : List Turn
   pub callers : ℕ
   pub caller : ℕ

@@ -21,7 +21,7 @@ use cell_model::row::{Cells, Drops, Found, Listing, Row};
 use cell_model::rows::Rows;
 use cell_model::stamp::{bump_at, claim_at, put_at};
 use qual_codec::Bytes;
-use row_key::Table;
+use row_key::{Table, Widths};
 use std::alloc::{AllocError, Global};
 use std::marker::Model;
 use tsd_base::kinds::Kind;
@@ -181,6 +181,10 @@ impl<B: Body + Drop> Rows for Solo<B> {
 
     ghost spare = { λ p. p.room };
 
+    fn widths(&self) -> Widths {
+        self.base.widths()
+    }
+
     fn read(&mut self, alloc: Global, row: &Row) -> Result<Cells, RowsFault>
         ensures steps { IfOk result (λ cells. Steps self.old (Read row.now) (Shown cells) self.new) }
         ensures stays { OnErr result (Stays self.old self.new) }
@@ -200,7 +204,7 @@ impl<B: Body + Drop> Rows for Solo<B> {
         from: &Bytes,
         to: &Bytes,
     ) -> Result<Option<Found>, RowsFault>
-        requires range { InOneRange table from.now to.now }
+        requires range { InOneRange (sight self.old).base.widths table from.now to.now }
         ensures steps { IfOk result (λ found. Steps self.old (NextRow table from.now to.now) (Next found) self.new) }
         ensures stays { OnErr result (Stays self.old self.new) }
         ensures memory { IfErr result (λ fault. fault ≡ OutOfMemory) }

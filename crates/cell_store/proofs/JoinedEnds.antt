@@ -5,6 +5,7 @@ use Rattle.std.specs.declared.option.Option.{Option}
 use Rattle.std.proofs.lemmas.List.Elements.{Contains-append_right}
 use Rattle.atomic_table.specs.Seated.{TableId}
 use Rattle.cell_model.specs.declared.events.Placed.{Placed}
+use Rattle.row_key.specs.declared.widths.Widths.{Widths}
 use Rattle.cell_model.specs.Store.{Store}
 use Rattle.cell_model.specs.History.{History, store_after}
 use Rattle.cell_model.specs.Seen as seen
@@ -22,7 +23,7 @@ use Rattle.step_count.specs.ViewSteps.{Lives, learned, met}
 use Rattle.cell_store.specs.CallerViews.{seen_of, IsCaller, Replays}
 use Rattle.cell_store.specs.SiteEnds.{took, AreReplays, Closed, EndsAt}
 use Rattle.cell_store.specs.SiteStarts.{FollowOn, IsHeld}
-use Rattle.cell_store.proofs.Lower.{here, history_apart, parts_tell_store}
+use Rattle.cell_store.proofs.Lower.{base_widths, here, history_apart, parts_tell_store}
 use Rattle.cell_store.proofs.SeenViews.{fits_seen}
 use Rattle.cell_store.proofs.GreaterViews.{Sub, sub_trans, sub_took, sub_learned, fits_sub}
 
@@ -109,39 +110,43 @@ module _ (name : Named) (v v1 v2 v3 v4 v5 : View) (rs rs1 rs2 rs3 rs4 rs5 : List
       (closed_both name 15 20 25 v3 v4 v5 rs3 rs4 rs5 four five)))
 
 -- regions from a number on with their parts of a store
-abbrev pub ArePartsFrom : ℕ → Store → ℕ → List Region → Type 0
-ArePartsFrom D s number [] = Unit {0}
-ArePartsFrom D s number (r ∷ rs) = (cells_in r ≡ part (is_in D number) s) × (rows_of r ≡ is_in D number) × ArePartsFrom D s (number + 1) rs
+abbrev pub ArePartsFrom : Widths → ℕ → Store → ℕ → List Region → Type 0
+ArePartsFrom w D s number [] = Unit {0}
+ArePartsFrom w D s number (r ∷ rs) = (cells_in r ≡ part (is_in w D number) s) × (rows_of r ≡ is_in w D number) × ArePartsFrom w D s (number + 1) rs
 
-parts_of : (name : Named) (h : History) (number : ℕ) (rs : List Region) (ls : List View) (v u : View) → IsOver name h → Fits name h u → Sub (took v ls) u → AreReplays name number rs ls → ArePartsFrom name.data_regions (store_after h) number rs
+-- the widths after a history are those of the named store
+after_widths : (name : Named) (h : History) → IsOver name h → (store_after h).widths ≡ name.widths
+after_widths name h over = sym (base_widths h) ∙ ap (λ (s : Store). s.widths) over.base
+
+parts_of : (name : Named) (h : History) (number : ℕ) (rs : List Region) (ls : List View) (v u : View) → IsOver name h → Fits name h u → Sub (took v ls) u → AreReplays name number rs ls → ArePartsFrom name.widths name.data_regions (store_after h) number rs
 parts_of name h number [] ls v u over f sub are = tt
 parts_of name h number (r ∷ rs) [] v u over f sub are = absurd are
 parts_of name h number (r ∷ rs) (l ∷ ls) v u over f sub are =
     let x = are.0 in
     let whole = sub_trans (met v l) (took (met v l) ls) u (sub_took (met v l) ls) sub in
     let has : Contains (met v l).licences (number, x.log) = Contains-append_right v.licences l.licences (number, x.log) (subst (λ (xs : List (ℕ × List Placed)). Contains xs (number, x.log)) (sym x.licence) (here (number, x.log) [])) in
-    let log_is : picked (in_region name.data_regions number) h ≡ x.log = f.regions number x.log (whole.licences number x.log has) in (
-      x.content_is ∙ sym (history_apart (is_in name.data_regions number) h ∙ (λ i. replayed (part (is_in name.data_regions number) (over.base i)) (log_is i))),
+    let log_is : picked (in_region name number) h ≡ x.log = f.regions number x.log (whole.licences number x.log has) in (
+      x.content_is ∙ sym (history_apart (is_in name.widths name.data_regions number) h ∙ (λ i. replayed (part (is_in name.widths name.data_regions number) (over.base i)) (log_is i))),
       x.rows_are,
       parts_of name h (number + 1) rs ls (met v l) u over f sub are.1,
     )
 
-in_order : (D : ℕ) (s : Store) (number : ℕ) (rs : List Region) → ArePartsFrom D s number rs → InOrder D number rs
-in_order D s number [] a = tt
-in_order D s number (r ∷ rs) a = (a.1, in_order D s (number + 1) rs a.2)
+in_order : (w : Widths) (D : ℕ) (s : Store) (number : ℕ) (rs : List Region) → s.widths ≡ w → ArePartsFrom w D s number rs → InOrder w D number rs
+in_order w D s number [] same a = tt
+in_order w D s number (r ∷ rs) same a = (a.1, ap (λ (x : Store). x.widths) a.0 ∙ same, in_order w D s (number + 1) rs same a.2)
 
-part_is : (D : ℕ) (s : Store) (number : ℕ) (rs : List Region) (k : ℕ) → ArePartsFrom D s number rs → k < length rs → part_at (map cells_in rs) k ≡ part (is_in D (number + k)) s
-part_is D s number [] k a lt = absurd (omega (arith, lt))
-part_is D s number (r ∷ rs) zero a lt = let same : number ≡ number + 0 = omega arith in a.0 ∙ ap (λ n. part (is_in D n) s) same
-part_is D s number (r ∷ rs) (suc k) a lt = let same : number + 1 + k ≡ number + suc k = omega arith in part_is D s (number + 1) rs k a.2 (omega (arith, lt)) ∙ ap (λ n. part (is_in D n) s) same
+part_is : (w : Widths) (D : ℕ) (s : Store) (number : ℕ) (rs : List Region) (k : ℕ) → ArePartsFrom w D s number rs → k < length rs → part_at w (map cells_in rs) k ≡ part (is_in w D (number + k)) s
+part_is w D s number [] k a lt = absurd (omega (arith, lt))
+part_is w D s number (r ∷ rs) zero a lt = let same : number ≡ number + 0 = omega arith in a.0 ∙ ap (λ n. part (is_in w D n) s) same
+part_is w D s number (r ∷ rs) (suc k) a lt = let same : number + 1 + k ≡ number + suc k = omega arith in part_is w D s (number + 1) rs k a.2 (omega (arith, lt)) ∙ ap (λ n. part (is_in w D n) s) same
 
 -- a lawful history fits the pass, and the regions are all, with their parts of the store after it
 pub record IsOpened (name : Named) (v : View) (rs : List Region) : Type 0 where
   pub history : History
   pub over : IsOver name history
   pub fits : seen.Fits (seen_of v) history
-  pub complete : AreComplete name.data_regions rs
-  pub parts : ArePartsFrom name.data_regions (store_after history) 0 rs
+  pub complete : AreComplete name.widths name.data_regions rs
+  pub parts : ArePartsFrom name.widths name.data_regions (store_after history) 0 rs
 
 pub opened_all : (name : Named) (v u w : View) (before now : List Region) (n : ℕ) → 1 ≤ name.data_regions → name.data_regions ≤ 16 → IsCaller name v → Closed name 0 25 v before u now → before ≡ [] → w ≡ learned u n → u.length ≤ n → Lives w → IsOpened name v now
 opened_all name v u w before now n least most c gone none is le live =
@@ -151,24 +156,24 @@ opened_all name v u w before now n least most c gone none is le live =
     let over : IsOver name live.history = subst (λ m. IsOver m live.history) (sym same) live.over in
     let f : Fits name live.history w = subst (λ m. Fits m live.history w) (sym same) live.fits in
     let regions : now ≡ gone.regions = gone.added ∙ ap (λ xs. xs ++ gone.regions) none in
-    let parts : ArePartsFrom name.data_regions (store_after live.history) 0 gone.regions = parts_of name live.history 0 gone.regions gone.licences v w over f (subst (λ (x : View). Sub x w) gone.took_them sub) (subst (λ k. AreReplays name k gone.regions gone.licences) (let z : min 0 (region_count name) ≡ 0 = omega arith in z) gone.replays) in
+    let parts : ArePartsFrom name.widths name.data_regions (store_after live.history) 0 gone.regions = parts_of name live.history 0 gone.regions gone.licences v w over f (subst (λ (x : View). Sub x w) gone.took_them sub) (subst (λ k. AreReplays name k gone.regions gone.licences) (let z : min 0 (region_count name) ≡ 0 = omega arith in z) gone.replays) in
     record {
       history = live.history;
       over = over;
       fits = fits_seen name live.history v c.first c.others c.callers c.named over (fits_sub name live.history v w (sub_trans v u w sub_v sub) c.live f);
-      complete = subst (AreComplete name.data_regions) (sym regions) (record { least = least; most = most; all = let a = gone.count in omega (arith, a, most); in_order = in_order name.data_regions (store_after live.history) 0 gone.regions parts });
-      parts = subst (ArePartsFrom name.data_regions (store_after live.history) 0) (sym regions) parts;
+      complete = subst (AreComplete name.widths name.data_regions) (sym regions) (record { least = least; most = most; all = let a = gone.count in omega (arith, a, most); in_order = in_order name.widths name.data_regions (store_after live.history) 0 gone.regions (after_widths name live.history over) parts });
+      parts = subst (ArePartsFrom name.widths name.data_regions (store_after live.history) 0) (sym regions) parts;
     }
 
-pub ends : (name : Named) (v : View) (rs : List Region) (d : DividedStore) → IsOpened name v rs → d.data_regions ≡ name.data_regions → HaveParts d.data_regions rs d.content → EndsAt name (seen_of v) d
-ends name v rs d o same have = record {
+pub ends : (name : Named) (v : View) (rs : List Region) (d : DividedStore) → IsOpened name v rs → d.data_regions ≡ name.data_regions → d.content.widths ≡ name.widths → HaveParts d.data_regions rs d.content → EndsAt name (seen_of v) d
+ends name v rs d o same widths have = record {
   history = o.history;
   lawful = o.over.lawful;
   base_is = o.over.base;
   fits = o.fits;
   regions_are = same;
-  store_is = parts_tell_store name.data_regions d.content (store_after o.history) o.complete.least (λ k lt.
-      sym (subst (λ D. HaveParts D rs d.content) same have k lt)
-      ∙ part_is name.data_regions (store_after o.history) 0 rs k o.parts (let all = o.complete.all in omega (arith, all, lt))
-      ∙ (let same : 0 + k ≡ k = omega arith in ap (λ n. part (is_in name.data_regions n) (store_after o.history)) same));
+  store_is = parts_tell_store name.widths name.data_regions d.content (store_after o.history) o.complete.least (widths ∙ sym (after_widths name o.history o.over)) (λ k lt.
+      sym (subst (λ w. part_at w (map cells_in rs) k ≡ part (is_in w name.data_regions k) d.content) widths (subst (λ D. HaveParts D rs d.content) same have k lt))
+      ∙ part_is name.widths name.data_regions (store_after o.history) 0 rs k o.parts (let all = o.complete.all in omega (arith, all, lt))
+      ∙ (let same : 0 + k ≡ k = omega arith in ap (λ n. part (is_in name.widths name.data_regions n) (store_after o.history)) same));
 }

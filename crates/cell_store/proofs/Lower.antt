@@ -1,5 +1,5 @@
 -- What is cited of the proofs of the crates below.
-pub use Rattle.cell_laws.proofs.CallerLemmas.{claim_differs, known_is_allowed, point_differs}
+pub use Rattle.cell_laws.proofs.CallerLemmas.{base_widths, claim_differs, known_is_allowed, point_differs}
 pub use Rattle.cell_model.proofs.CallerLemmas.{bump_full, bump_stamped, bump_there, claim_held, claim_stamped, claim_there, put_stamped, put_there}
 pub use Rattle.cell_parts.proofs.CallerLemmas.{history_apart, looks_in_one, parts_tell_store, replayed-snoc}
 pub use Rattle.list_lemmas.proofs.BoolTests.{nat_eq_is, nat_eq-refl}

@@ -12,11 +12,11 @@ use Rattle.cell_model.specs.Store.{Store}
 use Rattle.cell_model.specs.Machine.{after, reply_of, counter_row}
 use Rattle.cell_model.specs.History.{History, entry_at}
 use Rattle.cell_model.specs.Lawful.{MayStep}
-use Rattle.cell_model.specs.Seen as seen
 use Rattle.cell_model.specs.Seen.{Seen, Saw, IsOwn, Stepped, IsPossible, Knows}
 use Rattle.cell_model.specs.Deeds.{placed}
 use Rattle.cell_parts.specs.StoreParts.{part, is_mine, StaysWithin, replayed}
 use Rattle.cell_parts.specs.StoreParts.{is_in}
+use Rattle.row_key.specs.declared.widths.Widths.{Widths}
 use Rattle.row_key.specs.Regions.{region_number}
 use Rattle.step_count.specs.declared.view.Named.{Named}
 use Rattle.step_count.specs.declared.view.View.{View}
@@ -32,27 +32,27 @@ same_number : (n : ℕ) → (n == n) ≡ true
 same_number n = grind (arith)
 
 -- a scan that begins in a region stays there
-pub stays_within : (D number : ℕ) (step : Step) → is_mine (is_in D number) step ≡ true → InRange step → StaysWithin (is_in D number) step
-stays_within D number Open mine range = tt
-stays_within D number (Read row) mine range = tt
-stays_within D number (NextRow table from to) mine range =
-    subst (λ n. StaysWithin (is_in D n) (NextRow table from to)) (nat_eq_is (region_number D table from) number mine) (looks_in_one D table from to range)
-stays_within D number (Bump kind) mine range = tt
-stays_within D number (Claim row qual value) mine range = tt
-stays_within D number (PutPoint point row qual value) mine range = tt
-stays_within D number (PutMerged row qual value) mine range = tt
-stays_within D number (DropCells row which) mine range = tt
+pub stays_within : (w : Widths) (D number : ℕ) (step : Step) → is_mine (is_in w D number) step ≡ true → InRange w step → StaysWithin (is_in w D number) step
+stays_within w D number Open mine range = tt
+stays_within w D number (Read row) mine range = tt
+stays_within w D number (NextRow table from to) mine range =
+    subst (λ n. StaysWithin (is_in w D n) (NextRow table from to)) (nat_eq_is (region_number w D table from) number mine) (looks_in_one w D table from to range)
+stays_within w D number (Bump kind) mine range = tt
+stays_within w D number (Claim row qual value) mine range = tt
+stays_within w D number (PutPoint point row qual value) mine range = tt
+stays_within w D number (PutMerged row qual value) mine range = tt
+stays_within w D number (DropCells row which) mine range = tt
 
 -- the region's body can make the step
-pub covered : (D number : ℕ) (covers : Row → Bool) (s : Seen) (step : Step) → ((row : Row) → IsTrue (is_in D number row) → IsTrue (covers row)) → is_mine (is_in D number) step ≡ true → InRange step → IsPossible s → Knows s step → Covered covers step
-covered D number covers s Open all m r p k = absurd k
-covered D number covers s (Read row) all m r p k = all row m
-covered D number covers s (NextRow table from to) all m r p k = (r, λ row b. all row (stays_within D number (NextRow table from to) m r row b))
-covered D number covers s (Bump kind) all m r p k = all counter_row m
-covered D number covers s (Claim row qual value) all m r p k = (all row m, λ e. claim_differs p.history s.caller row qual value p.lawful (known_is_allowed s p.history (Claim row qual value) p.lawful p.fits k) (sym e))
-covered D number covers s (PutPoint point row qual value) all m r p k = (all row m, λ e. point_differs row k.in_points (sym e))
-covered D number covers s (PutMerged row qual value) all m r p k = (all row m, λ e. point_differs row k.in_points (sym e))
-covered D number covers s (DropCells row which) all m r p k = (all row m, λ e. point_differs row k.in_points (sym e))
+pub covered : (w : Widths) (D number : ℕ) (covers : Row → Bool) (s : Seen) (step : Step) → ((row : Row) → IsTrue (is_in w D number row) → IsTrue (covers row)) → is_mine (is_in w D number) step ≡ true → InRange w step → IsPossible s → Knows s step → Covered w covers step
+covered w D number covers s Open all m r p k = absurd k
+covered w D number covers s (Read row) all m r p k = all row m
+covered w D number covers s (NextRow table from to) all m r p k = (r, λ row b. all row (stays_within w D number (NextRow table from to) m r row b))
+covered w D number covers s (Bump kind) all m r p k = all counter_row m
+covered w D number covers s (Claim row qual value) all m r p k = (all row m, λ e. claim_differs p.history s.caller row qual value p.lawful (known_is_allowed s p.history (Claim row qual value) p.lawful p.fits k) (sym e))
+covered w D number covers s (PutPoint point row qual value) all m r p k = (all row m, λ e. point_differs row k.in_points (sym e))
+covered w D number covers s (PutMerged row qual value) all m r p k = (all row m, λ e. point_differs row k.in_points (sym e))
+covered w D number covers s (DropCells row which) all m r p k = (all row m, λ e. point_differs row k.in_points (sym e))
 
 -- what fits the pass with the licence fits the pass
 fits_back : (n : Named) (h : History) (v l : View) → v.named ≡ Some n → Lives v → Fits n h (met v l) → Fits n h v
@@ -68,7 +68,7 @@ fits_back n h v l named live f = record {
 
 -- the entry may be added
 pub may_add : (name : Named) (number : ℕ) (content : Store) (covers : Row → Bool) (v l : View) (step : Step) (reply : Reply) → IsCaller name v → Replays name number content covers l
-    → is_mine (is_in name.data_regions number) step ≡ true → InRange step → Knows (seen_of v) step → ((place : ℕ) → reply ≡ reply_of content place step)
+    → is_mine (is_in name.widths name.data_regions number) step ≡ true → InRange name.widths step → Knows (seen_of v) step → ((place : ℕ) → reply ≡ reply_of content place step)
     → MayAdd (met v l) (entry_of (met v l) step reply)
 may_add name number content covers v l step reply c r mine range knows replied = record {
   name = name;
@@ -79,7 +79,7 @@ may_add name number content covers v l step reply c r mine range knows replied =
   log = r.log;
   licence = Contains-append_right v.licences l.licences (number, r.log) (subst (λ (ls : List Log). Contains ls (number, r.log)) (sym r.licence) (here (number, r.log) []));
   mine = mine;
-  stays = stays_within name.data_regions number step mine range;
+  stays = stays_within name.widths name.data_regions number step mine range;
   reply = λ place. replied place ∙ ap (λ s. reply_of s place step) r.content_is;
   may = λ h over f.
       let g = fits_back name h v l c.named c.live f in
@@ -120,7 +120,7 @@ module _ (name : Named) (number : ℕ) (content : Store) (covers : Row → Bool)
   abbrev Licence : View
   Licence = record { named = Some name; length = place; seen = P ∷ (vs ++ ls); callers = []; licences = (number, log ++ P ∷ []) ∷ [] }
 
-  module _ (mine : is_mine (is_in name.data_regions number) step ≡ true) (content_is : content ≡ replayed (part (is_in name.data_regions number) (store_in name)) log) (rows_are : covers ≡ is_in name.data_regions number)
+  module _ (mine : is_mine (is_in name.widths name.data_regions number) step ≡ true) (content_is : content ≡ replayed (part (is_in name.widths name.data_regions number) (store_in name)) log) (rows_are : covers ≡ is_in name.widths name.data_regions number)
       (old : Lives V) (le : max vlen llen + 1 ≤ place) (lives : Lives W) where
     licensed : W.licences ≡ (number, log ++ P ∷ []) ∷ []
     licensed = ap (λ b. (number, log ++ cond b (P ∷ []) []) ∷ []) mine
@@ -157,7 +157,7 @@ module _ (name : Named) (number : ℕ) (content : Store) (covers : Row → Bool)
       nobody = refl;
       log = log ++ P ∷ [];
       licence = refl;
-      content_is = ap (λ s. after s place step) content_is ∙ sym (replayed-snoc (part (is_in name.data_regions number) (store_in name)) log P);
+      content_is = ap (λ s. after s place step) content_is ∙ sym (replayed-snoc (part (is_in name.widths name.data_regions number) (store_in name)) log P);
       rows_are = rows_are;
     }
 
@@ -202,7 +202,7 @@ module _ (name : Named) (number : ℕ) (content : Store) (covers : Row → Bool)
 
 -- the step at the views that the calls name
 pub did_as : (name : Named) (number : ℕ) (content after_it : Store) (covers covers' : Row → Bool) (v l u w v1 l1 : View) (step : Step) (reply : Reply) (place : ℕ)
-    → IsCaller name v → Replays name number content covers l → is_mine (is_in name.data_regions number) step ≡ true → u ≡ met v l
+    → IsCaller name v → Replays name number content covers l → is_mine (is_in name.widths name.data_regions number) step ≡ true → u ≡ met v l
     → w ≡ added u place (entry_of u step reply) → u.length + 1 ≤ place → Lives w → v1 ≡ without_licence number w → l1 ≡ licence_alone number w
     → after_it ≡ after content place step → covers' ≡ covers
     → IsCaller name v1 × Replays name number after_it covers' l1 × Stepped (seen_of v) step reply (seen_of v1) × IsPossible (seen_of v1)

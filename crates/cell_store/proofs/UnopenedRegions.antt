@@ -9,7 +9,9 @@ use Rattle.row_key.specs.declared.regions.TheConstants.{NAME_REGIONS}
 use Rattle.atomic_table.specs.Seated.{TableId}
 use Rattle.cell_model.specs.declared.row.Row.{Row}
 use Rattle.cell_model.specs.Store.{Store}
-use Rattle.cell_parts.specs.StoreParts.{is_in, part}
+use Rattle.cell_model.specs.declared.events.Placed.{Placed}
+use Rattle.cell_model.specs.Machine.{after}
+use Rattle.cell_parts.specs.StoreParts.{is_in, part, replayed}
 use Rattle.cell_parts.specs.JoinedParts.{part_at}
 use Rattle.cell_region.specs.declared.region.Region.{Region}
 use Rattle.cell_region.specs.RegionLists.{cells_in, rows_of, InOrder, AreComplete, HaveParts}
@@ -24,8 +26,8 @@ use Rattle.cell_store.specs.SiteStarts.{IsUnopened, AreUnopened, AreToCome, IsHe
 use Rattle.cell_store.proofs.Lower.{store_told}
 
 -- the numbers of regions and their licences from a number on
-from_number : (counter : TableId) (name : Named) (number : ℕ) (rs : List Region) (ls : List Licence) → number + length rs ≡ region_count name → InOrder name.data_regions number rs
-    → ((k : ℕ) → k < length rs → part_at (map cells_in rs) k ≡ part (is_in name.data_regions (number + k)) (store_in name))
+from_number : (counter : TableId) (name : Named) (number : ℕ) (rs : List Region) (ls : List Licence) → number + length rs ≡ region_count name → InOrder name.widths name.data_regions number rs
+    → ((k : ℕ) → k < length rs → part_at name.widths (map cells_in rs) k ≡ part (is_in name.widths name.data_regions (number + k)) (store_in name))
     → All (λ licence. counter_of_licence licence ≡ counter) ls → map view_of_licence ls ≡ unused_licences (Some name) number (length rs) → AreUnopened counter name number rs ls
 from_number counter name number [] [] count order parts own views = omega (arith, count)
 from_number counter name number [] (l ∷ ls) count order parts own views = absurd (cc)
@@ -34,13 +36,13 @@ from_number counter name number (r ∷ rs) (l ∷ ls) count order parts own view
     let P : Licence → Type 0 = λ licence. counter_of_licence licence ≡ counter in (
       record {
         among = omega (arith, count);
-        cells = let same : number + 0 ≡ number = omega arith in parts 0 (omega arith) ∙ ap (λ n. part (is_in name.data_regions n) (store_in name)) same;
+        cells = let same : number + 0 ≡ number = omega arith in parts 0 (omega arith) ∙ ap (λ n. part (is_in name.widths name.data_regions n) (store_in name)) same;
         rows = order.0;
         counter_is = All-head P l ls own;
         view = ap (head_or (view_of_licence l)) views;
       },
-      from_number counter name (number + 1) rs ls (omega (arith, count)) order.1
-          (λ k lt. let same : number + suc k ≡ number + 1 + k = omega arith in parts (suc k) (omega (arith, lt)) ∙ ap (λ n. part (is_in name.data_regions n) (store_in name)) same)
+      from_number counter name (number + 1) rs ls (omega (arith, count)) order.2
+          (λ k lt. let same : number + suc k ≡ number + 1 + k = omega arith in parts (suc k) (omega (arith, lt)) ∙ ap (λ n. part (is_in name.widths name.data_regions n) (store_in name)) same)
           (All-tail P l ls own) (ap rest views),
     )
   where
@@ -53,23 +55,24 @@ from_number counter name number (r ∷ rs) (l ∷ ls) count order parts own view
     rest (x ∷ xs) = xs
 
 -- all regions of a store that was split, with the licences that were made for them
-pub all_unopened : (counter : TableId) (name : Named) (D count : ℕ) (base content : Store) (rs : List Region) (ls : List Licence) → AreComplete D rs → HaveParts D rs content → base ≡ content → count ≡ length rs → name ≡ named base (count - NAME_REGIONS)
+pub all_unopened : (counter : TableId) (name : Named) (D count : ℕ) (base content : Store) (rs : List Region) (ls : List Licence) → AreComplete content.widths D rs → HaveParts D rs content → base ≡ content → count ≡ length rs → name ≡ named base (count - NAME_REGIONS)
     → All (λ licence. counter_of_licence licence ≡ counter) ls → map view_of_licence ls ≡ unused_licences (Some (named base (count - NAME_REGIONS))) 0 count
     → AreUnopened counter name 0 rs ls × (count - NAME_REGIONS ≡ name.data_regions) × (1 ≤ count - NAME_REGIONS) × (count - NAME_REGIONS ≤ 16)
 all_unopened counter name D count base content rs ls complete have same_base len is own views =
     let all = complete.all in
     let regions_are : count - NAME_REGIONS ≡ name.data_regions = sym (ap (λ (n : Named). n.data_regions) is) in
     let D_is : D ≡ name.data_regions = omega (arith, all, len, regions_are) in
-    let store : content ≡ store_in name = sym (ap store_in is ∙ store_told base ∙ same_base) in (
-      from_number counter name 0 rs ls (omega (arith, all, D_is)) (subst (λ d. InOrder d 0 rs) D_is complete.in_order)
-          (λ k lt. let same : k ≡ 0 + k = omega arith in have k (omega (arith, all, lt)) ∙ (λ i. part (is_in (D_is i) (same i)) (store i)))
+    let store : content ≡ store_in name = sym (ap store_in is ∙ store_told base ∙ same_base) in
+    let widths : content.widths ≡ name.widths = ap (λ (s : Store). s.widths) store in (
+      from_number counter name 0 rs ls (omega (arith, all, D_is)) (subst (λ w. InOrder w name.data_regions 0 rs) widths (subst (λ d. InOrder content.widths d 0 rs) D_is complete.in_order))
+          (λ k lt. let same : k ≡ 0 + k = omega arith in subst (λ w. part_at w (map cells_in rs) k ≡ part (is_in w D k) content) widths (have k (omega (arith, all, lt))) ∙ (λ i. part (is_in name.widths (D_is i) (same i)) (store i)))
           own (views ∙ (λ i. unused_licences (Some (sym is i)) 0 (len i))),
       regions_are,
       (let least = complete.least in omega (arith, all, len, least)),
       (let most = complete.most in omega (arith, all, len, most)),
     )
 
-replays_first : (name : Named) (number : ℕ) (cells : Store) (rows : Row → Bool) (v : View) → cells ≡ part (is_in name.data_regions number) (store_in name) → rows ≡ is_in name.data_regions number → v ≡ holding (Some name) number 1 → Replays name number cells rows v
+replays_first : (name : Named) (number : ℕ) (cells : Store) (rows : Row → Bool) (v : View) → cells ≡ part (is_in name.widths name.data_regions number) (store_in name) → rows ≡ is_in name.widths name.data_regions number → v ≡ holding (Some name) number 1 → Replays name number cells rows v
 replays_first name number cells rows v c r is = record {
   named = ap (λ (x : View). x.named) is;
   nobody = ap (λ (x : View). x.callers) is;
@@ -140,6 +143,15 @@ pub held_has : (counter : TableId) (name : Named) (number : ℕ) (cells : Store)
 held_has counter name number cells rows o l lt h is = held_some counter name number cells rows (Some l) lt (subst (IsHeld counter name number cells rows) is h)
 
 -- a region that the site has is over its own rows
-pub held_rows : (counter : TableId) (name : Named) (number : ℕ) (cells : Store) (rows : Row → Bool) (o : Option Licence) → number < region_count name → IsHeld counter name number cells rows o → (row : Row) → IsTrue (is_in name.data_regions number row) → IsTrue (rows row)
+pub held_rows : (counter : TableId) (name : Named) (number : ℕ) (cells : Store) (rows : Row → Bool) (o : Option Licence) → number < region_count name → IsHeld counter name number cells rows o → (row : Row) → IsTrue (is_in name.widths name.data_regions number row) → IsTrue (rows row)
 held_rows counter name number cells rows None lt h row m = absurd (omega (arith, lt, h))
 held_rows counter name number cells rows (Some l) lt h row m = subst (λ (f : Row → Bool). IsTrue (f row)) (sym h.2.rows_are) m
+
+-- the widths of a region that the site has are those of the named store
+pub held_widths : (counter : TableId) (name : Named) (number : ℕ) (cells : Store) (rows : Row → Bool) (o : Option Licence) → number < region_count name → IsHeld counter name number cells rows o → cells.widths ≡ name.widths
+held_widths counter name number cells rows None lt h = absurd (omega (arith, lt, h))
+held_widths counter name number cells rows (Some l) lt h = ap (λ (s : Store). s.widths) h.2.content_is ∙ replayed_widths (part (is_in name.widths name.data_regions number) (store_in name)) h.2.log
+  where
+    replayed_widths : (s : Store) (log : List Placed) → (replayed s log).widths ≡ s.widths
+    replayed_widths s [] = refl
+    replayed_widths s (p ∷ log) = replayed_widths (after s p.place p.entry.step) log

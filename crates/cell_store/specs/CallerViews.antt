@@ -1,11 +1,11 @@
 -- What lies under a region's lock, and what a pass has seen.
 use Rattle.std.specs.Prelude.{◌≡◌, ℕ, ◌≤◌, Bool, false, Contains, List, [], ◌∷◌, Some, None}
 use Rattle.std.specs.declared.option.Option.{Option}
-use Rattle.std.specs.FinMap.{empty}
+use Rattle.row_key.specs.Made.{three}
 use Rattle.atomic_table.specs.Seated.{TableId}
 use Rattle.cell_model.specs.declared.row.Row.{Row}
 use Rattle.cell_model.specs.declared.events.Placed.{Placed}
-use Rattle.cell_model.specs.Store.{Store}
+use Rattle.cell_model.specs.Store.{Store, no_cells}
 use Rattle.cell_model.specs.Seen.{Seen, Saw}
 use Rattle.cell_parts.specs.StoreParts.{part, replayed}
 use Rattle.cell_parts.specs.StoreParts.{is_in}
@@ -29,7 +29,7 @@ rest_of [] = []
 rest_of (x ∷ xs) = numbers_in xs
 
 abbrev pub base_in : Option Named → Store
-base_in None = empty
+base_in None = no_cells three
 base_in (Some n) = store_in n
 
 -- what a pass has seen, as rows are seen
@@ -55,8 +55,8 @@ pub record Replays (name : Named) (number : ℕ) (content : Store) (rows : Row �
   pub nobody : v.callers ≡ []
   pub log : List Placed
   pub licence : v.licences ≡ (number, log) ∷ []
-  pub content_is : content ≡ replayed (part (is_in name.data_regions number) (store_in name)) log
-  pub rows_are : rows ≡ is_in name.data_regions number
+  pub content_is : content ≡ replayed (part (is_in name.widths name.data_regions number) (store_in name)) log
+  pub rows_are : rows ≡ is_in name.widths name.data_regions number
 
 -- what a note tells
 pub record IsNote (name : Named) (v : View) : Type 0 where

@@ -24,8 +24,8 @@ pub record Unnamed : Type 0 where
 -- the region has its part of the base, and its licence has no entry
 pub record IsUnopened (counter : TableId) (name : Named) (number : ℕ) (region : Region) (licence : Licence) : Type 0 where
   pub among : number < region_count name
-  pub cells : cells_in region ≡ part (is_in name.data_regions number) (store_in name)
-  pub rows : rows_of region ≡ is_in name.data_regions number
+  pub cells : cells_in region ≡ part (is_in name.widths name.data_regions number) (store_in name)
+  pub rows : rows_of region ≡ is_in name.widths name.data_regions number
   pub counter_is : counter_of_licence licence ≡ counter
   pub view : view_of_licence licence ≡ holding (Some name) number 1
 

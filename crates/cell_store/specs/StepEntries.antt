@@ -1,6 +1,7 @@
 -- A step under a region's lock, and its entry.
 use Rattle.std.specs.Prelude.{◌≡◌, ℕ, ◌<◌, Bool, true, Result, IfOk, OnErr}
 use Rattle.atomic_table.specs.Seated.{TableId}
+use Rattle.row_key.specs.declared.widths.Widths.{Widths}
 use Rattle.cell_model.specs.declared.events.Step.{Step}
 use Rattle.cell_model.specs.declared.events.Step.TheVariants.{NextRow}
 use Rattle.cell_model.specs.declared.events.Reply.{Reply}
@@ -20,10 +21,10 @@ use Rattle.cell_store.specs.CallerViews.{head_of, seen_of, IsCaller}
 abbrev pub entry_of : View → Step → Reply → Entry
 entry_of v step reply = record { caller = head_of v.callers; step = step; reply = reply }
 
--- a next row looks at one range
-abbrev pub InRange : Step → Type 0
-InRange (NextRow table from to) = InOneRange table from to
-InRange _ = Unit {0}
+-- a next row looks at one range, where ids have these widths
+abbrev pub InRange : Widths → Step → Type 0
+InRange w (NextRow table from to) = InOneRange w table from to
+InRange w _ = Unit {0}
 
 -- some gate was called for the region
 abbrev pub WasLetIn : {G : Type 0} → (G → ℕ → Bool) → ℕ → Type 0
@@ -34,8 +35,8 @@ pub record MayRun (counter : TableId) (name : Named) (region : ℕ) (pass : Pass
   pub counter_is : counter_of_pass pass ≡ counter
   pub caller : IsCaller name (view_of_pass pass)
   pub among : region < region_count name
-  pub mine : is_mine (is_in name.data_regions region) step ≡ true
-  pub range : InRange step
+  pub mine : is_mine (is_in name.widths name.data_regions region) step ≡ true
+  pub range : InRange name.widths step
   pub knows : Knows (seen_of (view_of_pass pass)) step
 
 -- the step was made, with the machine's reply

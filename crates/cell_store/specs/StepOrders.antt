@@ -1,11 +1,12 @@
 -- A step as it is asked of a region.
 use Rattle.std.specs.Prelude.{◌≡◌, ◌≢◌, ℕ, Bool, true, false, IsTrue}
 use Rattle.tsd_base.specs.Points.{data_point}
+use Rattle.row_key.specs.declared.widths.Widths.{Widths}
 use Rattle.cell_model.specs.declared.row.Row.{Row}
 use Rattle.cell_model.specs.declared.events.Step.{Step}
 use Rattle.cell_model.specs.declared.events.Step.TheVariants as step
 use Rattle.cell_model.specs.declared.events.Reply.{Reply}
-use Rattle.cell_model.specs.declared.events.Reply.TheVariants.{Shown, Next, BumpReply, ClaimReply, Written, Removed}
+use Rattle.cell_model.specs.declared.events.Reply.TheVariants.{Shown, Next, BumpReply, ClaimReply, Removed}
 use Rattle.cell_model.specs.declared.answers.Bumped.TheVariants.{Given}
 use Rattle.cell_model.specs.declared.answers.Claimed.TheVariants.{Done}
 use Rattle.cell_model.specs.Store.{Store, is_between}
@@ -24,16 +25,16 @@ step_of (order.PutPoint point row qual value) = step.PutPoint (data_point point.
 step_of (order.PutMerged row qual value) = step.PutMerged row.now qual.now value.now
 step_of (order.DropCells row which) = step.DropCells row.now which.now
 
--- a body over these rows can make the step
-abbrev pub Covered : (Row → Bool) → Step → Type 0
-Covered covers step.Open = ⊥
-Covered covers (step.Read row) = IsTrue (covers row)
-Covered covers (step.NextRow table from to) = InOneRange table from to × ((row : Row) → IsTrue (is_between table from to row) → IsTrue (covers row))
-Covered covers (step.Bump kind) = IsTrue (covers counter_row)
-Covered covers (step.Claim row qual value) = IsTrue (covers row) × (row ≢ counter_row)
-Covered covers (step.PutPoint point row qual value) = IsTrue (covers row) × (row ≢ counter_row)
-Covered covers (step.PutMerged row qual value) = IsTrue (covers row) × (row ≢ counter_row)
-Covered covers (step.DropCells row which) = IsTrue (covers row) × (row ≢ counter_row)
+-- a body over these rows can make the step, where ids have these widths
+abbrev pub Covered : Widths → (Row → Bool) → Step → Type 0
+Covered w covers step.Open = ⊥
+Covered w covers (step.Read row) = IsTrue (covers row)
+Covered w covers (step.NextRow table from to) = InOneRange w table from to × ((row : Row) → IsTrue (is_between table from to row) → IsTrue (covers row))
+Covered w covers (step.Bump kind) = IsTrue (covers counter_row)
+Covered w covers (step.Claim row qual value) = IsTrue (covers row) × (row ≢ counter_row)
+Covered w covers (step.PutPoint point row qual value) = IsTrue (covers row) × (row ≢ counter_row)
+Covered w covers (step.PutMerged row qual value) = IsTrue (covers row) × (row ≢ counter_row)
+Covered w covers (step.DropCells row which) = IsTrue (covers row) × (row ≢ counter_row)
 
 -- the step takes memory
 abbrev pub TakesMemory : Step → Type 0

@@ -16,7 +16,7 @@ use crate::step_order::{Order, apply, stamp};
 use cell_model::events::Reply;
 use cell_region::Region;
 use crossbeam_utils::CachePadded;
-use row_key::NAME_REGIONS;
+use row_key::{NAME_REGIONS, Widths};
 use std::alloc::{AllocError, Global};
 use std::hint::spin_loop;
 use std::marker::{Brand, Model, PhantomData};
@@ -69,7 +69,7 @@ impl<J: StepNames, const N: u32> Held<J, N> {
         if N < NAME_REGIONS + data_regions {
             Held::first(regions, licences)
         } else {
-            Held::new(Region::empty(alloc, N, data_regions), None)
+            Held::new(Region::empty(alloc, N, data_regions, Widths::three()), None)
         }
     }
 

@@ -16,7 +16,7 @@ use crate::step_names::StepNames;
 use crate::step_order::Order;
 use cell_model::events::Reply;
 use cell_region::{Region, Regions};
-use row_key::{Table, region_of};
+use row_key::{Table, Widths, region_of};
 use std::alloc::{AllocError, Global};
 use std::marker::Model;
 use std::sync::Wait;
@@ -29,6 +29,7 @@ use step_count::{Pass, Steps};
 pub struct Site<J: StepNames, G: Gate + Drop> {
     steps: Steps,
     locks: SiteLocks<J>,
+    widths: Widths,
     data_regions: u32,
     // Room for the regions, for the site's end.
     room: Vec<Region>,
@@ -44,7 +45,7 @@ impl<J: StepNames, G: Gate + Drop> Model for Site<J, G> {
 
     ghost view = { λ s. s.gate };
 
-    ghost invariant = { λ s. (counter_of_steps s.steps ≡ J.counter) × (name_of_steps s.steps ≡ J.name) × (s.data_regions ≡ J.name.data_regions) × (1 ≤ s.data_regions) × (s.data_regions ≤ 16) × (s.room.items ≡ []) × (vec_len s.room + 25 ≤ vec_capacity s.room) };
+    ghost invariant = { λ s. (counter_of_steps s.steps ≡ J.counter) × (name_of_steps s.steps ≡ J.name) × (s.data_regions ≡ J.name.data_regions) × (1 ≤ s.data_regions) × (s.data_regions ≤ 16) × (s.room.items ≡ []) × (vec_len s.room + 25 ≤ vec_capacity s.room) × (s.widths ≡ J.name.widths) };
 }
 
 impl<J: StepNames, G: Gate + Drop> Site<J, G> {
@@ -53,12 +54,14 @@ impl<J: StepNames, G: Gate + Drop> Site<J, G> {
         alloc: Global,
         steps: Steps,
         locks: SiteLocks<J>,
+        widths: Widths,
         data_regions: u32,
         room: Vec<Region>,
         gate: G,
     ) -> Self
         requires counter { counter_of_steps steps ≡ J.counter }
         requires name { name_of_steps steps ≡ J.name }
+        requires widths { widths ≡ J.name.widths }
         requires data_regions { data_regions ≡ J.name.data_regions }
         requires least { 1 ≤ data_regions }
         requires most { data_regions ≤ 16 }
@@ -68,6 +71,7 @@ impl<J: StepNames, G: Gate + Drop> Site<J, G> {
         Site {
             steps,
             locks,
+            widths,
             data_regions,
             room,
             alloc,
@@ -80,12 +84,19 @@ impl<J: StepNames, G: Gate + Drop> Site<J, G> {
         self.alloc
     }
 
+    /// How many bytes the ids of each kind have.
+    pub(crate) fn widths(&self) -> Widths
+        ensures { result ≡ J.name.widths }
+    {
+        self.widths
+    }
+
     /// The region of a row.
     pub(crate) fn region(&self, table: Table, row: &[u8]) -> u32
-        ensures here { is_in J.name.data_regions result (record { table = table; bytes = row.now }) ≡ true }
+        ensures here { is_in J.name.widths J.name.data_regions result (record { table = table; bytes = row.now }) ≡ true }
         ensures among { result < region_count J.name }
     {
-        region_of(table, row, self.data_regions)
+        region_of(table, row, self.data_regions, self.widths)
     }
 
     /// One step on a region, after the gate.
@@ -124,6 +135,7 @@ impl<J: StepNames, G: Gate + Drop> Site<J, G> {
         let Site {
             steps: _,
             locks,
+            widths: _,
             data_regions: _,
             room,
             alloc: _,

@@ -7,8 +7,9 @@ use crate::gate::Gate;
 use crate::site::Site;
 use crate::site_locks::{MOST_REGIONS, SiteLocks};
 use crate::step_names::StepNames;
+use cell_model::Body;
 use cell_region::{Region, Regions};
-use row_key::NAME_REGIONS;
+use row_key::{NAME_REGIONS, Widths};
 use std::alloc::{AllocError, Global};
 use std::marker::{Brand, Model};
 use step_count::{Base, Licence, Steps};
@@ -22,6 +23,7 @@ pub struct SiteParts<G: Gate + Drop> {
     regions: Vec<Region>,
     licences: Vec<Licence>,
     room: Vec<Region>,
+    widths: Widths,
     data_regions: u32,
     alloc: Global,
     gate: G,
@@ -36,7 +38,7 @@ impl<G: Gate + Drop> Model for SiteParts<G> {
 
     ghost view = { λ s. record { counter = counter_of_steps s.steps; name = name_of_steps s.steps } };
 
-    ghost invariant = { λ s. AreUnopened (counter_of_steps s.steps) (name_of_steps s.steps) 0 s.regions.items s.licences.items × (s.data_regions ≡ (name_of_steps s.steps).data_regions) × (1 ≤ s.data_regions) × (s.data_regions ≤ 16) × (s.room.items ≡ []) × (vec_len s.room + 25 ≤ vec_capacity s.room) };
+    ghost invariant = { λ s. AreUnopened (counter_of_steps s.steps) (name_of_steps s.steps) 0 s.regions.items s.licences.items × (s.data_regions ≡ (name_of_steps s.steps).data_regions) × (1 ≤ s.data_regions) × (s.data_regions ≤ 16) × (s.room.items ≡ []) × (vec_len s.room + 25 ≤ vec_capacity s.room) × (s.widths ≡ (name_of_steps s.steps).widths) };
 }
 
 impl<G: Gate + Drop> SiteParts<G> {
@@ -54,6 +56,7 @@ impl<G: Gate + Drop> SiteParts<G> {
         requires store { B.store ≡ regions.content }
         ensures { IfOk result (λ parts. parts.name ≡ named regions.content regions.data_regions) }
     {
+        let widths = regions.widths();
         let regions = regions.split();
         let count = regions.len() as u32;
         let (steps, licences) = Steps::make::<B>(alloc, count)?;
@@ -63,6 +66,7 @@ impl<G: Gate + Drop> SiteParts<G> {
             regions,
             licences,
             room,
+            widths,
             data_regions: count - NAME_REGIONS,
             alloc,
             gate,
@@ -79,6 +83,7 @@ impl<G: Gate + Drop> SiteParts<G> {
             regions,
             licences,
             room,
+            widths,
             data_regions,
             alloc,
             gate,
@@ -86,6 +91,6 @@ impl<G: Gate + Drop> SiteParts<G> {
         let mut regions = regions.into_iter();
         let mut licences = licences.into_iter();
         let locks = SiteLocks::open(alloc, data_regions, &mut regions, &mut licences);
-        Site::over(alloc, steps, locks, data_regions, room, gate)
+        Site::over(alloc, steps, locks, widths, data_regions, room, gate)
     }
 }

@@ -18,7 +18,7 @@ use crate::step_order::Order;
 use cell_model::events::Reply;
 use cell_model::{Bumped, Cells, Claimed, Drops, Found, Row, Rows, RowsFault, Stopped};
 use qual_codec::Bytes;
-use row_key::Table;
+use row_key::{Table, Widths};
 use std::alloc::{AllocError, Global};
 use std::marker::Model;
 use std::sync::Wait;
@@ -121,8 +121,8 @@ impl<'a, J: StepNames, G: Gate + Drop, T: Wait> SitePass<'a, J, G, T> {
     // One step on the region of its row, after the site's gate.
     fn step(&mut self, alloc: Global, region: u32, order: &Order) -> Result<Reply, AllocError>
         requires among { region < region_count J.name }
-        requires region { is_mine (is_in J.name.data_regions region) (step_of order.now) ≡ true }
-        requires range { InRange (step_of order.now) }
+        requires region { is_mine (is_in J.name.widths J.name.data_regions region) (step_of order.now) ≡ true }
+        requires range { InRange self.old.base.widths (step_of order.now) }
         requires knows { Knows self.old (step_of order.now) }
         ensures gate { WasLetIn G.lets_in region }
         ensures ok { IfOk result (λ reply. Stepped self.old (step_of order.now) reply self.new) }
@@ -156,6 +156,10 @@ impl<'a, J: StepNames, G: Gate + Drop, T: Wait> Rows for SitePass<'a, J, G, T> {
     ghost stops = { λ s. 0 };
 
     ghost spare = { λ s. 2 };
+
+    fn widths(&self) -> Widths {
+        self.site.widths()
+    }
 
     fn read(&mut self, alloc: Global, row: &Row) -> Result<Cells, RowsFault> {
         let region = self.site.region(row.table, row.bytes.list());

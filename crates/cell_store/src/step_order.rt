@@ -52,7 +52,7 @@ pub enum Order<'a> {
 
 /// Makes the step on a body, without a stamp, and answers its reply. Where memory is wanted, the body is as before.
 pub fn apply<B: Body>(body: &mut B, alloc: Global, order: &Order) -> Result<Reply, AllocError>
-    requires covered { Covered (B.covers body.old) (step_of order.now) }
+    requires covered { Covered (B.content body.old).widths (B.covers body.old) (step_of order.now) }
     ensures reply { IfOk result (λ r. (place : ℕ) → r ≡ reply_of (B.content body.old) place (step_of order.now)) }
     ensures ok { OnOk result (B.content body.new ≡ after (B.content body.old) 0 (step_of order.now)) }
     ensures err { OnErr result (B.content body.new ≡ B.content body.old) }
@@ -124,7 +124,7 @@ fn did(reply: &Reply) -> bool
 
 /// Stamps what a step wrote with its place. It takes no memory.
 pub fn stamp<B: Body>(body: &mut B, order: &Order, reply: &Reply, place: u64)
-    requires covered { Covered (B.covers body.old) (step_of order.now) }
+    requires covered { Covered (B.content body.old).widths (B.covers body.old) (step_of order.now) }
     requires applied { (s : Store) × Applied s (step_of order.now) reply.now (B.content body.old) }
     ensures content { (s : Store) → Applied s (step_of order.now) reply.now (B.content body.old) → B.content body.new ≡ after s place (step_of order.now) }
     ensures covers { B.covers body.new ≡ B.covers body.old }

@@ -11,7 +11,9 @@ use Rattle.tsd_base.specs.Names.{name_of}
 use Rattle.tsd_base.specs.Tags.{is_same}
 use Rattle.tsd_hooks.specs.declared.name_patterns.Patterns.{Patterns}
 use Rattle.query_times.specs.QueryTimes.{fixed_time}
+use Rattle.row_key.specs.declared.widths.Widths.{Widths}
 use Rattle.command_words.specs.Grammar.{grammar}
+use Rattle.command_words.specs.WidthWords.{widths_said}
 
 -- what `batch` is asked: a range of milliseconds, the text of a query, and whether times are told in milliseconds
 pub record Batch : Type 0 where
@@ -27,6 +29,11 @@ pub record NameOptions : Type 0 where
   pub auto_tag_value : Bool
   pub patterns : Patterns
 
+-- what `stdio` is asked: which names are given ids, and how many bytes the ids of each kind have
+pub record Stdio : Type 0 where
+  pub names : NameOptions
+  pub widths : Widths
+
 -- what `serve` is asked: the port, how many daemons, workers of each and regions of data points there are, and which names are given ids
 pub record Serve : Type 0 where
   pub port : ℕ
@@ -37,7 +44,7 @@ pub record Serve : Type 0 where
 
 pub data Asked : Type 0 where
   BatchAsked : Batch → Asked
-  StdioAsked : NameOptions → Asked
+  StdioAsked : Stdio → Asked
   ServeAsked : Serve → Asked
 
 -- a range ends at its start or behind it
@@ -88,6 +95,13 @@ names_with rows patterns = record {
 abbrev pub names_in : List Row → Option NameOptions
 names_in rows = if are_names (patterns_in rows) then Some (names_with rows (patterns_in rows)) else None
 
+abbrev pub stdio_with : Option NameOptions → Option Widths → Option Stdio
+stdio_with (Some names) (Some widths) = Some (record { names = names; widths = widths })
+stdio_with _ _ = None
+
+abbrev pub stdio_in : List Row → Option Stdio
+stdio_in rows = stdio_with (names_in rows) (widths_said (first_of (codes "widths") rows))
+
 abbrev pub within : ℕ → ℕ → ℕ → Option ℕ
 within least most n = if nat_le least n && nat_le n most then Some n else None
 
@@ -116,7 +130,7 @@ serve_in rows =
 abbrev pub asked_by : Text → List Row → Option Asked
 asked_by name rows =
     if is_same name (codes "batch") then option_map BatchAsked (batch_in rows)
-    else if is_same name (codes "stdio") then option_map StdioAsked (names_in rows)
+    else if is_same name (codes "stdio") then option_map StdioAsked (stdio_in rows)
     else if is_same name (codes "serve") then option_map ServeAsked (serve_in rows)
     else None
 

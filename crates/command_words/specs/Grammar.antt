@@ -28,9 +28,9 @@ with_auto app = with_rule (with_rule (with_rule app (flag (codes "auto-metric"))
 abbrev pub with_patterns : App → App
 with_patterns app = with_rule (with_rule (with_rule app (valued (codes "allow-metric"))) (valued (codes "allow-tagk"))) (valued (codes "allow-tagv"))
 
--- stdio, and both
+-- stdio, both, and [--widths M,K,V]
 abbrev pub stdio_grammar : Shape
-stdio_grammar = (with_patterns (with_auto (new_app (codes "stdio")))).top
+stdio_grammar = (with_rule (with_patterns (with_auto (new_app (codes "stdio")))) (valued (codes "widths"))).top
 
 -- serve PORT [--daemons N] [--workers N] [--regions N]
 abbrev pub with_sizes : App

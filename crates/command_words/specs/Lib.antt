@@ -1,3 +1,4 @@
 pub mod Grammar
+pub mod WidthWords
 pub mod CommandWords
 pub mod PlainAsked

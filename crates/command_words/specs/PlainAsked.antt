@@ -5,11 +5,12 @@ use Rattle.tsd_base.specs.declared.times.TheConstants.{LAST_TIME}
 use Rattle.command_words.specs.declared.asked.Batch as batch
 use Rattle.command_words.specs.declared.asked.PatternTexts as texts
 use Rattle.command_words.specs.declared.asked.NameOptions as options
+use Rattle.command_words.specs.declared.asked.Stdio as stdio
 use Rattle.command_words.specs.declared.asked.Serve as serve
 use Rattle.command_words.specs.declared.asked.Asked as code
 use Rattle.command_words.specs.declared.asked.Asked.TheVariants as asked
 use Rattle.tsd_hooks.specs.declared.name_patterns.Patterns.{Patterns}
-use Rattle.command_words.specs.CommandWords.{Batch, NameOptions, Serve, Asked}
+use Rattle.command_words.specs.CommandWords.{Batch, NameOptions, Stdio, Serve, Asked}
 use Rattle.command_words.specs.CommandWords.Asked.{BatchAsked, StdioAsked, ServeAsked}
 
 abbrev pub plain_batch : batch.Batch → Batch
@@ -24,12 +25,15 @@ plain_patterns p = record { metric = plain_pattern p.metric; tag_key = plain_pat
 abbrev pub plain_names : options.NameOptions → NameOptions
 plain_names n = record { auto_metric = n.auto_metric; auto_tag_key = n.auto_tag_key; auto_tag_value = n.auto_tag_value; patterns = plain_patterns n.patterns }
 
+abbrev pub plain_stdio : stdio.Stdio → Stdio
+plain_stdio s = record { names = plain_names s.names; widths = s.widths }
+
 abbrev pub plain_serve : serve.Serve → Serve
 plain_serve s = record { port = s.port; daemons = s.daemons; workers = s.workers; regions = s.regions; names = plain_names s.names }
 
 abbrev pub plain_asked : code.Asked → Asked
 plain_asked (asked.Batch b) = BatchAsked (plain_batch b)
-plain_asked (asked.Stdio n) = StdioAsked (plain_names n)
+plain_asked (asked.Stdio s) = StdioAsked (plain_stdio s)
 plain_asked (asked.Serve s) = ServeAsked (plain_serve s)
 
 abbrev pub batch_of : Option batch.Batch → Option Batch
@@ -37,6 +41,9 @@ batch_of b = option_map plain_batch b
 
 abbrev pub names_of : Option options.NameOptions → Option NameOptions
 names_of n = option_map plain_names n
+
+abbrev pub stdio_of : Option stdio.Stdio → Option Stdio
+stdio_of s = option_map plain_stdio s
 
 abbrev pub serve_of : Option serve.Serve → Option Serve
 serve_of s = option_map plain_serve s
@@ -56,5 +63,5 @@ pub record IsFleet (s : serve.Serve) : Type 0 where
 -- a range ends at its start or behind it, and at the last time or before, and a fleet has its limits
 abbrev pub InRange : code.Asked → Type 0
 InRange (asked.Batch b) = (b.start ≤ b.end) × (b.end ≤ LAST_TIME)
-InRange (asked.Stdio n) = Unit {0}
+InRange (asked.Stdio s) = Unit {0}
 InRange (asked.Serve s) = IsFleet s

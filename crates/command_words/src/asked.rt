@@ -1,5 +1,7 @@
 //! What words ask for.
 
+use row_key::Widths;
+
 /// What `batch` is asked: a range of milliseconds since 1970, both ends included, the text of a query, and whether times
 /// are told in milliseconds.
 #[derive(Clone, Copy, Drop)]
@@ -28,6 +30,13 @@ pub struct NameOptions<'a> {
     pub patterns: PatternTexts<'a>,
 }
 
+/// What `stdio` is asked: which names are given ids, and how many bytes the ids of each kind have.
+#[derive(Clone, Copy, Drop)]
+pub struct Stdio<'a> {
+    pub names: NameOptions<'a>,
+    pub widths: Widths,
+}
+
 /// What `serve` is asked: the port to listen on, or 0 for one that the system chooses, how many daemons there are, how many
 /// workers each has, in how many regions data points stand, and which names are given ids.
 #[derive(Clone, Copy, Drop)]
@@ -45,7 +54,7 @@ pub enum Asked<'a> {
     /// The answer of a query over points.
     Batch { batch: Batch<'a> },
     /// One connection, over the input and the output.
-    Stdio { names: NameOptions<'a> },
+    Stdio { stdio: Stdio<'a> },
     /// Connections on a port.
     Serve { serve: Serve<'a> },
 }

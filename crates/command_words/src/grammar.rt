@@ -41,7 +41,8 @@ fn stdio_grammar<'a>(alloc: Global) -> Result<Command<'a>, AllocError>
     ensures local { IfOk result (λ made. (fields_of made).has_globals ≡ false) }
 {
     let command = with_auto(alloc, Command::new(alloc, "stdio"))?;
-    with_patterns(alloc, command)
+    let command = with_patterns(alloc, command)?;
+    with_arg(command, valued(alloc, "widths"))
 }
 
 /// `serve` with its words.

@@ -4,14 +4,17 @@ ghost use Rattle.tsd_base.specs.declared.times.TheConstants.{LAST_TIME};
 ghost use Rattle.clap.specs.Matches.{found_of};
 ghost use Rattle.clap.specs.Walk.{first_of, rows_of};
 ghost use Rattle.clap.specs.Simple.{subcommand_rows_of};
-ghost use Rattle.command_words.specs.CommandWords.{are_names, asked_by, asked_in, asked_of, batch_from, batch_in, count_of, is_given, is_name, is_pattern, names_in, names_with, number_within, patterns_in, port_in, serve_in, within};
-ghost use Rattle.command_words.specs.PlainAsked.{InRange, IsFleet, batch_of, names_of, plain_names, plain_pattern, plain_patterns, serve_of, what_asked};
+ghost use Rattle.command_words.specs.CommandWords.{are_names, asked_by, asked_in, asked_of, batch_from, batch_in, count_of, is_given, is_name, is_pattern, names_in, names_with, number_within, patterns_in, port_in, serve_in, stdio_in, within};
+ghost use Rattle.command_words.specs.PlainAsked.{InRange, IsFleet, batch_of, names_of, plain_names, plain_pattern, plain_patterns, serve_of, stdio_of, what_asked};
+ghost use Rattle.command_words.specs.WidthWords.{width_of, widths_from, widths_said};
+ghost use Rattle.row_key.specs.IdWidths.{IsWidth};
 
-use crate::asked::{Asked, Batch, NameOptions, PatternTexts, Serve};
+use crate::asked::{Asked, Batch, NameOptions, PatternTexts, Serve, Stdio};
 use crate::grammar::grammar;
 use clap::ArgMatches;
 use clap::error::ErrorKind;
 use query_times::query_times::read_fixed_time;
+use row_key::Widths;
 use std::alloc::{AllocError, Global};
 use tsd_base::digits::read_digits;
 use tsd_base::names::{Name, NameFault};
@@ -39,7 +42,8 @@ const USUAL_REGIONS: u32 = 4;
 /// `--no-auto-tagk` and `--no-auto-tagv`, and with a value `--allow-metric P`, `--allow-tagk P` and `--allow-tagv P`, where P
 /// is the bytes of a name as `Name::read` reads it. `serve PORT` may have these too, and `--daemons N`, `--workers N` and
 /// `--regions N`, with a port from 0 to 65535, 1 to 8 daemons, 1 to 16 workers of each and 1 to 16 regions, in digits alone.
-/// An option is given at most once, and `clap` says where it may stand.
+/// `stdio` alone may have `--widths M,K,V`, three digits from 2 to 4 with commas between them: how many bytes the ids of metrics, of
+/// tag keys and of tag values have. An option is given at most once, and `clap` says where it may stand.
 pub fn read_words<'a>(alloc: Global, words: &'a [String]) -> Result<Option<Asked<'a>>, AllocError>
     ensures asked { IfOk result (λ found. what_asked found ≡ asked_of (map string_bytes words.entry.now)) }
     ensures range { IfOk result (λ found. IfSome found InRange) }
@@ -75,8 +79,8 @@ fn asked_by<'a>(alloc: Global, name: &[u8], words: &ArgMatches<'a>) -> Option<As
         return Some(Asked::Batch { batch });
     }
     if name == b"stdio".as_slice() {
-        let names = names_in(alloc, words)?;
-        return Some(Asked::Stdio { names });
+        let stdio = stdio_in(alloc, words)?;
+        return Some(Asked::Stdio { stdio });
     }
     if name == b"serve".as_slice() {
         let serve = serve_in(alloc, words)?;
@@ -95,6 +99,51 @@ fn batch_in<'a>(words: &ArgMatches<'a>) -> Option<Batch<'a>>
     let query = text(words, "query")?;
     let ms = is_given(words, "ms");
     read_batch(start, end, query, ms)
+}
+
+/// What `stdio` is asked.
+fn stdio_in<'a>(alloc: Global, words: &ArgMatches<'a>) -> Option<Stdio<'a>>
+    ensures { stdio_of result ≡ stdio_in (rows_of (found_of words.now)) }
+{
+    let names = names_in(alloc, words)?;
+    let widths = widths_said(text(words, "widths"))?;
+    Some(Stdio { names, widths })
+}
+
+/// How many bytes the ids of each kind have, by the text that says so, and three where there is none.
+fn widths_said(text: Option<&[u8]>) -> Option<Widths>
+    ensures { result ≡ widths_said (plain_pattern text.entry) }
+{
+    match text {
+        Some(text) => widths_from(text),
+        None => Some(Widths::three()),
+    }
+}
+
+/// The widths in three digits with commas between them.
+fn widths_from(text: &[u8]) -> Option<Widths>
+    ensures { result ≡ widths_from text.now }
+{
+    if text.len() != 5 {
+        return None;
+    }
+    if text[1] != b',' || text[3] != b',' {
+        return None;
+    }
+    let metric = width_of(text[0])?;
+    let tag_key = width_of(text[2])?;
+    let tag_value = width_of(text[4])?;
+    Widths::make(metric, tag_key, tag_value)
+}
+
+/// The width in one digit: 2, 3 or 4.
+fn width_of(digit: u8) -> Option<u8>
+    ensures { result ≡ option_map (λ width. width.bytes) (width_of digit) }
+{
+    match digit {
+        b'2'..=b'4' => Some(digit - b'0'),
+        _ => None,
+    }
 }
 
 /// What `serve` is asked.

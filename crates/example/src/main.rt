@@ -16,6 +16,7 @@ use point_put::{Config, put};
 use query_run::{AskFault, ask};
 use query_text::queries::{Query, Sub, SubList};
 use query_text::subs::read_m;
+use row_key::Widths;
 use std::alloc::Global;
 use std::env;
 use std::io::{BufRead, BufReader};
@@ -42,7 +43,7 @@ fn main(rt: HostRuntime) -> Result<()> {
     )?;
     let rule = UidRule::keep(kept, test);
     let input = BufReader::new(alloc, rt.stdin())?;
-    let reply = match empty(alloc, MemHalt::make(Vec::new(alloc))) {
+    let reply = match empty(alloc, Widths::three(), MemHalt::make(Vec::new(alloc))) {
         Ok(store) => over_store(alloc, store, &rule, input, &query)?,
         Err(_) => return Err(anyhow!("out of memory")),
     };

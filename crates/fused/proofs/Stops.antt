@@ -1,5 +1,5 @@
 -- Waiting without a step, and counts of stops that are added.
-use Rattle.std.proofs.Common.{◌≡◌, ℕ, ◌+◌, ◌≤◌, Result, Ok, Err, IfErr, refl, arith}
+use Rattle.std.proofs.Common.{◌≡◌, ℕ, ◌+◌, Result, Ok, Err, IfErr, refl, arith}
 use Rattle.cell_model.specs.declared.answers.RowsFault.{RowsFault}
 use Rattle.cell_model.specs.declared.answers.RowsFault.TheVariants.{OutOfMemory, Stopped}
 use Rattle.cell_model.specs.Seen.{Seen, Waited, RoseIfStopped}

@@ -13,7 +13,7 @@ use cell_model::answers::{Bumped, Claimed, RowsFault, Stopped};
 use cell_model::row::{Cells, Drops, Found, Row};
 use cell_model::rows::Rows;
 use qual_codec::Bytes;
-use row_key::Table;
+use row_key::{Table, Widths};
 use std::alloc::Global;
 use std::marker::Model;
 use tsd_base::kinds::Kind;
@@ -61,6 +61,12 @@ impl<R: Rows + Drop, H: Halt + Drop> Rows for Fused<R, H> {
 
     ghost spare = { λ f. R.spare f.rows };
 
+    fn widths(&self) -> Widths
+        ensures { result ≡ (R.seen self.now.rows).base.widths }
+    {
+        self.rows.widths()
+    }
+
     fn read(&mut self, alloc: Global, row: &Row) -> Result<Cells, RowsFault>
         // As of all rows.
         ensures ok { IfOk result (λ cells. Stepped (R.seen self.old.rows) (Read row.now) (Shown cells) (R.seen self.new.rows)) }
@@ -87,7 +93,7 @@ impl<R: Rows + Drop, H: Halt + Drop> Rows for Fused<R, H> {
         from: &Bytes,
         to: &Bytes,
     ) -> Result<Option<Found>, RowsFault>
-        requires range { InOneRange table from.now to.now }
+        requires range { InOneRange (R.seen self.old.rows).base.widths table from.now to.now }
         // As of all rows.
         ensures ok { IfOk result (λ found. Stepped (R.seen self.old.rows) (NextRow table from.now to.now) (Next found) (R.seen self.new.rows)) }
         ensures err { OnErr result (Waited (R.seen self.old.rows) (R.seen self.new.rows)) }

@@ -9,9 +9,10 @@ use Rattle.json_reply.specs.declared.reply.Reply.{Reply}
 use Rattle.serde_json.specs.Data.{Data}
 use Rattle.cell_model.specs.declared.answers.Stored.{Stored}
 use Rattle.cell_model.specs.Seen.{Seen, InEach, Fits}
-use Rattle.cell_model.specs.History.{History}
+use Rattle.cell_model.specs.KindWidths.{Widths}
+use Rattle.cell_model.specs.History.{History, store_after}
 use Rattle.cell_model.specs.Deeds.{Since, deeds}
-use Rattle.cell_laws.proofs.CallerLemmas.{nothing_made}
+use Rattle.cell_laws.proofs.CallerLemmas.{nothing_made, seen_widths}
 use Rattle.compactor.proofs.CallerLemmas.{rows_none}
 use Rattle.point_put.specs.Admissions.{Admission}
 use Rattle.queued_put.specs.PutRows.{MayHaveRows}
@@ -115,16 +116,16 @@ same_names r = ap (λ names. of_kind Metric names ++ (of_kind TagKey (texts_in r
 pub as_named : (P : List NameOf → Type 0) (r : AssignRequest) → P (elements_in r.metric r.tagk r.tagv) → P (named_in (assign_lists r))
 as_named P r p = subst P (same_names r) p
 
-pub names_replied : (c : Admission) (lists : AssignLists) (closing : Bool) (old new : Seen) (queue : List Stored) (answers : Assignment) → Since old new → HasTexts lists answers
+pub names_replied : (c : Admission) (lists : AssignLists) (closing : Bool) (old new : Seen) (queue : List Stored) (answers : Assignment) (w : Widths) → w ≡ new.base.widths → Since old new → HasTexts lists answers
     → InEach new (λ h. AssignRan c.patterns h old.caller old.length (named_in lists) (answers_in answers) new.length)
-    → WorkReplied c (Assigns lists) closing old queue (reply_bytes (assign_status answers) closing (assign_body answers)) new queue
-names_replied c lists closing old new queue answers since texts ran = record {
+    → WorkReplied c (Assigns lists) closing old queue (reply_bytes (assign_status answers) closing (assign_body w answers)) new queue
+names_replied c lists closing old new queue answers w same since texts ran = record {
   stored = [];
   since = since;
   answered = λ h l f. record {
-    tells = told (assign_status answers) (assign_body answers);
+    tells = told (assign_status answers) (assign_body (store_after h).widths answers);
     done = (answers, texts, ran h l f, refl, refl);
-    reply_is = refl;
+    reply_is = ap (λ (v : Widths). reply_bytes (assign_status answers) closing (assign_body v answers)) (same ∙ seen_widths new h f);
   };
   rows = rows_none queue;
 }

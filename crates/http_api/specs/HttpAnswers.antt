@@ -3,7 +3,7 @@ use Rattle.std.specs.Prelude.{◌≡◌, ◌⊎◌, ℕ, Bool, List, [], ◌++�
 use Rattle.std.specs.declared.alloc.Global.{Global}
 use Rattle.tsd_base.specs.declared.kinds.Kind.TheVariants.{Metric, TagKey, TagValue}
 use Rattle.cell_model.specs.declared.answers.Stored.{Stored}
-use Rattle.cell_model.specs.History.{History}
+use Rattle.cell_model.specs.History.{History, store_after}
 use Rattle.cell_model.specs.IdRows.{NameOf}
 use Rattle.cell_model.specs.Deeds.{deeds, Since}
 use Rattle.cell_model.specs.Seen.{Seen, InEach}
@@ -84,7 +84,7 @@ Done c h caller n n2 (Says status body) t stored = (deeds h caller n n2 ≡ []) 
 Done c h caller n n2 (Puts flags elements) t stored =
     (outcomes : List Outcome) × PutRan c h caller n elements outcomes stored n2 × (t ≡ told (put_status flags.details flags.summary outcomes) (put_body flags.details flags.summary outcomes))
 Done c h caller n n2 (Assigns lists) t stored =
-    (answers : Assignment) × HasTexts lists answers × AssignRan c.patterns h caller n (named_in lists) (answers_in answers) n2 × (t ≡ told (assign_status answers) (assign_body answers)) × (stored ≡ [])
+    (answers : Assignment) × HasTexts lists answers × AssignRan c.patterns h caller n (named_in lists) (answers_in answers) n2 × (t ≡ told (assign_status answers) (assign_body (store_after h).widths answers)) × (stored ≡ [])
 Done c h caller n n2 (Suggests s) t stored =
     (names : List (List ℕ)) × SuggestAsked h caller n s.kind s.prefix s.max names n2 × (t ≡ told status.Ok (names_text names)) × (stored ≡ [])
 Done c h caller n n2 (Asks query) t stored =

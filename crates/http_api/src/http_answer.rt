@@ -151,7 +151,7 @@ fn assign<R: Rows + Drop>(
         &request.tagv,
     )?;
     match assignment_of(alloc, request, ids) {
-        Ok(answers) => told(assign_reply(alloc, closing, &answers)),
+        Ok(answers) => told(assign_reply(alloc, closing, &answers, names.widths())),
         Err(_) => Err(RowsFault::OutOfMemory),
     }
 }

@@ -1,5 +1,5 @@
 -- One text after the other.
-use Rattle.std.proofs.Common.{◌≡◌, ℕ, ◌≤◌, List, [], ◌∷◌, ◌++◌, length, ◌+◌, refl, sym, ap, subst, ◌∙◌, append-nil, append_assoc, arith, Some, Result, Ok, Err, IfOk, IfErr, OnErr, inl}
+use Rattle.std.proofs.Common.{◌≡◌, ℕ, ◌≤◌, List, [], ◌∷◌, ◌++◌, refl, sym, ap, subst, ◌∙◌, append-nil, append_assoc, arith, Some, Result, Ok, Err, IfOk, IfErr, OnErr, inl}
 use Rattle.tsd_base.specs.declared.kinds.Kind.{Kind}
 use Rattle.tsd_base.specs.declared.names.NameFault.{NameFault}
 use Rattle.tsd_base.specs.declared.names.NameFault.TheVariants as names
@@ -9,12 +9,14 @@ use Rattle.tsd_hooks.specs.declared.name_patterns.Patterns.{Patterns}
 use Rattle.cell_model.specs.declared.answers.RowsFault.{RowsFault}
 use Rattle.cell_model.specs.declared.answers.RowsFault.TheVariants as rows
 use Rattle.cell_model.specs.declared.events.Placed.{Placed}
-use Rattle.cell_model.specs.History.{History, first}
+use Rattle.cell_model.specs.KindWidths.{Widths}
+use Rattle.cell_model.specs.Store.{Store}
+use Rattle.cell_model.specs.History.{History, first, store_after}
 use Rattle.cell_model.specs.IdRows.{NameOf, id_of}
 use Rattle.cell_model.specs.Seen.{Seen, Fits, InEach}
 use Rattle.cell_model.specs.Stops.{RoseIf, is_stop}
 use Rattle.cell_model.specs.Deeds.{deeds, Extends, Made, MadeSo, Since}
-use Rattle.cell_laws.proofs.CallerLemmas.{extends_joined, first_fits, first_lawful, itself, made_joined, nothing_made}
+use Rattle.cell_laws.proofs.CallerLemmas.{extends_joined, first_fits, first_lawful, itself, made_joined, nothing_made, seen_carry}
 use Rattle.uid_table.specs.declared.id_answers.Assigned.{Assigned}
 use Rattle.uid_table.specs.declared.id_answers.Assigned.TheVariants.{Fresh, Existing, Lost}
 use Rattle.uid_table.specs.declared.id_answers.AssignFault.{AssignFault}
@@ -22,7 +24,7 @@ use Rattle.uid_table.specs.declared.id_answers.AssignFault.TheVariants.{Filtered
 use Rattle.uid_table.specs.IdAnswers as answers
 use Rattle.uid_table.specs.IdSteps.{AssignMade}
 use Rattle.uid_table.specs.Shown.{HasShown}
-use Rattle.http_assign.specs.AssignLists.{AnswerTold, AssignBegun, FirstBegun, IdTold, Ran, ReadAssigned, ReadBegun}
+use Rattle.http_assign.specs.AssignLists.{AnswerTold, AssignBegun, FirstBegun, IdTold, Ran, ReadAssigned, ReadBegun, already_text}
 use Rattle.http_assign.specs.AssignLists.Ran.{start, then_asked}
 use Rattle.http_assign.specs.AssignTexts.{EndsEarly, GoesOn, IsBadName, MadeSome, NameBegun, NameSays, SoFar, Tells, TextBegun, TextSays}
 
@@ -40,30 +42,34 @@ made_more a b c x y = (x.0 ++ y.0, made_joined a b c x.0 y.0 x.1 y.1)
 stands : (kind : Kind) (name : List ℕ) (id : ℕ) (s : Seen) → HasShown s kind name id → (later : Seen) → Extends s later → InEach later (λ h. id_of (first later.length h) kind name ≡ Some id)
 stands kind name id s shown later ext h l f = shown.stands later ext (first later.length h) (first_lawful h later.length l) (first_fits later h f)
 
-told_so : (kind : Kind) (name : List ℕ) (s : Seen) (a : Assigned) (outcome : IdTold) → HasShown s kind name (answers.answered_id a) → Tells name (Ok a) outcome
+-- what holds with the widths that were seen first holds with those of each history that fits later
+with_later : (old later : Seen) (h : History) (P : Widths → Type 0) → later.base ≡ old.base → Fits later h → P old.base.widths → P (store_after (first later.length h)).widths
+with_later old later h P same f x = seen_carry (first_fits later h f) P (subst (λ (b : Store). P b.widths) (sym same) x)
+
+told_so : (kind : Kind) (name : List ℕ) (s : Seen) (a : Assigned) (outcome : IdTold) → HasShown s kind name (answers.answered_id a) → Tells s.base.widths kind name (Ok a) outcome
     → (later : Seen) → Extends s later → InEach later (λ h. AnswerTold (kind, name) (first later.length h) (Ok a) outcome)
 told_so kind name s (Fresh id) outcome shown tells later ext h l f = (tells, stands kind name id s shown later ext h l f)
-told_so kind name s (Existing id) outcome shown tells later ext h l f = (tells, stands kind name id s shown later ext h l f)
+told_so kind name s (Existing id) outcome shown tells later ext h l f = (with_later s later h (λ w. outcome ≡ Err (already_text w kind id)) ext.base f tells, stands kind name id s shown later ext h l f)
 told_so kind name s (Lost wasted id) outcome shown tells later ext h l f = (tells, stands kind name id s shown later ext h l f)
 
-name_told : (patterns : Patterns) (kind : Kind) (name : List ℕ) (old new : Seen) (a : Assigned) (outcome : IdTold) → MadeSo old (AssignMade patterns kind name (Ok a)) new → HasShown new kind name (answers.answered_id a) → Tells name (Ok a) outcome
+name_told : (patterns : Patterns) (kind : Kind) (name : List ℕ) (old new : Seen) (a : Assigned) (outcome : IdTold) → MadeSo old (AssignMade old.base.widths patterns kind name (Ok a)) new → HasShown new kind name (answers.answered_id a) → Tells new.base.widths kind name (Ok a) outcome
     → NameSays patterns kind name old outcome new
 name_told patterns kind name old new a outcome made shown tells =
-    record { own = made.0; made = made.1; asked = λ later ext h l f. (Ok a, made.2, told_so kind name new a outcome shown tells later ext h l f) }
+    record { own = made.0; made = made.1; asked = λ later ext h l f. (Ok a, with_later old later h (λ w. AssignMade w patterns kind name (Ok a) made.0) (ext.base ∙ made.1.since.extends.base) f made.2, told_so kind name new a outcome shown tells later ext h l f) }
 
-name_refused : (patterns : Patterns) (kind : Kind) (name : List ℕ) (old new : Seen) (fault : AssignFault) (outcome : IdTold) → MadeSo old (AssignMade patterns kind name (Err fault)) new → Tells name (Err fault) outcome
+name_refused : (patterns : Patterns) (kind : Kind) (name : List ℕ) (old new : Seen) (fault : AssignFault) (outcome : IdTold) → MadeSo old (AssignMade old.base.widths patterns kind name (Err fault)) new → Tells new.base.widths kind name (Err fault) outcome
     → NameSays patterns kind name old outcome new
-name_refused patterns kind name old new (Filtered k) outcome made tells = record { own = made.0; made = made.1; asked = λ later ext h l f. (Err (Filtered k), made.2, tells) }
-name_refused patterns kind name old new (Exhausted k) outcome made tells = record { own = made.0; made = made.1; asked = λ later ext h l f. (Err (Exhausted k), made.2, tells) }
+name_refused patterns kind name old new (Filtered k) outcome made tells = record { own = made.0; made = made.1; asked = λ later ext h l f. (Err (Filtered k), with_later old later h (λ w. AssignMade w patterns kind name (Err (Filtered k)) made.0) (ext.base ∙ made.1.since.extends.base) f made.2, tells) }
+name_refused patterns kind name old new (Exhausted k) outcome made tells = record { own = made.0; made = made.1; asked = λ later ext h l f. (Err (Exhausted k), with_later old later h (λ w. AssignMade w patterns kind name (Err (Exhausted k)) made.0) (ext.base ∙ made.1.since.extends.base) f made.2, tells) }
 name_refused patterns kind name old new OutOfMemory outcome made tells = absurd tells
 name_refused patterns kind name old new Stopped outcome made tells = absurd tells
 
-pub name_says : (patterns : Patterns) (kind : Kind) (name : List ℕ) (old new : Seen) (answer : Result Assigned AssignFault) (outcome : IdTold) → MadeSo old (AssignMade patterns kind name answer) new
-    → IfOk answer (λ a. HasShown new kind name (answers.answered_id a)) → Tells name answer outcome → NameSays patterns kind name old outcome new
+pub name_says : (patterns : Patterns) (kind : Kind) (name : List ℕ) (old new : Seen) (answer : Result Assigned AssignFault) (outcome : IdTold) → MadeSo old (AssignMade old.base.widths patterns kind name answer) new
+    → IfOk answer (λ a. HasShown new kind name (answers.answered_id a)) → Tells new.base.widths kind name answer outcome → NameSays patterns kind name old outcome new
 name_says patterns kind name old new (Ok a) outcome made shown tells = name_told patterns kind name old new a outcome made shown tells
 name_says patterns kind name old new (Err fault) outcome made shown tells = name_refused patterns kind name old new fault outcome made tells
 
-pub name_begun : (patterns : Patterns) (kind : Kind) (name : List ℕ) (old new : Seen) (answer : Result Assigned AssignFault) → MadeSo old (AssignMade patterns kind name answer) new → NameBegun patterns kind name old new
+pub name_begun : (patterns : Patterns) (kind : Kind) (name : List ℕ) (old new : Seen) (answer : Result Assigned AssignFault) → MadeSo old (AssignMade old.base.widths patterns kind name answer) new → NameBegun patterns kind name old new
 name_begun patterns kind name old new answer made = record { own = made.0; made = made.1; begun = (answer, made.2) }
 
 -- a stop of the assignment is one of the text
@@ -75,13 +81,13 @@ stopped_so before now answer (Err rows.Stopped) by rose = subst (λ (a : Result 
 
 -- ---- one text
 
-pub read_nothing : (patterns : Patterns) (kind : Kind) (read : Result (List ℕ) NameFault) → ReadBegun patterns kind read []
-read_nothing patterns kind (Ok name) = (Err OutOfMemory, inl refl)
-read_nothing patterns kind (Err fault) = refl
+pub read_nothing : (w : Widths) (patterns : Patterns) (kind : Kind) (read : Result (List ℕ) NameFault) → ReadBegun w patterns kind read []
+read_nothing w patterns kind (Ok name) = (Err OutOfMemory, inl refl)
+read_nothing w patterns kind (Err fault) = refl
 
-first_nothing : (patterns : Patterns) (rest : List NameOf) → FirstBegun patterns rest []
-first_nothing patterns [] = refl
-first_nothing patterns (text ∷ rest) = read_nothing patterns text.0 (name_of text.1)
+first_nothing : (w : Widths) (patterns : Patterns) (rest : List NameOf) → FirstBegun w patterns rest []
+first_nothing w patterns [] = refl
+first_nothing w patterns (text ∷ rest) = read_nothing w patterns text.0 (name_of text.1)
 
 pub text_says : (patterns : Patterns) (kind : Kind) (text name : List ℕ) (old new : Seen) (outcome : IdTold) → name_of text ≡ Ok name → NameSays patterns kind name old outcome new → TextSays patterns kind (name_of text) old outcome new
 text_says patterns kind text name old new outcome is says = subst (λ (read : Result (List ℕ) NameFault). TextSays patterns kind read old outcome new) (sym is) says
@@ -101,7 +107,7 @@ text_bad patterns kind fault read s outcome f b =
     record { own = []; made = nothing_made s; asked = λ later ext h l fits. subst (λ (r : Result (List ℕ) NameFault). ReadAssigned patterns kind r (first later.length h) [] outcome) (sym x.0) (refl, x.1) }
 
 pub bad_begun : (patterns : Patterns) (kind : Kind) (read : Result (List ℕ) NameFault) (s : Seen) → TextBegun patterns kind read s s
-bad_begun patterns kind read s = record { own = []; made = nothing_made s; begun = read_nothing patterns kind read }
+bad_begun patterns kind read s = record { own = []; made = nothing_made s; begun = read_nothing s.base.widths patterns kind read }
 
 -- nothing but memory was wanted
 pub memory_alone : {T : Type 0} (stops : ℕ) (r : Result T RowsFault) → IfErr r (λ e. e ≡ rows.OutOfMemory) → IfErr r (λ e. RoseIf (is_stop e) stops stops)
@@ -140,7 +146,8 @@ begun_more patterns done rest all kind text from now new outs is so x h l f = re
   all = is;
   ran = so.ran new x.made.since.extends h l f;
   in_range = x.made.since.extends.length;
-  begun = subst (λ (own : List Placed). ReadBegun patterns kind (name_of text) own) (sym (own_of h from now new x.own so.made.since x.made f)) x.begun;
+  begun = subst (λ (own : List Placed). ReadBegun (store_after h).widths patterns kind (name_of text) own) (sym (own_of h from now new x.own so.made.since x.made f))
+      (seen_carry f (λ (w : Widths). ReadBegun w patterns kind (name_of text) x.own) (subst (λ (b : Store). ReadBegun b.widths patterns kind (name_of text) x.own) (sym x.made.since.extends.base) x.begun));
 }
 
 ended_there : (patterns : Patterns) (done rest all : List NameOf) (from new : Seen) (outs : List IdTold)
@@ -153,7 +160,7 @@ ended_there patterns done rest all from new outs is so h l f = record {
   all = is;
   ran = so.ran new (itself new) h l f;
   in_range = omega arith;
-  begun = subst (λ (own : List Placed). FirstBegun patterns rest own) (sym (own_of h from new new [] so.made.since (nothing_made new) f)) (first_nothing patterns rest);
+  begun = subst (λ (own : List Placed). FirstBegun (store_after h).widths patterns rest own) (sym (own_of h from new new [] so.made.since (nothing_made new) f)) (first_nothing (store_after h).widths patterns rest);
 }
 
 -- ---- the texts of a list

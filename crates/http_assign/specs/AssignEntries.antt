@@ -3,7 +3,8 @@ use Rattle.std.specs.Prelude.{◌≡◌, ◌↔◌, ℕ, true, List, Contains, O
 use Rattle.tsd_base.specs.declared.kinds.Kind.{Kind}
 use Rattle.tsd_hooks.specs.declared.name_patterns.Patterns.{Patterns}
 use Rattle.cell_model.specs.declared.events.Placed.{Placed}
-use Rattle.cell_model.specs.History.{History}
+use Rattle.cell_model.specs.KindWidths.{Widths}
+use Rattle.cell_model.specs.History.{History, store_after}
 use Rattle.cell_model.specs.IdRows.{NameOf}
 use Rattle.uid_table.specs.IdSteps.{DidBump}
 use Rattle.point_put.specs.declared.config.Config.{Config}
@@ -24,9 +25,9 @@ abbrev pub HasGiven : Kind → List Placed → Type 0
 HasGiven kind own = (d : Placed) × (id : ℕ) × Contains own d × DidBump d kind id
 
 -- the entries are those for a name, and an id is told exactly where one of them gave an id
-pub record FewEntries (patterns : Patterns) (text : NameOf) (own : List Placed) (outcome : IdTold) : Type 0 where
-  pub entries : ForName (admits_all patterns) text.0 text.1 own
+pub record FewEntries (w : Widths) (patterns : Patterns) (text : NameOf) (own : List Placed) (outcome : IdTold) : Type 0 where
+  pub entries : ForName w (admits_all patterns) text.0 text.1 own
   pub given : ((id : ℕ) × (outcome ≡ Ok id)) ↔ HasGiven text.0 own
 
 abbrev pub TextsMakeFewEntries : Type 0
-TextsMakeFewEntries = (patterns : Patterns) (text : NameOf) (h : History) (own : List Placed) (outcome : IdTold) → TextAssigned patterns text h own outcome → FewEntries patterns text own outcome
+TextsMakeFewEntries = (patterns : Patterns) (text : NameOf) (h : History) (own : List Placed) (outcome : IdTold) → TextAssigned patterns text h own outcome → FewEntries (store_after h).widths patterns text own outcome

@@ -9,8 +9,9 @@ use Rattle.tsd_base.specs.Faults.{name_fault_text}
 use Rattle.tsd_base.specs.Names.{name_of}
 use Rattle.tsd_hooks.specs.declared.name_patterns.Patterns.{Patterns}
 use Rattle.cell_model.specs.declared.events.Placed.{Placed}
-use Rattle.cell_model.specs.History.{History, first}
-use Rattle.cell_model.specs.IdRows.{NameOf, id_bytes, id_of}
+use Rattle.cell_model.specs.History.{History, first, store_after}
+use Rattle.cell_model.specs.KindWidths.{Widths, kind_bytes}
+use Rattle.cell_model.specs.IdRows.{NameOf, id_of}
 use Rattle.cell_model.specs.Deeds.{deeds}
 use Rattle.uid_table.specs.declared.id_answers.Assigned.{Assigned}
 use Rattle.uid_table.specs.declared.id_answers.Assigned.TheVariants.{Fresh, Existing, Lost}
@@ -51,9 +52,9 @@ outcomes_in ids = outcomes_of ids.metric.items ++ (outcomes_of ids.tagk.items ++
 
 -- ---- texts of errors
 
--- with six hexadecimal digits
-abbrev pub already_text : ℕ → List ℕ
-already_text id = codes "already has id " ++ encode_lower (id_bytes id)
+-- with the bytes of the id in hexadecimal digits
+abbrev pub already_text : Widths → Kind → ℕ → List ℕ
+already_text w kind id = codes "already has id " ++ encode_lower (kind_bytes w kind id)
 
 abbrev pub exhausted_text : Kind → List ℕ
 exhausted_text kind = put_fault_text (put_fault.Exhausted kind)
@@ -68,7 +69,7 @@ filtered_text kind name = put_fault_text (put_fault.Filtered kind name)
 abbrev pub AnswerTold : NameOf → History → Result Assigned AssignFault → IdTold → Type 0
 AnswerTold n h (Ok (Fresh id)) outcome = (outcome ≡ Ok id) × (id_of h n.0 n.1 ≡ Some id)
 AnswerTold n h (Ok (Lost wasted id)) outcome = (outcome ≡ Ok id) × (id_of h n.0 n.1 ≡ Some id)
-AnswerTold n h (Ok (Existing id)) outcome = (outcome ≡ Err (already_text id)) × (id_of h n.0 n.1 ≡ Some id)
+AnswerTold n h (Ok (Existing id)) outcome = (outcome ≡ Err (already_text (store_after h).widths n.0 id)) × (id_of h n.0 n.1 ≡ Some id)
 AnswerTold n h (Err (Filtered kind)) outcome = outcome ≡ Err (filtered_text kind n.1)
 AnswerTold n h (Err (Exhausted kind)) outcome = outcome ≡ Err (exhausted_text kind)
 AnswerTold n h (Err OutOfMemory) outcome = ⊥
@@ -76,16 +77,16 @@ AnswerTold n h (Err Stopped) outcome = ⊥
 
 -- a name is assigned an id; of a text that is no name the fault is told, and it makes no entry
 abbrev pub ReadAssigned : Patterns → Kind → Result (List ℕ) NameFault → History → List Placed → IdTold → Type 0
-ReadAssigned patterns kind (Ok name) h own outcome = (answer : Result Assigned AssignFault) × AssignMade patterns kind name answer own × AnswerTold (kind, name) h answer outcome
+ReadAssigned patterns kind (Ok name) h own outcome = (answer : Result Assigned AssignFault) × AssignMade (store_after h).widths patterns kind name answer own × AnswerTold (kind, name) h answer outcome
 ReadAssigned patterns kind (Err fault) h own outcome = (own ≡ []) × (outcome ≡ Err (name_fault_text kind fault))
 
 abbrev pub TextAssigned : Patterns → NameOf → History → List Placed → IdTold → Type 0
 TextAssigned patterns n h own outcome = ReadAssigned patterns n.0 (name_of n.1) h own outcome
 
 -- a text was begun: its name was assigned an id, whatever came of it
-abbrev pub ReadBegun : Patterns → Kind → Result (List ℕ) NameFault → List Placed → Type 0
-ReadBegun patterns kind (Ok name) own = (answer : Result Assigned AssignFault) × AssignMade patterns kind name answer own
-ReadBegun patterns kind (Err fault) own = own ≡ []
+abbrev pub ReadBegun : Widths → Patterns → Kind → Result (List ℕ) NameFault → List Placed → Type 0
+ReadBegun w patterns kind (Ok name) own = (answer : Result Assigned AssignFault) × AssignMade w patterns kind name answer own
+ReadBegun w patterns kind (Err fault) own = own ≡ []
 
 -- ---- texts, one after the other
 
@@ -100,9 +101,9 @@ abbrev pub AssignRan : Patterns → History → ℕ → ℕ → List NameOf → 
 AssignRan patterns h caller n texts outs n2 = Ran patterns h caller n n2 texts outs n2
 
 -- the entries are of the first of these texts, and there are none where there is no text
-abbrev pub FirstBegun : Patterns → List NameOf → List Placed → Type 0
-FirstBegun patterns [] own = own ≡ []
-FirstBegun patterns (text ∷ rest) own = ReadBegun patterns text.0 (name_of text.1) own
+abbrev pub FirstBegun : Widths → Patterns → List NameOf → List Placed → Type 0
+FirstBegun w patterns [] own = own ≡ []
+FirstBegun w patterns (text ∷ rest) own = ReadBegun w patterns text.0 (name_of text.1) own
 
 -- the first texts were asked up to some length, and what comes later is of the next one alone
 pub record AssignBegun (patterns : Patterns) (h : History) (caller n : ℕ) (texts : List NameOf) (n2 : ℕ) : Type 0 where
@@ -113,4 +114,4 @@ pub record AssignBegun (patterns : Patterns) (h : History) (caller n : ℕ) (tex
   pub all : texts ≡ done ++ rest
   pub ran : Ran patterns h caller n n2 done outs last
   pub in_range : last ≤ n2
-  pub begun : FirstBegun patterns rest (deeds h caller last n2)
+  pub begun : FirstBegun (store_after h).widths patterns rest (deeds h caller last n2)

@@ -7,6 +7,7 @@ use Rattle.tsd_base.specs.declared.names.NameFault.TheVariants as names
 use Rattle.tsd_base.specs.Faults.{name_fault_text}
 use Rattle.tsd_hooks.specs.declared.name_patterns.Patterns.{Patterns}
 use Rattle.cell_model.specs.declared.events.Placed.{Placed}
+use Rattle.cell_model.specs.KindWidths.{Widths}
 use Rattle.cell_model.specs.History.{first}
 use Rattle.cell_model.specs.IdRows.{NameOf}
 use Rattle.cell_model.specs.Seen.{Seen, InEach}
@@ -27,14 +28,14 @@ pub record IsAsLong (metric tagk tagv : Option (Vec (List ℕ) Global)) (ids : I
 -- ---- one text
 
 -- the text that is told of the answer to a name
-abbrev pub Tells : List ℕ → Result Assigned AssignFault → IdTold → Type 0
-Tells name (Ok (Fresh id)) outcome = outcome ≡ Ok id
-Tells name (Ok (Lost wasted id)) outcome = outcome ≡ Ok id
-Tells name (Ok (Existing id)) outcome = outcome ≡ Err (already_text id)
-Tells name (Err (Filtered kind)) outcome = outcome ≡ Err (filtered_text kind name)
-Tells name (Err (Exhausted kind)) outcome = outcome ≡ Err (exhausted_text kind)
-Tells name (Err OutOfMemory) outcome = ⊥
-Tells name (Err Stopped) outcome = ⊥
+abbrev pub Tells : Widths → Kind → List ℕ → Result Assigned AssignFault → IdTold → Type 0
+Tells w kind name (Ok (Fresh id)) outcome = outcome ≡ Ok id
+Tells w kind name (Ok (Lost wasted id)) outcome = outcome ≡ Ok id
+Tells w kind name (Ok (Existing id)) outcome = outcome ≡ Err (already_text w kind id)
+Tells w kind name (Err (Filtered k)) outcome = outcome ≡ Err (filtered_text k name)
+Tells w kind name (Err (Exhausted k)) outcome = outcome ≡ Err (exhausted_text k)
+Tells w kind name (Err OutOfMemory) outcome = ⊥
+Tells w kind name (Err Stopped) outcome = ⊥
 
 -- the text that is told of one that is no name
 abbrev pub IsBadName : Kind → NameFault → IdTold → Type 0
@@ -54,7 +55,7 @@ NameSays patterns kind name old outcome new = TextSays patterns kind (Ok name) o
 pub record TextBegun (patterns : Patterns) (kind : Kind) (read : Result (List ℕ) NameFault) (old new : Seen) : Type 0 where
   pub own : List Placed
   pub made : Made old own new
-  pub begun : ReadBegun patterns kind read own
+  pub begun : ReadBegun old.base.widths patterns kind read own
 
 abbrev pub NameBegun : Patterns → Kind → List ℕ → Seen → Seen → Type 0
 NameBegun patterns kind name old new = TextBegun patterns kind (Ok name) old new

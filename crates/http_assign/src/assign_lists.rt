@@ -10,9 +10,10 @@ ghost use Rattle.http_assign.specs.AssignLists.{AssignRan, AssignBegun, already_
 ghost use Rattle.http_assign.specs.AssignTexts.{EndsEarly, GoesOn, IsAsLong, IsBadName, MadeSome, NameBegun, NameSays, TextBegun, TextSays, Tells};
 
 use cell_model::answers::RowsFault;
+use cell_model::kind_widths::width_of;
 use cell_model::rows::Rows;
 use point_put::PutFault;
-use row_key::id_bytes;
+use row_key::{Widths, id_bytes};
 use short_bytes::short::Bytes;
 use std::alloc::{AllocError, Global};
 use tsd_base::kinds::Kind;
@@ -136,7 +137,7 @@ fn assign_name<R: Rows + Drop>(
     ensures stops { CountsStops is_stop result (R.stops names.old) (R.stops names.new) }
 {
     let answer = names.assign(alloc, rule, kind, name);
-    told(alloc, name, answer)
+    told(alloc, kind, name, answer, names.widths())
 }
 
 /// What is told of a text that is no name. It fails only for want of memory.
@@ -157,16 +158,18 @@ fn bad_name(alloc: Global, kind: Kind, fault: NameFault) -> Result<IdOutcome, Ro
 /// What is told of the answer to the assignment of a name, unless memory ran out or the caller was stopped.
 fn told(
     alloc: Global,
+    kind: Kind,
     name: &Name,
     answer: Result<Assigned, AssignFault>,
+    widths: Widths,
 ) -> Result<IdOutcome, RowsFault>
-    ensures ok { IfOk result (λ out. Tells name.now answer (outcome_of out)) }
+    ensures ok { IfOk result (λ out. Tells widths kind name.now answer (outcome_of out)) }
     ensures stopped { result ≡ Err rows_fault.Stopped → answer ≡ Err assign_fault.Stopped }
 {
     let text = match answer {
         Ok(Assigned::Fresh { id }) => return Ok(Ok(id)),
         Ok(Assigned::Lost { wasted: _, id }) => return Ok(Ok(id)),
-        Ok(Assigned::Existing { id }) => already_text(alloc, id),
+        Ok(Assigned::Existing { id }) => already_text(alloc, kind, id, widths),
         Err(AssignFault::Filtered { kind }) => filtered_text(alloc, kind, name),
         Err(AssignFault::Exhausted { kind }) => exhausted_text(alloc, kind),
         Err(AssignFault::OutOfMemory) => return Err(RowsFault::OutOfMemory),
@@ -175,10 +178,11 @@ fn told(
     Ok(Err(text?))
 }
 
-fn already_text(alloc: Global, id: u32) -> Result<Vec<u8>, AllocError>
-    ensures { IfOk result (λ text. text.items ≡ already_text id) }
+fn already_text(alloc: Global, kind: Kind, id: u32, widths: Widths) -> Result<Vec<u8>, AllocError>
+    ensures { IfOk result (λ text. text.items ≡ already_text widths kind id) }
 {
-    let digits = hex::encode(alloc, id_bytes(id))?;
+    let bytes = id_bytes(id, width_of(kind, widths));
+    let digits = hex::encode(alloc, bytes.as_slice())?;
     let mut text = Vec::from_slice(alloc, b"already has id ")?;
     text.extend_from_slice(digits.as_bytes())?;
     Ok(text)

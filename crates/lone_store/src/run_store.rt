@@ -7,6 +7,7 @@ use cell_model::Listing;
 use cell_region::{DATA_REGIONS, Regions};
 use cell_solo::Solo;
 use fused::Fused;
+use row_key::Widths;
 use std::alloc::{AllocError, Global};
 use tsd_io::halt::Halt;
 use uid_table::uids::{KEPT_PAIRS, Uids};
@@ -14,13 +15,17 @@ use uid_table::uids::{KEPT_PAIRS, Uids};
 /// The names and points of a run, in the memory of one caller, which steps alone, and where its halt lets it.
 pub type Store<H> = Uids<Fused<Solo<Regions>, H>>;
 
-/// A store of no names and no points under a halt, which is handed back as it was where there is no memory.
-pub fn empty<H: Halt + Drop>(alloc: Global, halt: H) -> Result<Store<H>, (AllocError, H)>
-    ensures fresh { IfOk result (λ store. IsFresh (sight store.rows)) }
+/// A store of no names and no points under a halt, whose ids have these widths. The halt is handed back as it was where there is no memory.
+pub fn empty<H: Halt + Drop>(
+    alloc: Global,
+    widths: Widths,
+    halt: H,
+) -> Result<Store<H>, (AllocError, H)>
+    ensures fresh { IfOk result (λ store. IsFresh widths (sight store.rows)) }
     ensures halt { IfOk result (λ store. store.halt ≡ halt) }
     ensures refused { IfErr result (λ refused. refused.1 ≡ halt) }
 {
-    let rows = match alone(alloc) {
+    let rows = match alone(alloc, widths) {
         Ok(rows) => rows,
         Err(error) => return Err((error, halt)),
     };
@@ -34,10 +39,10 @@ pub fn empty<H: Halt + Drop>(alloc: Global, halt: H) -> Result<Store<H>, (AllocE
 }
 
 /// Rows of one caller without a cell. It fails only for want of memory.
-fn alone(alloc: Global) -> Result<Solo<Regions>, AllocError>
-    ensures { IfOk result (λ rows. IsFresh (sight rows)) }
+fn alone(alloc: Global, widths: Widths) -> Result<Solo<Regions>, AllocError>
+    ensures { IfOk result (λ rows. IsFresh widths (sight rows)) }
 {
-    let body = Regions::of(alloc, Listing::none(alloc), DATA_REGIONS)?;
+    let body = Regions::of(alloc, Listing::none(alloc, widths), DATA_REGIONS)?;
     let rows = Solo::make(alloc, body, 1)?;
     Ok(rows)
 }

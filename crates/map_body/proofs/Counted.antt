@@ -7,12 +7,13 @@ use Rattle.std.proofs.lemmas.Nat.{from_be_bytes-to_be_bytes_8}
 use Rattle.std.proofs.lemmas.Bool.Decides.{nat_tests}
 use Rattle.std.specs.Ordering.{eq_by_cmp}
 use Rattle.std.specs.Cmp.Lexicographic.{nat_list_cmp_total}
-use Rattle.std.specs.FinMap.{find, is_sorted, entries, insert, get, get-insert, get-from_entries, same_map}
+use Rattle.std.specs.FinMap.{find, is_sorted, entries, empty, insert, get, get-empty, get-insert, get-from_entries, same_map}
 use Rattle.list_lemmas.proofs.ListCuts.{joined, map_join}
 use Rattle.tsd_base.specs.declared.kinds.Kind.{Kind}
 use Rattle.tsd_base.specs.declared.kinds.Kind.TheVariants.{Metric, TagKey, TagValue}
 use Rattle.qual_codec.specs.declared.cells.Cell.{Cell}
-use Rattle.row_key.specs.declared.ids.TheConstants.{MOST_IDS}
+use Rattle.cell_model.specs.KindWidths.{Widths, most_ids}
+use Rattle.cell_model.proofs.CallerLemmas.{greatest_fits}
 use Rattle.cell_model.specs.declared.row.ListLine.{ListLine}
 use Rattle.cell_model.specs.declared.events.Place.{Place}
 use Rattle.cell_model.specs.declared.events.Content.{Content}
@@ -25,7 +26,7 @@ use Rattle.list_lemmas.specs.BytesOrder.{bytes_cmp}
 use Rattle.packed_cells.specs.Keyed.{CellMap, cell_from, cells_in, stamped, stamped_over}
 use Rattle.map_body.specs.declared.counters.Counter.{Counter}
 use Rattle.map_body.specs.Counting.{shown, counter_cells, number_in, AllCounters}
-use Rattle.map_body.proofs.Maps.{exact, tied, untied, same_or_not, entries_sorted_list}
+use Rattle.map_body.proofs.Maps.{exact, tied, untied, same_or_not, no_some, entries_sorted_list}
 
 -- what a counter shows
 abbrev pub value_of : Counter → Option (List ℕ × ℕ)
@@ -186,40 +187,30 @@ number_shown c small = at (nat_eq c.number 0) refl
 pub number_is : (kind : Kind) (m k v : Counter) → (pick kind m k v).number < 2 ^ 64 → (pick kind m k v).number ≡ number_in (counter_cells m k v) kind
 number_is kind m k v small = number_shown (pick kind m k v) small ∙ ap (λ o. option_map_or (from_be_bytes w64) (option_map (λ (p : List ℕ × ℕ). p.0) o) 0) (sym (get_kind kind m k v))
 
--- each cell is a counter
-some_counter : (kind : Kind) (c : Counter) (value : List ℕ) (version : ℕ) → c.number ≤ MOST_IDS → value_of c ≡ Some (value, version) → IsCounter (kind_qual kind) value
-some_counter kind c value version most e = at (nat_eq c.number 0) refl e
+-- its number fits four bytes
+pub number_fits : (w : Widths) (qual value : List ℕ) → IsCounter w qual value → (number : ℕ) × (1 ≤ number) × (number ≤ most_ids 4) × (value ≡ to_be_bytes w64 number)
+number_fits w qual value is = let most = greatest_fits w is.kind in (is.number, is.least, omega (arith, most, is.most), is.value_is)
+
+-- no cell is one
+pub no_counters : (w : Widths) (cells : CellMap) → cells ≡ empty → AllCounters w cells
+no_counters w cells none qual value version found = absurd (no_some (value, version) (sym (ap (λ (m : CellMap). get m qual) none ∙ get-empty bytes_cmp qual) ∙ found))
+
+-- each cell is still a counter: with one more, and with another version
+pub counters_set : (w : Widths) (cells : CellMap) (qual value : List ℕ) (version : ℕ) → AllCounters w cells → IsCounter w qual value → AllCounters w (insert cells qual (value, version))
+counters_set w cells qual value version all is q v n found = at (same_or_not q qual)
   where
-    at : (b : Bool) → nat_eq c.number 0 ≡ b → ◌≡◌ {A = Option (List ℕ × ℕ)} (cond b None (Some (to_be_bytes w64 c.number, c.version))) (Some (value, version)) → IsCounter (kind_qual kind) value
-    at true none is = absurd (no_some is)
-      where
-        no_some : ◌≡◌ {A = Option (List ℕ × ℕ)} None (Some (value, version)) → ⊥
-        no_some h = cc
-    at false some is = record {
-      kind = kind;
-      number = c.number;
-      is_kind = refl;
-      least = grind (arith, nat_tests, some);
-      most = most;
-      value_is = sym (ap (λ o. option_map_or (λ (p : List ℕ × ℕ). p.0) o value) is);
-    }
+    at : (q ≡ qual) ⊎ (q ≢ qual) → IsCounter w q v
+    at (inl same) =
+        let here : Some (value, version) ≡ Some (v, n) = sym (ap (get (insert cells qual (value, version))) same ∙ get-insert nat_list_cmp_total cells qual (value, version) qual ∙ ap (λ b. cond b (Some (value, version)) (get cells qual)) (tied qual)) ∙ found in
+        subst (λ (x : List ℕ). IsCounter w x v) (sym same) (subst (IsCounter w qual) (ap (λ o. option_map_or (λ (p : List ℕ × ℕ). p.0) o value) here) is)
+    at (inr ne) = all q v n (sym (get-insert nat_list_cmp_total cells qual (value, version) q ∙ ap (λ b. cond b (Some (value, version)) (get cells q)) (untied q qual ne)) ∙ found)
 
-pub all_counters : (m k v : Counter) → m.number ≤ MOST_IDS → k.number ≤ MOST_IDS → v.number ≤ MOST_IDS → AllCounters (counter_cells m k v)
-all_counters m k v mm km vm q = by_kind (λ q. (value : List ℕ) (version : ℕ) → get (counter_cells m k v) q ≡ Some (value, version) → IsCounter q value) each rest q
+pub counters_stamped : (w : Widths) (cells : CellMap) (qual : List ℕ) (version : ℕ) → AllCounters w cells → AllCounters w (stamped cells qual version)
+counters_stamped w cells qual version all = at (get cells qual) refl
   where
-    most : (kind : Kind) → (pick kind m k v).number ≤ MOST_IDS
-    most Metric = mm
-    most TagKey = km
-    most TagValue = vm
-
-    each : (kind : Kind) (value : List ℕ) (version : ℕ) → get (counter_cells m k v) (kind_qual kind) ≡ Some (value, version) → IsCounter (kind_qual kind) value
-    each kind value version e = some_counter kind (pick kind m k v) value version (most kind) (sym (get_kind kind m k v) ∙ e)
-
-    rest : (q : List ℕ) → ((kind : Kind) → q ≢ kind_qual kind) → (value : List ℕ) (version : ℕ) → get (counter_cells m k v) q ≡ Some (value, version) → IsCounter q value
-    rest q ne value version e = absurd (no_some (sym (get_other q m k v ne) ∙ e))
-      where
-        no_some : ◌≡◌ {A = Option (List ℕ × ℕ)} None (Some (value, version)) → ⊥
-        no_some h = cc
+    at : (o : Option (List ℕ × ℕ)) → get cells qual ≡ o → AllCounters w (stamped_over o cells qual version)
+    at None is = all
+    at (Some c) is = counters_set w cells qual c.0 version all (all qual c.0 c.1 is)
 
 -- the cells in order
 in_order : (a b c : Bool) (x y z : List ℕ × ℕ) → T (is_sorted bytes_cmp (cond a [] ((kind_qual Metric, x) ∷ []) ++ (cond b [] ((kind_qual TagKey, y) ∷ []) ++ cond c [] ((kind_qual TagValue, z) ∷ []))))

@@ -16,7 +16,8 @@ use Rattle.cell_model.specs.declared.row.ListLine.{ListLine}
 use Rattle.cell_model.specs.declared.events.Place.{Place}
 use Rattle.cell_model.specs.declared.events.Content.{Content}
 use Rattle.list_lemmas.specs.BytesOrder.{bytes_cmp}
-use Rattle.cell_model.specs.Store.{place_cmp}
+use Rattle.cell_model.specs.KindWidths.{Widths}
+use Rattle.cell_model.specs.Store.{StoreCells, place_cmp, insert as insert_at}
 use Rattle.cell_model.specs.Counts.{line_of, lines_of}
 use Rattle.cell_model.specs.Rising.{LinesRise, place_of_line}
 use Rattle.list_lemmas.proofs.BoolTests.{T_both, T_left, T_right, T_less}
@@ -131,10 +132,10 @@ lines_of_ids tables counters none some = at (nat_eq (len counters) 0) refl
         (map_join line_of (map (placed counter_row) (entries counters)) (flat (tagged Ids (rows_from (0 ∷ []) (entries (rows_at tables Ids))))))
 
 -- what is listed part by part is all
-pub all_listed : (tables : List Rows) (counters : CellMap) (ids names points : Rows) (none one two three four five : List ListLine) → NoCounterRow tables → NoneEmpty ids → ids ≡ rows_at tables Ids → names ≡ rows_at tables Names → points ≡ rows_at tables Points
+pub all_listed : (w : Widths) (tables : List Rows) (counters : CellMap) (ids names points : Rows) (none one two three four five : List ListLine) → NoCounterRow tables → NoneEmpty ids → ids ≡ rows_at tables Ids → names ≡ rows_at tables Names → points ≡ rows_at tables Points
     → none ≡ [] → one ≡ none ++ lines_in Ids (rows_below (0 ∷ []) (entries ids)) → two ≡ one ++ map line_of (map (placed counter_row) (entries counters)) → three ≡ two ++ lines_in Ids (rows_from (0 ∷ []) (entries ids))
-    → four ≡ three ++ lines_in Names (rows_from [] (entries names)) → five ≡ four ++ lines_in Points (rows_from [] (entries points)) → five ≡ lines_of (store_in tables counters)
-all_listed tables counters ids names points none one two three four five no_row_there some i n p e0 e1 e2 e3 e4 e5 =
+    → four ≡ three ++ lines_in Names (rows_from [] (entries names)) → five ≡ four ++ lines_in Points (rows_from [] (entries points)) → five ≡ lines_of (store_in w tables counters)
+all_listed w tables counters ids names points none one two three four five no_row_there some i n p e0 e1 e2 e3 e4 e5 =
     let a = lines_in Ids (rows_below (0 ∷ []) (entries ids)) in
     let b = map line_of (map (placed counter_row) (entries counters)) in
     let c = lines_in Ids (rows_from (0 ∷ []) (entries ids)) in
@@ -147,7 +148,7 @@ all_listed tables counters ids names points none one two three four five no_row_
     let ids_all : a ++ (b ++ c) ≡ lines_in Ids (entries (sheet tables counters Ids)) = sym (lines_of_ids tables counters no_row_there (subst NoneEmpty i some) ∙ ap (λ (r : Rows). lines_in Ids (rows_below (0 ∷ []) (entries r)) ++ (b ++ lines_in Ids (rows_from (0 ∷ []) (entries r)))) (sym i)) in
     let s = lines_in Ids (entries (sheet tables counters Ids)) in
     let listed : five ≡ s ++ (d ++ f) = e5 ∙ (λ k. (e4 ∙ (λ j. (third ∙ ids_all) j ++ n_all j)) k ++ p_all k) ∙ joined s d f in
-    let whole : lines_of (store_in tables counters) ≡ s ++ (lines_in Names (entries (rows_at tables Names)) ++ lines_in Points (entries (rows_at tables Points))) =
+    let whole : lines_of (store_in w tables counters) ≡ s ++ (lines_in Names (entries (rows_at tables Names)) ++ lines_in Points (entries (rows_at tables Points))) =
     ap (map line_of) (flat_entries (all_rows tables counters) (all_sorted tables counters))
     ∙ lines_join (tagged Ids (entries (sheet tables counters Ids))) (tagged Names (entries (rows_at tables Names)) ++ tagged Points (entries (rows_at tables Points)))
     ∙ ap (λ (l : List ListLine). s ++ l) (lines_join (tagged Names (entries (rows_at tables Names))) (tagged Points (entries (rows_at tables Points)))) in
@@ -166,14 +167,22 @@ taken_length [] (suc i) = omega arith
 taken_length (x ∷ xs) zero = omega arith
 taken_length (x ∷ xs) (suc i) = let t = taken_length xs i in omega (arith, t)
 
-pub store_next : (lines : List ListLine) (i : ℕ) (d : ListLine) → LinesRise lines → i < length lines → store_of (take (i + 1) lines) ≡ insert (store_of (take i lines)) (place_of_line (slice_index_or lines i d)) (entry_of_line (slice_index_or lines i d)).1
-store_next lines i d rise lt =
-    let line = slice_index_or lines i d in
-    ap store_of (take_next lines i d lt)
-    ∙ ap (from_entries {R = place_cmp}) (map_join entry_of_line (take i lines) (line ∷ []))
-    ∙ from_entries_push places_total exact_places (map entry_of_line (take i lines)) (place_of_line line) (entry_of_line line).1
-    (none_before (take i lines) (place_of_line line) (λ j e below.
-    let len_le = taken_length lines i in
-    ap (λ (x : ListLine). place_cmp (place_of_line x) (place_of_line line)) (get_or-take i lines j e (omega (arith, below, len_le)))
-    ∙ ap (λ (x : ListLine). place_cmp (place_of_line x) (place_of_line line)) (get_or_default lines j e d (omega (arith, below, len_le, lt)))
-    ∙ rise j i d (omega (arith, below, len_le)) lt))
+-- the cells that lines tell
+abbrev told : List ListLine → StoreCells
+told lines = from_entries (map entry_of_line lines)
+
+pub store_next : (w : Widths) (lines : List ListLine) (i : ℕ) (d : ListLine) → LinesRise lines → i < length lines
+    → store_of (record { widths = w; lines = take (i + 1) lines }) ≡ insert_at (store_of (record { widths = w; lines = take i lines })) (place_of_line (slice_index_or lines i d)) (entry_of_line (slice_index_or lines i d)).1
+store_next w lines i d rise lt = λ k. record { widths = w; cells = cells_next k }
+  where
+    cells_next : told (take (i + 1) lines) ≡ insert (told (take i lines)) (place_of_line (slice_index_or lines i d)) (entry_of_line (slice_index_or lines i d)).1
+    cells_next =
+        let line = slice_index_or lines i d in
+        ap told (take_next lines i d lt)
+        ∙ ap (from_entries {R = place_cmp}) (map_join entry_of_line (take i lines) (line ∷ []))
+        ∙ from_entries_push places_total exact_places (map entry_of_line (take i lines)) (place_of_line line) (entry_of_line line).1
+        (none_before (take i lines) (place_of_line line) (λ j e below.
+        let len_le = taken_length lines i in
+        ap (λ (x : ListLine). place_cmp (place_of_line x) (place_of_line line)) (get_or-take i lines j e (omega (arith, below, len_le)))
+        ∙ ap (λ (x : ListLine). place_cmp (place_of_line x) (place_of_line line)) (get_or_default lines j e d (omega (arith, below, len_le, lt)))
+        ∙ rise j i d (omega (arith, below, len_le)) lt))

@@ -14,6 +14,7 @@ use Rattle.qual_codec.specs.declared.cells.Cell.{Cell}
 use Rattle.cell_model.specs.declared.row.ListLine.{ListLine}
 use Rattle.cell_model.specs.declared.events.Place.{Place}
 use Rattle.cell_model.specs.declared.events.Content.{Content}
+use Rattle.cell_model.specs.KindWidths.{Widths}
 use Rattle.cell_model.specs.Store.{Store, place_cmp}
 use Rattle.list_lemmas.specs.BytesOrder.{bytes_cmp}
 use Rattle.cell_model.specs.Counts.{line_of, lines_of}
@@ -73,7 +74,7 @@ lines_rise (e ∷ es) up zero (suc j) d lt within = below_at e.0 es (T_left _ _ 
 lines_rise (e ∷ es) up (suc i) (suc j) d lt within = lines_rise es (T_right _ _ up) i j d (omega (arith, lt)) (omega (arith, within))
 
 pub store_rises : (s : Store) → LinesRise (lines_of s)
-store_rises s = lines_rise (entries s) (entries_sorted s)
+store_rises s = lines_rise (entries s.cells) (entries_sorted s.cells)
 
 -- so do those of some of a table's rows
 some_below : (p : List ℕ × CellMap → Bool) (k : List ℕ) (es : List (List ℕ × CellMap)) → T (below_all bytes_cmp k es) → T (below_all bytes_cmp k (filter p es))
@@ -159,7 +160,7 @@ module _ (m k v : Counter) (old : List ListLine) (up : LinesRise (old ++ map lin
   value_rises one two a b = subst LinesRise (ap (λ (l : List ListLine). l ++ lines_for TagValue v) (sym (b ∙ ap (λ (l : List ListLine). l ++ lines_for TagKey k) a))) each_rises
 
 -- each part of a store's lines, when it is still to come
-module _ (tables : List Rows) (counters : CellMap) (ids names points : Rows) (absent : NoCounterRow tables) (some : NoneEmpty ids) (i : ids ≡ rows_at tables Ids) (n : names ≡ rows_at tables Names) (p : points ≡ rows_at tables Points) where
+module _ (w : Widths) (tables : List Rows) (counters : CellMap) (ids names points : Rows) (absent : NoCounterRow tables) (some : NoneEmpty ids) (i : ids ≡ rows_at tables Ids) (n : names ≡ rows_at tables Names) (p : points ≡ rows_at tables Points) where
   abbrev low : List ListLine
   low = lines_in Ids (rows_below (0 ∷ []) (entries ids))
 
@@ -178,8 +179,8 @@ module _ (tables : List Rows) (counters : CellMap) (ids names points : Rows) (ab
   points_to_come : LinesRise ((((low ++ middle) ++ high) ++ named) ++ pointed)
   points_to_come =
       subst LinesRise
-      (sym (all_listed tables counters ids names points [] low (low ++ middle) ((low ++ middle) ++ high) (((low ++ middle) ++ high) ++ named) ((((low ++ middle) ++ high) ++ named) ++ pointed) absent some i n p refl refl refl refl refl refl))
-      (store_rises (store_in tables counters))
+      (sym (all_listed w tables counters ids names points [] low (low ++ middle) ((low ++ middle) ++ high) (((low ++ middle) ++ high) ++ named) ((((low ++ middle) ++ high) ++ named) ++ pointed) absent some i n p refl refl refl refl refl refl))
+      (store_rises (store_in w tables counters))
 
   names_to_come : LinesRise (((low ++ middle) ++ high) ++ named)
   names_to_come = prefix_rises (((low ++ middle) ++ high) ++ named) pointed points_to_come

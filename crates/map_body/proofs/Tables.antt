@@ -14,6 +14,7 @@ use Rattle.row_key.specs.declared.tables.Table.{Table}
 use Rattle.row_key.specs.declared.tables.Table.TheVariants.{Ids, Names, Points}
 use Rattle.cell_model.specs.declared.row.Row.{Row}
 use Rattle.list_lemmas.specs.BytesOrder.{bytes_cmp}
+use Rattle.cell_model.specs.KindWidths.{Widths}
 use Rattle.cell_model.specs.Store.{row_cmp, place_of, table_number, content_at}
 use Rattle.cell_model.specs.Machine.{counter_row}
 use Rattle.packed_cells.specs.Keyed.{CellMap}
@@ -131,8 +132,8 @@ pub cells_all : (tables : List Rows) (counters : CellMap) (row : Row) → cells_
 cells_all tables counters row = ap (λ o. unwrap_or o empty) (find_all tables counters row.table row.bytes)
 
 -- what stands at a place
-pub look : (tables : List Rows) (counters : CellMap) (row : Row) (qual : List ℕ) → content_at (store_in tables counters) row qual ≡ option_map content_of (get (row_of tables counters row) qual)
-look tables counters row qual =
+pub look : (w : Widths) (tables : List Rows) (counters : CellMap) (row : Row) (qual : List ℕ) → content_at (store_in w tables counters) row qual ≡ option_map content_of (get (row_of tables counters row) qual)
+look w tables counters row qual =
     get-from_entries places_total (flat (all_rows tables counters)) (place_of row qual) ∙ find_flat (all_rows tables counters) row qual (all_sorted tables counters)
     ∙ ap (λ (m : CellMap). option_map content_of (get m qual)) (cells_all tables counters row)
 

@@ -5,15 +5,15 @@ use Rattle.std.specs.Int.{w64, to_be_bytes, from_be_bytes}
 use Rattle.std.specs.FinMap.{get, from_entries}
 use Rattle.tsd_base.specs.declared.kinds.Kind.{Kind}
 use Rattle.tsd_base.specs.declared.kinds.Kind.TheVariants.{Metric, TagKey, TagValue}
-use Rattle.row_key.specs.declared.ids.TheConstants.{MOST_IDS}
+use Rattle.cell_model.specs.KindWidths.{Widths, most_ids}
 use Rattle.cell_model.specs.Machine.{kind_qual}
 use Rattle.cell_model.specs.Sound.{IsCounter}
 use Rattle.packed_cells.specs.Keyed.{CellMap}
 use Rattle.map_body.specs.declared.counters.Counter.{Counter}
 
--- three numbers of ids given, each up to the greatest id
+-- three numbers of ids given, each up to the greatest id of four bytes
 abbrev pub AreCounts : ℕ → ℕ → ℕ → Type 0
-AreCounts metric tag_key tag_value = (metric ≤ MOST_IDS) × (tag_key ≤ MOST_IDS) × (tag_value ≤ MOST_IDS)
+AreCounts metric tag_key tag_value = (metric ≤ most_ids 4) × (tag_key ≤ most_ids 4) × (tag_value ≤ most_ids 4)
 
 -- a counter's cell: a counter that is 0 has none
 abbrev pub shown : Kind → Counter → List (List ℕ × (List ℕ × ℕ))
@@ -26,6 +26,6 @@ counter_cells metric tag_key tag_value = from_entries (shown Metric metric ++ (s
 abbrev pub number_in : CellMap → Kind → ℕ
 number_in cells kind = option_map_or (from_be_bytes w64) (option_map (λ c. c.0) (get cells (kind_qual kind))) 0
 
--- each cell is a counter
-abbrev pub AllCounters : CellMap → Type 0
-AllCounters cells = (qual value : List ℕ) (version : ℕ) → get cells qual ≡ Some (value, version) → IsCounter qual value
+-- each cell is a counter up to the greatest id of its kind
+abbrev pub AllCounters : Widths → CellMap → Type 0
+AllCounters w cells = (qual value : List ℕ) (version : ℕ) → get cells qual ≡ Some (value, version) → IsCounter w qual value

@@ -8,6 +8,7 @@ use Rattle.cell_model.specs.declared.row.ListLine.{ListLine}
 use Rattle.cell_model.specs.declared.events.Place.{Place}
 use Rattle.cell_model.specs.declared.events.Content.{Content}
 use Rattle.cell_model.specs.PlaceOrder.{table_number}
+use Rattle.cell_model.specs.KindWidths.{Widths}
 use Rattle.cell_model.specs.Store.{Store, place_of}
 use Rattle.cell_model.specs.Counts.{line_of}
 use Rattle.cell_model.specs.Sound.{IsCounter}
@@ -44,8 +45,9 @@ abbrev pub flat : List (Row × CellMap) → List (Place × Content)
 flat [] = []
 flat (r ∷ rows) = map (placed r.0) (entries r.1) ++ flat rows
 
-abbrev pub store_in : List Rows → CellMap → Store
-store_in tables counters = from_entries (flat (all_rows tables counters))
+-- the store of tables and counters, where ids have these widths
+abbrev pub store_in : Widths → List Rows → CellMap → Store
+store_in w tables counters = record { widths = w; cells = from_entries (flat (all_rows tables counters)) }
 
 -- the lines of a table's rows
 abbrev pub lines_in : Table → List (List ℕ × CellMap) → List ListLine
@@ -56,5 +58,5 @@ abbrev pub NoCounterRow : List Rows → Type 0
 NoCounterRow tables = row_in (rows_at tables Ids) (0 ∷ []) ≡ empty
 
 -- a line of the counters' row is a counter
-abbrev pub HasNoFlaw : ListLine → Type 0
-HasNoFlaw l = l.table ≡ Ids → l.row ≡ 0 ∷ [] → IsCounter l.qual l.value
+abbrev pub HasNoFlaw : Widths → ListLine → Type 0
+HasNoFlaw w l = l.table ≡ Ids → l.row ≡ 0 ∷ [] → IsCounter w l.qual l.value

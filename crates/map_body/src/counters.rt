@@ -7,12 +7,13 @@ ghost use Rattle.cell_model.specs.Machine.{kind_qual, counter_row};
 ghost use Rattle.cell_model.specs.Counts.{line_of};
 ghost use Rattle.map_body.specs.Whole.{placed};
 ghost use Rattle.packed_cells.specs.Keyed.{cells_in, cell_from, stamped};
-ghost use Rattle.map_body.specs.Counting.{number_in, AllCounters, shown};
+ghost use Rattle.map_body.specs.Counting.{number_in, shown};
+ghost use Rattle.cell_model.specs.KindWidths.{most_ids};
 ghost use Rattle.cell_model.specs.Rising.{IsAboveCells, LinesRise};
 
 use crate::store_lines::add_line;
-use cell_model::{Cells, Listing};
-use row_key::{MOST_IDS, Table};
+use cell_model::{Cells, LineList};
+use row_key::Table;
 use std::alloc::{AllocError, Global};
 use std::marker::Model;
 use tsd_base::kinds::Kind;
@@ -66,9 +67,7 @@ impl Counters {
 
     /// The counter of a kind.
     pub fn number(&self, kind: Kind) -> u32
-        ensures number { result ≡ number_in self.now kind }
-        ensures most { result ≤ MOST_IDS }
-        ensures counters { AllCounters self.now }
+        ensures { result ≡ number_in self.now kind }
     {
         match kind {
             Kind::Metric => self.metric.number,
@@ -79,8 +78,7 @@ impl Counters {
 
     /// Sets the counter of a kind and the version of its cell.
     pub fn set(&mut self, kind: Kind, number: u32, version: u64)
-        requires least { 1 ≤ number }
-        requires most { number ≤ MOST_IDS }
+        requires { 1 ≤ number }
         ensures { self.new ≡ insert self.old (kind_qual kind) (to_be_bytes w64 number, version) }
     {
         let counter = Counter { number, version };
@@ -114,7 +112,7 @@ impl Counters {
     }
 
     /// Adds the lines of the counters' row.
-    pub fn list(&self, alloc: Global, listing: &mut Listing) -> Result<(), AllocError>
+    pub fn list(&self, alloc: Global, listing: &mut LineList) -> Result<(), AllocError>
         requires { LinesRise (listing.old ++ map line_of (map (placed counter_row) (entries self.now))) }
         ensures { OnOk result (listing.new ≡ listing.old ++ map line_of (map (placed counter_row) (entries self.now))) }
     {
@@ -126,7 +124,12 @@ impl Counters {
 }
 
 // Adds the line of a counter's cell, if it has one.
-fn add(listing: &mut Listing, alloc: Global, kind: Kind, counter: Counter) -> Result<(), AllocError>
+fn add(
+    listing: &mut LineList,
+    alloc: Global,
+    kind: Kind,
+    counter: Counter,
+) -> Result<(), AllocError>
     requires { LinesRise (listing.old ++ map line_of (map (placed counter_row) (shown kind counter))) }
     ensures { OnOk result (listing.new ≡ listing.old ++ map line_of (map (placed counter_row) (shown kind counter))) }
 {
@@ -178,10 +181,9 @@ pub fn kind_of(qual: &[u8]) -> Kind
 
 /// The number of a counter's value.
 pub fn number_of(value: &[u8]) -> u32
-    requires { (number : ℕ) × (1 ≤ number) × (number ≤ MOST_IDS) × (value.now ≡ to_be_bytes w64 number) }
+    requires { (number : ℕ) × (1 ≤ number) × (number ≤ most_ids 4) × (value.now ≡ to_be_bytes w64 number) }
     ensures value { value.now ≡ to_be_bytes w64 result }
     ensures least { 1 ≤ result }
-    ensures most { result ≤ MOST_IDS }
 {
     match value.first_chunk::<8>() {
         Some(bytes) => u64::from_be_bytes(*bytes) as u32,

@@ -6,7 +6,7 @@ ghost use Rattle.cell_model.specs.Rising.{LinesRise, is_above};
 ghost use Rattle.packed_cells.specs.Keyed.{cells_in};
 ghost use Rattle.map_body.specs.Whole.{placed, lines_in};
 
-use cell_model::{Cells, ListLine, Listing};
+use cell_model::{Cells, LineList, ListLine};
 use packed_cells::row_cells::RowCells;
 use qual_codec::Bytes;
 use row_key::Table;
@@ -23,7 +23,7 @@ pub fn copy_cells(alloc: Global, row: &RowCells) -> Result<Cells, AllocError>
 
 /// Adds a line that is above each. It fails only for want of memory.
 pub fn add_line(
-    listing: &mut Listing,
+    listing: &mut LineList,
     alloc: Global,
     table: Table,
     row: &[u8],
@@ -45,7 +45,7 @@ pub fn add_line(
 
 /// Adds the lines of a row.
 fn add_row(
-    listing: &mut Listing,
+    listing: &mut LineList,
     alloc: Global,
     table: Table,
     bytes: &Bytes,
@@ -71,7 +71,7 @@ fn add_row(
 
 /// Adds the lines of rows, in their order.
 pub fn add_rows(
-    listing: &mut Listing,
+    listing: &mut LineList,
     alloc: Global,
     table: Table,
     mut rows: RowWalk<'_>,

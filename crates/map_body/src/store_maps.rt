@@ -1,11 +1,10 @@
 //! A body whose store is kept in maps.
 ghost use Rattle.std.specs.Prelude.{◌≡◌, ◌≢◌, ◌∷◌, ◌↔◌, [], true, All, IfOk, OnOk, OnErr, IsTrue, length, option_map};
-ghost use Rattle.std.specs.FinMap.{empty};
 ghost use Rattle.row_key.specs.declared.tables.Table.TheVariants.{Ids};
 ghost use Rattle.cell_model.specs.declared.row.Row.{Row};
 ghost use Rattle.cell_model.specs.declared.row.ListLine.{ListLine};
 ghost use Rattle.cell_model.specs.PlaceOrder.{table_number};
-ghost use Rattle.cell_model.specs.Store.{Store, value_at, written};
+ghost use Rattle.cell_model.specs.Store.{Store, no_cells, value_at, written};
 ghost use Rattle.cell_model.specs.Counts.{point_entries};
 ghost use Rattle.cell_model.specs.Listed.{store_of};
 ghost use Rattle.cell_model.specs.Sound.{IsCounter};
@@ -15,9 +14,11 @@ ghost use Rattle.map_body.specs.Whole.{HasNoFlaw};
 use crate::counters::{Counters, kind_of, number_of};
 use crate::store_lines::copy_cells;
 use crate::table_rows::TableRows;
-use cell_model::{Body, Bumped, Cells, Claimed, Drops, Found, ListLine, Listing, Row, Tally};
+use cell_model::{
+    Body, Bumped, Cells, Claimed, Drops, Found, LineList, ListLine, Listing, Row, Tally, width_of,
+};
 use qual_codec::Bytes;
-use row_key::{MOST_IDS, Table};
+use row_key::{Table, Widths, most_ids};
 use std::alloc::{AllocError, Global};
 use std::marker::Model;
 use tsd_base::kinds::Kind;
@@ -28,6 +29,7 @@ use tsd_base::kinds::Kind;
 /// Contracts see it as the store.
 #[derive(Drop)]
 pub struct MapBody {
+    widths: Widths,
     // By the number of the table. The row of the counters isn't among them.
     tables: [TableRows; 3],
     counters: Counters,
@@ -42,19 +44,21 @@ impl Model for MapBody {
     ghost coded = { coded_store };
 
     ghost use Rattle.std.specs.Prelude.{◌≡◌, length};
+    ghost use Rattle.map_body.specs.Counting.{AllCounters};
     ghost use Rattle.map_body.specs.Whole.{store_in, NoCounterRow};
 
-    ghost view = { λ b. store_in b.tables b.counters };
+    ghost view = { λ b. store_in b.widths b.tables b.counters };
 
-    ghost invariant = { λ b. NoCounterRow b.tables × (length b.tables ≡ 3) };
+    ghost invariant = { λ b. NoCounterRow b.tables × (length b.tables ≡ 3) × AllCounters b.widths b.counters };
 }
 
 impl MapBody {
-    /// The body of an empty store. It takes no memory.
-    pub fn make(alloc: Global) -> MapBody
-        ensures { result ≡ empty }
+    /// The body of an empty store whose ids have these widths. It takes no memory.
+    pub fn make(alloc: Global, widths: Widths) -> MapBody
+        ensures { result ≡ no_cells widths }
     {
         MapBody {
+            widths,
             tables: [
                 TableRows::make(alloc),
                 TableRows::make(alloc),
@@ -66,10 +70,10 @@ impl MapBody {
 
     /// The body of a listing's store. Each line of the counters' row is a counter. It fails only for want of memory.
     pub fn of(alloc: Global, listing: Listing) -> Result<MapBody, AllocError>
-        requires { All HasNoFlaw listing }
+        requires { All (HasNoFlaw listing.widths) listing.lines }
         ensures { IfOk result (λ body. body ≡ store_of listing) }
     {
-        let mut body = MapBody::make(alloc);
+        let mut body = MapBody::make(alloc, listing.widths);
         for line in listing.lines() {
             body.load(alloc, line)?;
         }
@@ -78,7 +82,7 @@ impl MapBody {
 
     /// Writes the cell of a line with version 0, over an older one too. A line of the counters' row is a counter.
     pub fn load(&mut self, alloc: Global, line: &ListLine) -> Result<(), AllocError>
-        requires { HasNoFlaw line.now }
+        requires { HasNoFlaw self.old.widths line.now }
         ensures ok { OnOk result (self.new ≡ written self.old (record { table = line.now.table; bytes = line.now.row }) line.now.qual line.now.value 0) }
         ensures err { OnErr result (self.new ≡ self.old) }
     {
@@ -132,6 +136,10 @@ impl Body for MapBody {
 
     ghost covers = { λ _ _. true };
 
+    fn widths(&self) -> Widths {
+        self.widths
+    }
+
     fn read(&self, alloc: Global, row: &Row) -> Result<Cells, AllocError> {
         if is_counter_row(row.table, &row.bytes) {
             let cells = self.counters.cells(alloc)?;
@@ -167,7 +175,8 @@ impl Body for MapBody {
 
     fn bump(&mut self, kind: Kind) -> Bumped {
         let given = self.counters.number(kind);
-        if given >= MOST_IDS {
+        let most = most_ids(width_of(kind, self.widths));
+        if given >= most {
             return Bumped::Full;
         }
         self.counters.set(kind, given + 1, 0);
@@ -231,7 +240,7 @@ impl Body for MapBody {
     }
 
     fn listing(&self, alloc: Global) -> Result<Listing, AllocError> {
-        let mut listing = Listing::none(alloc);
+        let mut listing = LineList::none(alloc);
         let [ids, names, points] = &self.tables;
         let counters = Bytes::short(b"\x00");
         ids.list_below(alloc, Table::Ids, &counters, &mut listing)?;
@@ -239,7 +248,10 @@ impl Body for MapBody {
         ids.list_from(alloc, Table::Ids, &counters, &mut listing)?;
         names.list_from(alloc, Table::Names, &Bytes::none(), &mut listing)?;
         points.list_from(alloc, Table::Points, &Bytes::none(), &mut listing)?;
-        Ok(listing)
+        Ok(Listing {
+            widths: self.widths,
+            lines: listing,
+        })
     }
 }
 

@@ -11,7 +11,7 @@ ghost use Rattle.row_pages.specs.RowMaps.{Rows, rows_below, rows_from};
 ghost use Rattle.map_body.specs.Whole.{lines_in};
 
 use crate::store_lines::add_rows;
-use cell_model::Listing;
+use cell_model::LineList;
 use packed_cells::row_cells::RowCells;
 use qual_codec::Bytes;
 use row_key::Table;
@@ -112,7 +112,7 @@ impl TableRows {
         alloc: Global,
         table: Table,
         to: &Bytes,
-        listing: &mut Listing,
+        listing: &mut LineList,
     ) -> Result<(), AllocError>
         requires { LinesRise (listing.old ++ lines_in table (rows_below to.now (entries self.now))) }
         ensures lines { OnOk result (listing.new ≡ listing.old ++ lines_in table (rows_below to.now (entries self.now))) }
@@ -128,7 +128,7 @@ impl TableRows {
         alloc: Global,
         table: Table,
         from: &Bytes,
-        listing: &mut Listing,
+        listing: &mut LineList,
     ) -> Result<(), AllocError>
         requires { LinesRise (listing.old ++ lines_in table (rows_from from.now (entries self.now))) }
         ensures { OnOk result (listing.new ≡ listing.old ++ lines_in table (rows_from from.now (entries self.now))) }

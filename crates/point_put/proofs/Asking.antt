@@ -8,7 +8,8 @@ use Rattle.tsd_base.specs.declared.kinds.Kind.{Kind}
 use Rattle.cell_model.specs.declared.events.Placed.{Placed}
 use Rattle.cell_model.specs.declared.answers.Claimed.{Claimed}
 use Rattle.cell_model.specs.declared.answers.Claimed.TheVariants.{Done, Held}
-use Rattle.cell_model.specs.IdRows.{id_bytes}
+use Rattle.cell_model.specs.KindWidths.{Widths, kind_bytes}
+use Rattle.cell_model.specs.Store.{Store}
 use Rattle.cell_model.specs.Seen.{Seen}
 use Rattle.cell_model.specs.Deeds.{Extends}
 use Rattle.uid_table.specs.declared.id_answers.Assigned.{Assigned}
@@ -34,31 +35,31 @@ abbrev Names : Type 0
 Names = List (Kind × List ℕ)
 
 -- the entries of an assignment are those of one name
-given_up : (c : Admission) (kind : Kind) (name : List ℕ) (d : Placed) (rest : List Placed) → IsAdmitted c kind name → DidLook d kind name None → GaveUp kind name rest → ForName c kind name (d ∷ rest)
-given_up c kind name d _ m l before = ForName.look None l
-given_up c kind name d _ m l (bumped id b) = ForName.bump id m l b
-given_up c kind name d _ m l (reversed id b r) = ForName.reverse id m l b r
+given_up : (w : Widths) (c : Admission) (kind : Kind) (name : List ℕ) (d : Placed) (rest : List Placed) → IsAdmitted c kind name → DidLook d kind name None → GaveUp w kind name rest → ForName w c kind name (d ∷ rest)
+given_up w c kind name d _ m l before = ForName.look None l
+given_up w c kind name d _ m l (bumped id b) = ForName.bump id m l b
+given_up w c kind name d _ m l (reversed id b r) = ForName.reverse id m l b r
 
-all_given : (c : Admission) (kind : Kind) (name : List ℕ) (id : ℕ) (reply : Claimed) (d : Placed) (rest list : List Placed) → IsAdmitted c kind name → list ≡ d ∷ rest → DidLook d kind name None → Gave kind name id reply rest → ForName c kind name list
-all_given c kind name id reply d rest list m is l g = subst (ForName c kind name) (sym (is ∙ ap (λ xs. d ∷ xs) g.list_is)) (ForName.forward id reply m l g.bumped g.reversed g.forwarded)
+all_given : (w : Widths) (c : Admission) (kind : Kind) (name : List ℕ) (id : ℕ) (reply : Claimed) (d : Placed) (rest list : List Placed) → IsAdmitted c kind name → list ≡ d ∷ rest → DidLook d kind name None → Gave w kind name id reply rest → ForName w c kind name list
+all_given w c kind name id reply d rest list m is l g = subst (ForName w c kind name) (sym (is ∙ ap (λ xs. d ∷ xs) g.list_is)) (ForName.forward id reply m l g.bumped g.reversed g.forwarded)
 
-looked_or_kept : (c : Admission) (kind : Kind) (name : List ℕ) (id : ℕ) (list : List Placed) → LookedOrKept kind name id list → ForName c kind name list
-looked_or_kept c kind name id list (inl none) = subst (ForName c kind name) (sym none) ForName.none
-looked_or_kept c kind name id list (inr (d, is, l)) = subst (ForName c kind name) (sym is) (ForName.look _ l)
+looked_or_kept : (w : Widths) (c : Admission) (kind : Kind) (name : List ℕ) (id : ℕ) (list : List Placed) → LookedOrKept w kind name id list → ForName w c kind name list
+looked_or_kept w c kind name id list (inl none) = subst (ForName w c kind name) (sym none) ForName.none
+looked_or_kept w c kind name id list (inr (d, is, l)) = subst (ForName w c kind name) (sym is) (ForName.look _ l)
 
-pub for_assign : (c : Admission) (kind : Kind) (name : List ℕ) (r : Result Assigned AssignFault) (list : List Placed) → makes c.config kind ≡ true → AssignMade c.patterns kind name r list → ForName c kind name list
-for_assign c kind name (Ok (Existing id)) list m kept = looked_or_kept c kind name id list kept
-for_assign c kind name (Ok (Fresh id)) list m (d, rest, is, l, (ok, g)) = all_given c kind name id Done d rest list (m, ok) is l g
-for_assign c kind name (Ok (Lost w id)) list m (d, rest, is, l, (ok, g)) = all_given c kind name w (Held (id_bytes id)) d rest list (m, ok) is l g
-for_assign c kind name (Err (assign.Filtered k)) list m (d, rest, is, l, (same, off, last)) = subst (ForName c kind name) (sym (is ∙ ap (λ xs. d ∷ xs) last)) (ForName.look None l)
-for_assign c kind name (Err (assign.Exhausted k)) list m (d, rest, is, l, (ok, (same, (b, last, did)))) = subst (ForName c kind name) (sym (is ∙ ap (λ xs. d ∷ xs) last)) (ForName.full (m, ok) l did)
-for_assign c kind name (Err assign.OutOfMemory) list m (inl none) = subst (ForName c kind name) (sym none) ForName.none
-for_assign c kind name (Err assign.OutOfMemory) list m (inr (d, rest, is, l, (ok, g))) = subst (ForName c kind name) (sym is) (given_up c kind name d rest (m, ok) l g)
-for_assign c kind name (Err assign.Stopped) list m (inl none) = subst (ForName c kind name) (sym none) ForName.none
-for_assign c kind name (Err assign.Stopped) list m (inr (d, rest, is, l, (ok, g))) = subst (ForName c kind name) (sym is) (given_up c kind name d rest (m, ok) l g)
+pub for_assign : (w : Widths) (c : Admission) (kind : Kind) (name : List ℕ) (r : Result Assigned AssignFault) (list : List Placed) → makes c.config kind ≡ true → AssignMade w c.patterns kind name r list → ForName w c kind name list
+for_assign w c kind name (Ok (Existing id)) list m kept = looked_or_kept w c kind name id list kept
+for_assign w c kind name (Ok (Fresh id)) list m (d, rest, is, l, (ok, g)) = all_given w c kind name id Done d rest list (m, ok) is l g
+for_assign w c kind name (Ok (Lost wasted id)) list m (d, rest, is, l, (ok, g)) = all_given w c kind name wasted (Held (kind_bytes w kind id)) d rest list (m, ok) is l g
+for_assign w c kind name (Err (assign.Filtered k)) list m (d, rest, is, l, (same, off, last)) = subst (ForName w c kind name) (sym (is ∙ ap (λ xs. d ∷ xs) last)) (ForName.look None l)
+for_assign w c kind name (Err (assign.Exhausted k)) list m (d, rest, is, l, (ok, (same, (b, last, did)))) = subst (ForName w c kind name) (sym (is ∙ ap (λ xs. d ∷ xs) last)) (ForName.full (m, ok) l did)
+for_assign w c kind name (Err assign.OutOfMemory) list m (inl none) = subst (ForName w c kind name) (sym none) ForName.none
+for_assign w c kind name (Err assign.OutOfMemory) list m (inr (d, rest, is, l, (ok, g))) = subst (ForName w c kind name) (sym is) (given_up w c kind name d rest (m, ok) l g)
+for_assign w c kind name (Err assign.Stopped) list m (inl none) = subst (ForName w c kind name) (sym none) ForName.none
+for_assign w c kind name (Err assign.Stopped) list m (inr (d, rest, is, l, (ok, g))) = subst (ForName w c kind name) (sym is) (given_up w c kind name d rest (m, ok) l g)
 
-one_name : (c : Admission) (kind : Kind) (name : List ℕ) (list : List Placed) → ForName c kind name list → ForNames c ((kind, name) ∷ []) list
-one_name c kind name list f = subst (ForNames c ((kind, name) ∷ [])) (nothing_behind list) (more f nil)
+one_name : (w : Widths) (c : Admission) (kind : Kind) (name : List ℕ) (list : List Placed) → ForName w c kind name list → ForNames w c ((kind, name) ∷ []) list
+one_name w c kind name list f = subst (ForNames w c ((kind, name) ∷ [])) (nothing_behind list) (more f nil)
 
 shown_one : (s : Seen) (kind : Kind) (name : List ℕ) (id : ℕ) → HasShown s kind name id → AllShown s ((kind, name) ∷ [])
 shown_one s kind name id h k n c = at (split (kind, name) (k, n) [] c)
@@ -74,64 +75,64 @@ shown_none : (s : Seen) → AllShown s []
 shown_none s k n c = absurd (not_in (k, n) c)
 
 -- one name that was assigned
-pub assigned_ok : (c : Admission) (old new : Seen) (kind : Kind) (name : List ℕ) (a : Assigned) (id : ℕ) → makes c.config kind ≡ true → MadeSo old (AssignMade c.patterns kind name (Ok a)) new → HasShown new kind name (answered_id a)
+pub assigned_ok : (c : Admission) (old new : Seen) (kind : Kind) (name : List ℕ) (a : Assigned) (id : ℕ) → makes c.config kind ≡ true → MadeSo old (AssignMade old.base.widths c.patterns kind name (Ok a)) new → HasShown new kind name (answered_id a)
     → NamesAsked {T = ℕ} c ((kind, name) ∷ []) old (Ok id) new
-assigned_ok c old new kind name a id m (list, made, q) h = record { list = list; made = made; entries = one_name c kind name list (for_assign c kind name (Ok a) list m q); answered = shown_one new kind name _ h }
+assigned_ok c old new kind name a id m (list, made, q) h = record { list = list; made = made; entries = one_name old.base.widths c kind name list (for_assign old.base.widths c kind name (Ok a) list m q); answered = shown_one new kind name _ h }
 
-pub assigned_filtered : (c : Admission) (old new : Seen) (kind k : Kind) (name n : List ℕ) → n ≡ name → makes c.config kind ≡ true → MadeSo old (AssignMade c.patterns kind name (Err (assign.Filtered k))) new
+pub assigned_filtered : (c : Admission) (old new : Seen) (kind k : Kind) (name n : List ℕ) → n ≡ name → makes c.config kind ≡ true → MadeSo old (AssignMade old.base.widths c.patterns kind name (Err (assign.Filtered k))) new
     → NamesAsked {T = ℕ} c ((kind, name) ∷ []) old (Err (Filtered k n)) new
 assigned_filtered c old new kind k name n told m (list, made, (d, rest, is, l, (same, off, last))) =
     let one : NamesAsked {T = ℕ} c ((kind, name) ∷ []) old (Err (Filtered kind name)) new = record {
       list = list;
       made = made;
-      entries = one_name c kind name list (for_assign c kind name (Err (assign.Filtered k)) list m (d, rest, is, l, (same, off, last)));
+      entries = one_name old.base.widths c kind name list (for_assign old.base.widths c kind name (Err (assign.Filtered k)) list m (d, rest, is, l, (same, off, last)));
       answered = ((m, off, ([], d, is ∙ ap (λ xs. d ∷ xs) last, l)), ([], [], refl, shown_none new));
     } in
     subst (λ (x : Kind × List ℕ). NamesAsked {T = ℕ} c ((kind, name) ∷ []) old (Err (Filtered x.0 x.1)) new) (λ i. ((sym same) i, (sym told) i)) one
 
 -- no memory for the name that is told
-pub assigned_without : (c : Admission) (old new : Seen) (kind k : Kind) (name : List ℕ) → makes c.config kind ≡ true → MadeSo old (AssignMade c.patterns kind name (Err (assign.Filtered k))) new → NamesAsked {T = ℕ} c ((kind, name) ∷ []) old (Err OutOfMemory) new
-assigned_without c old new kind k name m (list, made, q) = record { list = list; made = made; entries = one_name c kind name list (for_assign c kind name (Err (assign.Filtered k)) list m q); answered = tt }
+pub assigned_without : (c : Admission) (old new : Seen) (kind k : Kind) (name : List ℕ) → makes c.config kind ≡ true → MadeSo old (AssignMade old.base.widths c.patterns kind name (Err (assign.Filtered k))) new → NamesAsked {T = ℕ} c ((kind, name) ∷ []) old (Err OutOfMemory) new
+assigned_without c old new kind k name m (list, made, q) = record { list = list; made = made; entries = one_name old.base.widths c kind name list (for_assign old.base.widths c kind name (Err (assign.Filtered k)) list m q); answered = tt }
 
-pub assigned_full : (c : Admission) (old new : Seen) (kind k : Kind) (name : List ℕ) → makes c.config kind ≡ true → MadeSo old (AssignMade c.patterns kind name (Err (assign.Exhausted k))) new
+pub assigned_full : (c : Admission) (old new : Seen) (kind k : Kind) (name : List ℕ) → makes c.config kind ≡ true → MadeSo old (AssignMade old.base.widths c.patterns kind name (Err (assign.Exhausted k))) new
     → NamesAsked {T = ℕ} c ((kind, name) ∷ []) old (Err (Exhausted k)) new
 assigned_full c old new kind k name m (list, made, (d, rest, is, l, (ok, (same, (b, last, did))))) =
-    let entries = one_name c kind name list (for_assign c kind name (Err (assign.Exhausted k)) list m (d, rest, is, l, (ok, (same, (b, last, did))))) in
+    let entries = one_name old.base.widths c kind name list (for_assign old.base.widths c kind name (Err (assign.Exhausted k)) list m (d, rest, is, l, (ok, (same, (b, last, did))))) in
     let among : Contains list b = subst (λ xs. Contains xs b) (sym (is ∙ ap (λ xs. d ∷ xs) last)) (there d b (b ∷ []) (here b [])) in
     let full : NamesAsked {T = ℕ} c ((kind, name) ∷ []) old (Err (Exhausted kind)) new = record { list = list; made = made; entries = entries; answered = ((m, (b, among, did)), (name, ([], [], refl, shown_none new))) } in
     subst (λ (x : Kind). NamesAsked {T = ℕ} c ((kind, name) ∷ []) old (Err (Exhausted x)) new) (sym same) full
 
-pub assigned_memory : (c : Admission) (old new : Seen) (kind : Kind) (name : List ℕ) → makes c.config kind ≡ true → MadeSo old (AssignMade c.patterns kind name (Err assign.OutOfMemory)) new → NamesAsked {T = ℕ} c ((kind, name) ∷ []) old (Err OutOfMemory) new
-assigned_memory c old new kind name m (list, made, q) = record { list = list; made = made; entries = one_name c kind name list (for_assign c kind name (Err assign.OutOfMemory) list m q); answered = tt }
+pub assigned_memory : (c : Admission) (old new : Seen) (kind : Kind) (name : List ℕ) → makes c.config kind ≡ true → MadeSo old (AssignMade old.base.widths c.patterns kind name (Err assign.OutOfMemory)) new → NamesAsked {T = ℕ} c ((kind, name) ∷ []) old (Err OutOfMemory) new
+assigned_memory c old new kind name m (list, made, q) = record { list = list; made = made; entries = one_name old.base.widths c kind name list (for_assign old.base.widths c kind name (Err assign.OutOfMemory) list m q); answered = tt }
 
-pub assigned_stopped : (c : Admission) (old new : Seen) (kind : Kind) (name : List ℕ) → makes c.config kind ≡ true → MadeSo old (AssignMade c.patterns kind name (Err assign.Stopped)) new → NamesAsked {T = ℕ} c ((kind, name) ∷ []) old (Err Stopped) new
-assigned_stopped c old new kind name m (list, made, q) = record { list = list; made = made; entries = one_name c kind name list (for_assign c kind name (Err assign.Stopped) list m q); answered = tt }
+pub assigned_stopped : (c : Admission) (old new : Seen) (kind : Kind) (name : List ℕ) → makes c.config kind ≡ true → MadeSo old (AssignMade old.base.widths c.patterns kind name (Err assign.Stopped)) new → NamesAsked {T = ℕ} c ((kind, name) ∷ []) old (Err Stopped) new
+assigned_stopped c old new kind name m (list, made, q) = record { list = list; made = made; entries = one_name old.base.widths c kind name list (for_assign old.base.widths c kind name (Err assign.Stopped) list m q); answered = tt }
 
 -- one name that was resolved
-pub resolved_ok : (c : Admission) (old new : Seen) (kind : Kind) (name : List ℕ) (id : ℕ) → MadeSo old (ResolveMade kind name (Ok id)) new → HasShown new kind name id → NamesAsked {T = ℕ} c ((kind, name) ∷ []) old (Ok id) new
-resolved_ok c old new kind name id (list, made, kept) h = record { list = list; made = made; entries = one_name c kind name list (looked_or_kept c kind name id list kept); answered = shown_one new kind name id h }
+pub resolved_ok : (c : Admission) (old new : Seen) (kind : Kind) (name : List ℕ) (id : ℕ) → MadeSo old (ResolveMade old.base.widths kind name (Ok id)) new → HasShown new kind name id → NamesAsked {T = ℕ} c ((kind, name) ∷ []) old (Ok id) new
+resolved_ok c old new kind name id (list, made, kept) h = record { list = list; made = made; entries = one_name old.base.widths c kind name list (looked_or_kept old.base.widths c kind name id list kept); answered = shown_one new kind name id h }
 
-pub resolved_unknown : (c : Admission) (old new : Seen) (kind k : Kind) (name n : List ℕ) → n ≡ name → makes c.config kind ≡ false → MadeSo old (ResolveMade kind name (Err (resolve.Unknown k))) new
+pub resolved_unknown : (c : Admission) (old new : Seen) (kind k : Kind) (name n : List ℕ) → n ≡ name → makes c.config kind ≡ false → MadeSo old (ResolveMade old.base.widths kind name (Err (resolve.Unknown k))) new
     → NamesAsked {T = ℕ} c ((kind, name) ∷ []) old (Err (Unknown k n)) new
 resolved_unknown c old new kind k name n same m (list, made, (of, (d, is, l))) =
     let among : Contains list d = subst (λ xs. Contains xs d) (sym is) (here d []) in
     let one : NamesAsked {T = ℕ} c ((kind, name) ∷ []) old (Err (Unknown kind name)) new = record {
       list = list;
       made = made;
-      entries = one_name c kind name list (subst (ForName c kind name) (sym is) (ForName.look _ l));
+      entries = one_name old.base.widths c kind name list (subst (ForName old.base.widths c kind name) (sym is) (ForName.look _ l));
       answered = ((m, (d, among, l)), ([], [], refl, shown_none new));
     } in
     subst (λ (x : Kind × List ℕ). NamesAsked {T = ℕ} c ((kind, name) ∷ []) old (Err (Unknown x.0 x.1)) new) (λ i. ((sym of) i, (sym same) i)) one
 
 -- no memory for the name that is told
-pub resolved_without : (c : Admission) (old new : Seen) (kind k : Kind) (name : List ℕ) → MadeSo old (ResolveMade kind name (Err (resolve.Unknown k))) new → NamesAsked {T = ℕ} c ((kind, name) ∷ []) old (Err OutOfMemory) new
-resolved_without c old new kind k name (list, made, (of, (d, is, l))) = record { list = list; made = made; entries = one_name c kind name list (subst (ForName c kind name) (sym is) (ForName.look _ l)); answered = tt }
+pub resolved_without : (c : Admission) (old new : Seen) (kind k : Kind) (name : List ℕ) → MadeSo old (ResolveMade old.base.widths kind name (Err (resolve.Unknown k))) new → NamesAsked {T = ℕ} c ((kind, name) ∷ []) old (Err OutOfMemory) new
+resolved_without c old new kind k name (list, made, (of, (d, is, l))) = record { list = list; made = made; entries = one_name old.base.widths c kind name list (subst (ForName old.base.widths c kind name) (sym is) (ForName.look _ l)); answered = tt }
 
-pub resolved_memory : (c : Admission) (old new : Seen) (kind : Kind) (name : List ℕ) → MadeSo old (ResolveMade kind name (Err resolve.OutOfMemory)) new → NamesAsked {T = ℕ} c ((kind, name) ∷ []) old (Err OutOfMemory) new
-resolved_memory c old new kind name (list, made, none) = record { list = list; made = made; entries = one_name c kind name list (subst (ForName c kind name) (sym none) ForName.none); answered = tt }
+pub resolved_memory : (c : Admission) (old new : Seen) (kind : Kind) (name : List ℕ) → MadeSo old (ResolveMade old.base.widths kind name (Err resolve.OutOfMemory)) new → NamesAsked {T = ℕ} c ((kind, name) ∷ []) old (Err OutOfMemory) new
+resolved_memory c old new kind name (list, made, none) = record { list = list; made = made; entries = one_name old.base.widths c kind name list (subst (ForName old.base.widths c kind name) (sym none) ForName.none); answered = tt }
 
-pub resolved_stopped : (c : Admission) (old new : Seen) (kind : Kind) (name : List ℕ) → MadeSo old (ResolveMade kind name (Err resolve.Stopped)) new → NamesAsked {T = ℕ} c ((kind, name) ∷ []) old (Err Stopped) new
-resolved_stopped c old new kind name (list, made, none) = record { list = list; made = made; entries = one_name c kind name list (subst (ForName c kind name) (sym none) ForName.none); answered = tt }
+pub resolved_stopped : (c : Admission) (old new : Seen) (kind : Kind) (name : List ℕ) → MadeSo old (ResolveMade old.base.widths kind name (Err resolve.Stopped)) new → NamesAsked {T = ℕ} c ((kind, name) ∷ []) old (Err Stopped) new
+resolved_stopped c old new kind name (list, made, none) = record { list = list; made = made; entries = one_name old.base.widths c kind name list (subst (ForName old.base.widths c kind name) (sym none) ForName.none); answered = tt }
 
 pub all_kept : (s t : Seen) (names : Names) → Extends s t → AllShown s names → AllShown t names
 all_kept s t names e all k n c = let w = all k n c in (w.0, shown_kept s t k n w.0 e w.1)
@@ -156,14 +157,14 @@ in_left (x ∷ xs) ys y c = elim (split x y xs c) [ inl same ↦ subst (Contains
 all_joined : (s : Seen) (xs ys : Names) → AllShown s xs → AllShown s ys → AllShown s (xs ++ ys)
 all_joined s xs ys a b k n c = elim (in_either xs ys (k, n) c) [ inl l ↦ a k n l | inr r ↦ b k n r ]
 
-names_joined : (c : Admission) (xs ys : Names) (l m : List Placed) → ForNames c xs l → ForNames c ys m → ForNames c (xs ++ ys) (l ++ m)
-names_joined c _ ys _ m nil b = b
-names_joined c _ ys _ m (more {kind} {name} {names} {part} {list} f a) b =
-    subst (ForNames c ((kind, name) ∷ (names ++ ys))) (sym (append_assoc part list m)) (more f (names_joined c names ys list m a b))
+names_joined : (w : Widths) (c : Admission) (xs ys : Names) (l m : List Placed) → ForNames w c xs l → ForNames w c ys m → ForNames w c (xs ++ ys) (l ++ m)
+names_joined w c _ ys _ m nil b = b
+names_joined w c _ ys _ m (more {kind} {name} {names} {part} {list} f a) b =
+    subst (ForNames w c ((kind, name) ∷ (names ++ ys))) (sym (append_assoc part list m)) (more f (names_joined w c names ys list m a b))
 
-pub none_for : (c : Admission) (ys : Names) → ForNames c ys []
-none_for c [] = nil
-none_for c (n ∷ ys) = more ForName.none (none_for c ys)
+pub none_for : (w : Widths) (c : Admission) (ys : Names) → ForNames w c ys []
+none_for w c [] = nil
+none_for w c (n ∷ ys) = more ForName.none (none_for w c ys)
 
 before_more : (s : Seen) (xs ys : Names) (kind : Kind) (name : List ℕ) → AllShown s xs → Before ys kind name (AllShown s) → Before (xs ++ ys) kind name (AllShown s)
 before_more s xs ys kind name a (b, after, is, all) = (xs ++ b, after, ap (λ zs. xs ++ zs) is ∙ sym (append_assoc xs b ((kind, name) ∷ after)), all_joined s xs b a all)
@@ -191,7 +192,7 @@ pub asked_then : {T U : Type 0} (c : Admission) (xs ys : Names) (a b d : Seen) (
 asked_then {T} {U} c xs ys a b d x r p q = record {
   list = p.list ++ q.list;
   made = made_joined a b d p.list q.list p.made q.made;
-  entries = names_joined c xs ys p.list q.list p.entries q.entries;
+  entries = names_joined a.base.widths c xs ys p.list q.list p.entries (subst (λ (s : Store). ForNames s.widths c ys q.list) p.made.since.extends.base q.entries);
   answered = at r q.answered;
 }
   where
@@ -207,7 +208,7 @@ pub asked_failed : {T U : Type 0} (c : Admission) (xs ys : Names) (a b : Seen) (
 asked_failed c xs ys a b e p = record {
   list = p.list;
   made = p.made;
-  entries = subst (ForNames c (xs ++ ys)) (nothing_behind p.list) (names_joined c xs ys p.list [] p.entries (none_for c ys));
+  entries = subst (ForNames a.base.widths c (xs ++ ys)) (nothing_behind p.list) (names_joined a.base.widths c xs ys p.list [] p.entries (none_for a.base.widths c ys));
   answered = fails_before c b xs ys p.list e p.answered;
 }
 

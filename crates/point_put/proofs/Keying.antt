@@ -17,7 +17,7 @@ pub key_shown : (s t : Seen) (p : DataPoint) (key : RowKey) → Extends s t → 
 key_shown s t p key e metric base timed tags pairs = record {
   is_point = record { metric = metric.is_name; tags = tags; timed = timed };
   is_key = record {
-    metric = metric.is_id;
+    metric = (shown_kept s t Metric p.metric key.metric e metric).is_id;
     base = let most = timed.most in omega (arith, base, most);
     hour = omega (arith, base);
     some = let n = pairs.count in let m = tags.some in omega (arith, n, m);

@@ -1,6 +1,6 @@
 -- The cell of a point, with the ids that were seen of its names.
 use Rattle.std.proofs.Common.{◌≡◌, ℕ, ◌≤◌, ◌%◌, List, [], ◌∷◌, length, refl, sym, ap, subst}
-use Rattle.std.specs.Prelude.{Contains, Result, Ok, Err, IsErrAnd, unwrap_or}
+use Rattle.std.specs.Prelude.{Contains, Some, Result, Ok, Err, IsErrAnd, unwrap_or}
 use Rattle.row_hours.specs.declared.hours.TheConstants.{HOUR_MILLIS}
 use Rattle.tsd_base.specs.declared.kinds.Kind.{Kind}
 use Rattle.tsd_base.specs.declared.kinds.Kind.TheVariants.{Metric, TagKey, TagValue}
@@ -15,9 +15,11 @@ use Rattle.cell_model.specs.declared.answers.Stored.{Stored}
 use Rattle.cell_model.specs.declared.row.Row.{Row}
 use Rattle.cell_model.specs.declared.events.Step.TheVariants.{PutPoint}
 use Rattle.cell_model.specs.declared.events.Reply.TheVariants.{Written}
-use Rattle.cell_model.specs.Machine.{kind_qual, MOST_IDS}
+use Rattle.cell_model.specs.KindWidths.{Widths, kind_bytes}
+use Rattle.cell_model.specs.Store.{Store}
+use Rattle.cell_model.specs.Machine.{greatest, kind_qual}
 use Rattle.cell_model.specs.History.{first}
-use Rattle.cell_model.specs.IdRows.{name_row, id_bytes, id_of}
+use Rattle.cell_model.specs.IdRows.{name_row, id_of}
 use Rattle.cell_model.specs.Layout.{HasKey, names_of}
 use Rattle.cell_model.specs.Lawful.{PointBasis}
 use Rattle.cell_model.specs.Readings.{point_row}
@@ -30,7 +32,7 @@ use Rattle.point_put.specs.PutFaults.{put_fault}
 use Rattle.point_put.specs.ShownIds.{AllShown, KeyShown}
 use Rattle.point_put.specs.PutPoint.{StoreMade}
 use Rattle.point_put.specs.StoredTexts.{answer_at}
-use Rattle.cell_laws.proofs.CallerLemmas.{first_lawful, first_fits, wait_made, step_made, itself}
+use Rattle.cell_laws.proofs.CallerLemmas.{first_lawful, first_fits, seen_carry, wait_made, step_made, itself}
 use Rattle.point_put.proofs.Asking.{passed_on}
 
 -- the ids of names in some history that fits
@@ -41,7 +43,7 @@ ids_from-is : (s : Seen) (p : IsPossible s) (kind : Kind) (name : List ℕ) (id 
 unfolding ids_from
 ids_from-is s p kind name id h = ap (λ o. unwrap_or o 0) (h.stands s (itself s) p.history p.lawful p.fits)
 
-has_key : (s : Seen) (p : IsPossible s) (point : DataPoint) (key : RowKey) → KeyShown s point key → HasKey (ids_from s p) point key
+has_key : (s : Seen) (p : IsPossible s) (point : DataPoint) (key : RowKey) → KeyShown s point key → HasKey s.base.widths (ids_from s p) point key
 has_key s p point key k = record {
   is_key = k.is_key;
   metric = sym (ids_from-is s p Metric point.metric key.metric k.metric);
@@ -56,12 +58,12 @@ pub record Laid (s : Seen) (point : DataPoint) (key : RowKey) (row : Row) (qual 
   pub possible : IsPossible s
   pub names : AllShown s (names_of point)
   pub key_is : KeyShown s point key
-  pub row_is : row ≡ point_row (key_bytes key)
+  pub row_is : row ≡ point_row (key_bytes s.base.widths key)
   pub dot : IsDots qual value (dot_of (point.time % HOUR_MILLIS) point.fine point.value (length value) ∷ [])
   pub shortest : IsShortest point.value value
 
 basis : (Has : Kind → List ℕ → ℕ → Type 0) (s : Seen) (point : DataPoint) (key : RowKey) (row : Row) (qual value : List ℕ) → Laid s point key row qual value → ((kind : Kind) (name : List ℕ) (id : ℕ) → HasShown s kind name id → Has kind name id)
-    → PointBasis Has point row qual value
+    → PointBasis s.base.widths Has point row qual value
 basis Has s point key row qual value l of = record {
   is_point = l.key_is.is_point;
   in_points = ap (λ (r : Row). r.table) l.row_is;
@@ -72,7 +74,7 @@ basis Has s point key row qual value l of = record {
 
 -- the put is known to be allowed
 pub knows_put : (s : Seen) (point : DataPoint) (key : RowKey) (row : Row) (qual value : List ℕ) → Laid s point key row qual value
-    → PointBasis (λ kind name id. KnowsCell s (name_row name) (kind_qual kind) (id_bytes id) × (id ≤ MOST_IDS)) point row qual value
+    → PointBasis s.base.widths (λ kind name id. KnowsCell s (name_row name) (kind_qual kind) (kind_bytes s.base.widths kind id) × (id ≤ greatest s.base.widths kind)) point row qual value
 knows_put s point key row qual value l = basis _ s point key row qual value l (λ kind name id h. (h.known, h.is_id.1))
 
 -- and what it makes
@@ -86,7 +88,9 @@ stored old new point key row qual value l step p =
         qual = qual;
         value = value;
         did = (refl, refl);
-        layout = basis _ old point key row qual value l (λ kind name id shown. shown.stands new made.since.extends (first new.length h) (first_lawful h new.length lawful) (first_fits new h fits));
+        layout = seen_carry (first_fits new h fits) (λ (w : Widths). PointBasis w (λ kind name id. id_of (first new.length h) kind name ≡ Some id) point row qual value)
+            (subst (λ (b : Store). PointBasis b.widths (λ kind name id. id_of (first new.length h) kind name ≡ Some id) point row qual value) (sym step.base)
+            (basis _ old point key row qual value l (λ kind name id shown. shown.stands new made.since.extends (first new.length h) (first_lawful h new.length lawful) (first_fits new h fits))));
       }),
       l.key_is.base,
     )
@@ -105,7 +109,7 @@ pub no_memory : (s : Seen) (point : DataPoint) (r : Result Stored PutFault) → 
 no_memory s point r is m = passed_on (λ x. StoreMade point s x s) OutOfMemory r is m
 
 -- the parts of such a cell, under the names that the code has for them
-pub laid : (s : Seen) (point : DataPoint) (key : RowKey) (row : Row) (qual value list : List ℕ) → list ≡ value → KeyShown s point key → AllShown s (names_of point) → IsPossible s → row ≡ point_row (key_bytes key)
+pub laid : (s : Seen) (point : DataPoint) (key : RowKey) (row : Row) (qual value list : List ℕ) → list ≡ value → KeyShown s point key → AllShown s (names_of point) → IsPossible s → row ≡ point_row (key_bytes s.base.widths key)
     → IsDots qual list (dot_of (point.time % HOUR_MILLIS) point.fine point.value (length list) ∷ []) → IsShortest point.value value → Laid s point key row qual value
 laid s point key row qual value list same k names p row_is dot shortest = record {
   possible = p;

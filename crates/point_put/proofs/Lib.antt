@@ -5,3 +5,4 @@ mod Outcomes
 mod PlacedPuts
 mod Tagging
 mod TextOutcomes
+pub mod CallerLemmas

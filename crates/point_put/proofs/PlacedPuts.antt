@@ -1,8 +1,9 @@
 -- Points that are put where they are placed.
-use Rattle.std.proofs.Common.{◌≡◌, ℕ, ◌≤◌, Bool, ℤ, [], ◌∷◌, length, Result, Ok, Err, refl, sym, subst, arith}
+use Rattle.std.proofs.Common.{◌≡◌, ℕ, ◌≤◌, Bool, ℤ, [], ◌∷◌, length, Result, Ok, Err, refl, sym, subst, ◌∙◌, arith}
 use Rattle.tsd_base.specs.declared.points.Point.{Point}
 use Rattle.tsd_base.specs.Points.{DataPoint, data_point}
 use Rattle.tsd_base.specs.Moments.{IsTime}
+use Rattle.row_key.specs.declared.widths.Widths.{Widths}
 use Rattle.row_key.specs.declared.keys.RowKey.{RowKey}
 use Rattle.row_key.specs.Key.{key_bytes}
 use Rattle.cell_model.specs.declared.answers.Stored.{Stored}
@@ -25,8 +26,8 @@ use Rattle.point_put.proofs.Asking.{none_for}
 use Rattle.point_put.proofs.Outcomes.{put_done}
 
 -- the row of a placed point is one of its hour
-pub some_row : (s : Seen) (p : PlacedPoint) → IsPlaced s p → IsSomeRow p.row p.base
-some_row s p h = (h.key, (h.shown.is_key, h.row), h.base)
+pub some_row : (s : Seen) (p : PlacedPoint) → IsPlaced s p → IsSomeRow p.metric_width p.row p.base
+some_row s p h = record { widths = s.base.widths; key = h.key; width_is = h.width; row_of = (h.shown.is_key, h.row); base_is = h.base }
 
 -- the key at another time
 key_moved : (s : Seen) (p : DataPoint) (key : RowKey) (time : ℕ) (fine : Bool) (value : ℤ) → IsTime time fine → KeyShown s p key → KeyShown s (point_at p time fine value) (key_at key (base_time time))
@@ -51,8 +52,9 @@ pub refilled : (s : Seen) (p q : PlacedPoint) (time : ℕ) (fine : Bool) (value 
 refilled s p q time fine value t r h = record {
   key = key_at h.key q.base;
   shown = subst (λ (x : DataPoint × ℕ). KeyShown s x.0 (key_at h.key x.1)) (λ i. (sym r.point i, sym r.base i)) (key_moved s (data_point p.point) h.key time fine value t h.shown);
-  row = r.row h.key (h.shown.is_key, h.row) h.base;
+  row = r.row s.base.widths h.key h.width (h.shown.is_key, h.row) h.base;
   base = refl;
+  width = h.width ∙ sym r.width;
   names = subst (λ (d : DataPoint). AllShown s (names_of d)) (sym r.point) h.names;
   possible = h.possible;
 }
@@ -63,7 +65,7 @@ refilled_as p q time fine value value' same r = subst (λ v. IsRefilled p time f
 
 -- a put whose names were all shown takes one step
 pub put_shown : (c : Admission) (point : DataPoint) (old new : Seen) (key : RowKey) (r : Result Stored PutFault) → AllShown old (names_of point) → StoreMade point old r new → PutSays c point old r new
-put_shown c point old new key r all made = put_done c point old old new key r (record { list = []; made = nothing_made old; entries = none_for c (names_of point); answered = all }) made
+put_shown c point old new key r all made = put_done c point old old new key r (record { list = []; made = nothing_made old; entries = none_for old.base.widths c (names_of point); answered = all }) made
 
 -- a step of a put loses nothing
 pub stored_later : (point : DataPoint) (old new : Seen) (r : Result Stored PutFault) → StoreMade point old r new → IsLater old new
@@ -104,12 +106,13 @@ pub not_refilled : (c : Admission) (s : Seen) (p : PlacedPoint) (point : DataPoi
 not_refilled c s p point same h = put_shown c point s s h.key (Err fault.OutOfMemory) (subst (AllShown s) (sym same) h.names) (nothing_made s)
 
 -- a point in the row of its key
-pub placed : (s : Seen) (point : Point) (key : RowKey) (p : PlacedPoint) → p.point ≡ point → (p.row ≡ point_row (key_bytes key)) × (key.base ≡ p.base) → KeyShown s (data_point point) key → AllShown s (names_of (data_point point)) → IsPossible s → IsPlaced s p
-placed s point key p same row shown names possible = record {
+pub placed : (s : Seen) (w : Widths) (point : Point) (key : RowKey) (p : PlacedPoint) → w ≡ s.base.widths → p.point ≡ point → (p.row ≡ point_row (key_bytes w key)) × (key.base ≡ p.base) × (w.metric ≡ p.metric_width) → KeyShown s (data_point point) key → AllShown s (names_of (data_point point)) → IsPossible s → IsPlaced s p
+placed s w point key p is same row shown names possible = record {
   key = key;
   shown = subst (λ (q : Point). KeyShown s (data_point q) key) (sym same) shown;
-  row = row.0;
+  row = subst (λ (v : Widths). p.row ≡ point_row (key_bytes v key)) is row.0;
   base = row.1;
+  width = subst (λ (v : Widths). v.metric ≡ p.metric_width) is row.2;
   names = subst (λ (q : Point). AllShown s (names_of (data_point q))) (sym same) names;
   possible = possible;
 }

@@ -1,6 +1,7 @@
--- The entries that a caller makes for the names of a point.
+-- The entries that a caller makes for the names of a point, where ids have these widths.
 use Rattle.std.specs.Prelude.{◌≡◌, ℕ, true, false, List, [], ◌∷◌, ◌++◌, Contains, Option, None}
 use Rattle.tsd_base.specs.declared.kinds.Kind.{Kind}
+use Rattle.cell_model.specs.KindWidths.{Widths}
 use Rattle.cell_model.specs.declared.events.Step.TheVariants.{Bump}
 use Rattle.cell_model.specs.declared.events.Reply.TheVariants.{BumpReply}
 use Rattle.cell_model.specs.declared.events.Placed.{Placed}
@@ -12,19 +13,19 @@ use Rattle.point_put.specs.Configs.{makes}
 use Rattle.point_put.specs.Admissions.{Admission, IsAdmitted}
 
 -- the entries for one name: at most four, at most one of them a bump, and that only where the name may be given an id, after a read that found no cell
-pub data ForName (c : Admission) (kind : Kind) (name : List ℕ) : List Placed → Type 0 where
-  none : ForName c kind name []
-  look : {r : Placed} (shown : Option (List ℕ)) → DidLook r kind name shown → ForName c kind name (r ∷ [])
-  full : {r b : Placed} → IsAdmitted c kind name → DidLook r kind name None → Did b (Bump kind) (BumpReply Full) → ForName c kind name (r ∷ b ∷ [])
-  bump : {r b : Placed} (id : ℕ) → IsAdmitted c kind name → DidLook r kind name None → DidBump b kind id → ForName c kind name (r ∷ b ∷ [])
-  reverse : {r b n : Placed} (id : ℕ) → IsAdmitted c kind name → DidLook r kind name None → DidBump b kind id → DidReverse n kind name id → ForName c kind name (r ∷ b ∷ n ∷ [])
-  forward : {r b n f : Placed} (id : ℕ) (reply : Claimed) → IsAdmitted c kind name → DidLook r kind name None → DidBump b kind id → DidReverse n kind name id
-      → DidForward f kind name id reply → ForName c kind name (r ∷ b ∷ n ∷ f ∷ [])
+pub data ForName (w : Widths) (c : Admission) (kind : Kind) (name : List ℕ) : List Placed → Type 0 where
+  none : ForName w c kind name []
+  look : {r : Placed} (shown : Option (List ℕ)) → DidLook r kind name shown → ForName w c kind name (r ∷ [])
+  full : {r b : Placed} → IsAdmitted c kind name → DidLook r kind name None → Did b (Bump kind) (BumpReply Full) → ForName w c kind name (r ∷ b ∷ [])
+  bump : {r b : Placed} (id : ℕ) → IsAdmitted c kind name → DidLook r kind name None → DidBump b kind id → ForName w c kind name (r ∷ b ∷ [])
+  reverse : {r b n : Placed} (id : ℕ) → IsAdmitted c kind name → DidLook r kind name None → DidBump b kind id → DidReverse w n kind name id → ForName w c kind name (r ∷ b ∷ n ∷ [])
+  forward : {r b n f : Placed} (id : ℕ) (reply : Claimed) → IsAdmitted c kind name → DidLook r kind name None → DidBump b kind id → DidReverse w n kind name id
+      → DidForward w f kind name id reply → ForName w c kind name (r ∷ b ∷ n ∷ f ∷ [])
 
 -- the entries for these names, in this order
-pub data ForNames (c : Admission) : List (Kind × List ℕ) → List Placed → Type 0 where
-  nil : ForNames c [] []
-  more : {kind : Kind} {name : List ℕ} {names : List (Kind × List ℕ)} {part list : List Placed} → ForName c kind name part → ForNames c names list → ForNames c ((kind, name) ∷ names) (part ++ list)
+pub data ForNames (w : Widths) (c : Admission) : List (Kind × List ℕ) → List Placed → Type 0 where
+  nil : ForNames w c [] []
+  more : {kind : Kind} {name : List ℕ} {names : List (Kind × List ℕ)} {part list : List Placed} → ForName w c kind name part → ForNames w c names list → ForNames w c ((kind, name) ∷ names) (part ++ list)
 
 -- names of the kind aren't given ids, and a read found no cell of this one
 abbrev pub WasUnknown : Admission → Kind → List ℕ → List Placed → Type 0

@@ -8,7 +8,7 @@ use Rattle.cell_model.specs.declared.events.Reply.TheVariants.{Written}
 use Rattle.cell_model.specs.declared.events.Placed.{Placed}
 use Rattle.cell_model.specs.Layout.{names_of, base_time}
 use Rattle.cell_model.specs.Lawful.{PointBasis}
-use Rattle.cell_model.specs.History.{History, first}
+use Rattle.cell_model.specs.History.{History, first, store_after}
 use Rattle.cell_model.specs.IdRows.{id_of, AllResolved}
 use Rattle.cell_model.specs.Seen.{Seen, InEach}
 use Rattle.cell_model.specs.Deeds.{Made}
@@ -23,14 +23,14 @@ pub record DidPut (h : History) (point : DataPoint) (row : Row) (d : Placed) : T
   pub qual : List ℕ
   pub value : List ℕ
   pub did : Did d (PutPoint point row qual value) Written
-  pub layout : PointBasis (λ kind name id. id_of h kind name ≡ Some id) point row qual value
+  pub layout : PointBasis (store_after h).widths (λ kind name id. id_of h kind name ≡ Some id) point row qual value
 
 -- the entries for the names, and one more, which puts the point
 pub record WasStored (c : Admission) (point : DataPoint) (h : History) (list : List Placed) (stored : Stored) : Type 0 where
   pub names : List Placed
   pub put : Placed
   pub list_is : list ≡ names ++ put ∷ []
-  pub entries : ForNames c (names_of point) names
+  pub entries : ForNames (store_after h).widths c (names_of point) names
   pub did : DidPut h point stored.row put
   pub base : stored.base ≡ base_time point.time
 
@@ -48,11 +48,11 @@ StoreMade point old (Err Stopped) new = Made old [] new
 -- refused, they have none, and the names before the one that is told are resolved; without memory or stopped, they have none.
 abbrev pub PointAsked : Admission → DataPoint → History → List Placed → Result Stored PutFault → Type 0
 PointAsked c point h list (Ok stored) = WasStored c point h list stored
-PointAsked c point h list (Err (Unknown kind name)) = ForNames c (names_of point) list × WasUnknown c kind name list × Before (names_of point) kind name (AllResolved h)
-PointAsked c point h list (Err (Filtered kind name)) = ForNames c (names_of point) list × WasFiltered c kind name list × Before (names_of point) kind name (AllResolved h)
-PointAsked c point h list (Err (Exhausted kind)) = ForNames c (names_of point) list × WasExhausted c kind list × ((name : List ℕ) × Before (names_of point) kind name (AllResolved h))
-PointAsked c point h list (Err OutOfMemory) = ForNames c (names_of point) list
-PointAsked c point h list (Err Stopped) = ForNames c (names_of point) list
+PointAsked c point h list (Err (Unknown kind name)) = ForNames (store_after h).widths c (names_of point) list × WasUnknown c kind name list × Before (names_of point) kind name (AllResolved h)
+PointAsked c point h list (Err (Filtered kind name)) = ForNames (store_after h).widths c (names_of point) list × WasFiltered c kind name list × Before (names_of point) kind name (AllResolved h)
+PointAsked c point h list (Err (Exhausted kind)) = ForNames (store_after h).widths c (names_of point) list × WasExhausted c kind list × ((name : List ℕ) × Before (names_of point) kind name (AllResolved h))
+PointAsked c point h list (Err OutOfMemory) = ForNames (store_after h).widths c (names_of point) list
+PointAsked c point h list (Err Stopped) = ForNames (store_after h).widths c (names_of point) list
 
 -- the caller made these entries and no other, by which the point was asked, in each history that fits
 abbrev pub PutSays : Admission → DataPoint → Seen → Result Stored PutFault → Seen → Type 0

@@ -27,7 +27,7 @@ Answered c names s (Err fault) list = Fails c names s fault list
 pub record NamesAsked {T : Type 0} (c : Admission) (names : List (Kind × List ℕ)) (old : Seen) (result : Result T PutFault) (new : Seen) : Type 0 where
   pub list : List Placed
   pub made : Made old list new
-  pub entries : ForNames c names list
+  pub entries : ForNames old.base.widths c names list
   pub answered : Answered c names new result list
 
 -- the pairs before this place are below the id, the others above it

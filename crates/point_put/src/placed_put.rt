@@ -19,7 +19,7 @@ use crate::point_cell::row_of;
 use crate::point_key::key_for;
 use crate::put_cell::store_placed;
 use cell_model::rows::Rows;
-use row_key::RowKey;
+use row_key::{RowKey, Widths};
 use std::alloc::{AllocError, Global};
 use tsd_base::points::Point;
 use tsd_hooks::UidRule;
@@ -40,7 +40,7 @@ pub fn put_first<R: Rows + Drop>(
     ensures leaves { Leaves is_stop result (R.seen names.new) (R.stops names.old) (R.stops names.new) }
 {
     let key = key_for(names, alloc, rule, config, &point)?;
-    let Ok(placed) = place(alloc, point, &key) else {
+    let Ok(placed) = place(alloc, point, &key, names.widths()) else {
         return Err(PutFault::OutOfMemory);
     };
     match store_placed(names, alloc, &placed) {
@@ -50,16 +50,22 @@ pub fn put_first<R: Rows + Drop>(
 }
 
 /// A point in the row of its key.
-fn place(alloc: Global, point: Point, key: &RowKey) -> Result<PlacedPoint, AllocError>
-    requires { IsKey key.now }
+fn place(
+    alloc: Global,
+    point: Point,
+    key: &RowKey,
+    widths: Widths,
+) -> Result<PlacedPoint, AllocError>
+    requires { IsKey widths key.now }
     ensures point { IfOk result (λ placed. placed.point ≡ point) }
-    ensures row { IfOk result (λ placed. (placed.row ≡ point_row (key_bytes key.now)) × (key.now.base ≡ placed.base)) }
+    ensures row { IfOk result (λ placed. (placed.row ≡ point_row (key_bytes widths key.now)) × (key.now.base ≡ placed.base) × (widths.metric ≡ placed.metric_width)) }
 {
-    let row = row_of(alloc, key)?;
+    let row = row_of(alloc, key, widths)?;
     Ok(PlacedPoint {
         point,
         row,
         base: key.base,
+        metric_width: widths.metric,
     })
 }
 

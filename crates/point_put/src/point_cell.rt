@@ -8,16 +8,16 @@ ghost use Rattle.cell_model.specs.Readings.{point_row};
 use cell_model::row::Row;
 use qual_codec::{Bytes, Item, laws, pack_item, pack_value};
 use row_hours::HOUR_MILLIS;
-use row_key::{RowKey, Table, write_key};
+use row_key::{RowKey, Table, Widths, write_key};
 use std::alloc::{AllocError, Global};
 use tsd_base::points::Point;
 
 /// The row of a key.
-pub fn row_of(alloc: Global, key: &RowKey) -> Result<Row, AllocError>
-    requires { IsKey key.now }
-    ensures { IfOk result (λ row. row ≡ point_row (key_bytes key.now)) }
+pub fn row_of(alloc: Global, key: &RowKey, widths: Widths) -> Result<Row, AllocError>
+    requires { IsKey widths key.now }
+    ensures { IfOk result (λ row. row ≡ point_row (key_bytes widths key.now)) }
 {
-    let bytes = write_key(key);
+    let bytes = write_key(key, widths);
     Ok(Row {
         table: Table::Points,
         bytes: Bytes::of(alloc, bytes.as_slice())?,

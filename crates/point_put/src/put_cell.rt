@@ -32,7 +32,7 @@ pub fn store<R: Rows + Drop>(
     ensures made { StoreMade (data_point point.now) (R.seen names.old) result (R.seen names.new) }
     ensures leaves { Leaves is_stop result (R.seen names.new) (R.stops names.old) (R.stops names.new) }
 {
-    let row = row_of(alloc, key)?;
+    let row = row_of(alloc, key, names.widths())?;
     let value = value_of(point);
     let qual = qualifier_of(point, value.list());
     names.put_point(alloc, point, &row, &qual, &value)?;

@@ -8,6 +8,8 @@ use Rattle.query_text.specs.declared.queries.Query.{Query}
 use Rattle.query_run.specs.declared.fault.AskFault.{AskFault}
 use Rattle.query_run.specs.Parts.{AreQuerySteps}
 use Rattle.query_run.specs.AskedQueries.{QuerySays, QueryAsked, plain_result}
+-- a conflict is of two readings that were accepted, and so of a series with two values at one time
+pub use Rattle.query_run.proofs.Outcomes.{StandIn, no_conflict_of}
 
 -- what is said of a query by what its caller saw before and after it holds of each history that is possible then
 pub query_asked : (q : Query) (old new : Seen) (result : Result Reply AskFault) → QuerySays q old result new → Since old new × InEach new (λ h. QueryAsked h old.caller old.length q (plain_result result) new.length)

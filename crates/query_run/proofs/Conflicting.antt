@@ -5,6 +5,7 @@ use Rattle.std.proofs.lemmas.List.Elements.{Contains-append_left, Contains-appen
 use Rattle.tsd_base.specs.declared.kinds.Kind.{Kind}
 use Rattle.tsd_base.specs.declared.kinds.Kind.TheVariants.{Metric, TagKey}
 use Rattle.tsd_base.specs.TagList.{Pair}
+use Rattle.row_key.specs.declared.widths.Widths.{Widths}
 use Rattle.row_key.specs.declared.keys.RowKey.{RowKey}
 use Rattle.row_key.specs.Key.{IsKey, key_bytes}
 use Rattle.qual_codec.specs.declared.cells.Dot.{Dot}
@@ -40,18 +41,18 @@ pub record StoodFound (h : History) (now : ℕ) (f : Found) : Type 0 where
   pub up_to : when ≤ now
   pub has : HasCell (store_after (first when h)) f.row
 
-pub found_stood : (spare id start end : ℕ) (old new : Seen) (own : List Placed) (founds : List Found) (ids : List IdOf) (h : History) → Counted spare id start end own founds ids → Made old own new → IsLawful h → Fits new h → (f : Found) → Contains founds f → StoodFound h new.length f
-found_stood spare id start end old new own founds ids h c made lawful fits f i =
+pub found_stood : (spare : ℕ) (widths : Widths) (id start end : ℕ) (old new : Seen) (own : List Placed) (founds : List Found) (ids : List IdOf) (h : History) → Counted spare widths id start end own founds ids → Made old own new → IsLawful h → Fits new h → (f : Found) → Contains founds f → StoodFound h new.length f
+found_stood spare widths id start end old new own founds ids h c made lawful fits f i =
     let w = c.by f i in
     let at = (lower.made_stands old new own h made fits).each w.0 w.2 in
     let place = w.0.place in
     let within = at.0 in
     record { when = w.0.place - 1; up_to = omega (arith, within); has = lower.next_has (store_after (first (w.0.place - 1) h)) w.1.from w.1.to f (lower.placed_next h w.0 w.1 (Some f) lawful at.1 w.3) }
 
-pub row_names : (h : History) (now id start end : ℕ) (f : Found) (key : RowKey) → IsLawful h → StoodFound h now f → KeyOf id start end f key → lower.StoodRow (first now h) (key_bytes key)
-row_names h now id start end f key lawful s of =
+pub row_names : (h : History) (now : ℕ) (widths : Widths) (id start end : ℕ) (f : Found) (key : RowKey) → IsLawful h → StoodFound h now f → KeyOf widths id start end f key → lower.StoodRow (first now h) (key_bytes widths key)
+row_names h now widths id start end f key lawful s of =
     let has = s.has in
-    lower.row_stood h s.when now (key_bytes key) has.0 has.1 lawful s.up_to (subst (λ (r : Row). value_at (store_after (first s.when h)) r has.0 ≡ Some has.1) of.row_is has.2)
+    lower.row_stood h s.when now (key_bytes widths key) has.0 has.1 lawful s.up_to (subst (λ (r : Row). value_at (store_after (first s.when h)) r has.0 ≡ Some has.1) of.row_is has.2)
 
 -- ---- the reading at the conflict
 
@@ -66,24 +67,24 @@ first_value : (vs : List ℤ) (c : ℤ × ℤ) → first_conflict vs ≡ Some c 
 first_value [] c e = absurd (none_some c e)
 first_value (v ∷ vs) c e = (v, lower.here v vs)
 
-one_key_each : (g : History) (key : RowKey) (s : lower.StoodRow g (key_bytes key)) → IsKey key → (p q : ℕ × ℕ) (name : List ℕ) → Contains key.pairs.items p → Contains key.pairs.items q → name_of g TagKey p.0 ≡ Some name → name_of g TagKey q.0 ≡ Some name → p.0 ≡ q.0
+one_key_each : (g : History) (key : RowKey) (s : lower.StoodRow g (key_bytes (store_after g).widths key)) → IsKey (store_after g).widths key → (p q : ℕ × ℕ) (name : List ℕ) → Contains key.pairs.items p → Contains key.pairs.items q → name_of g TagKey p.0 ≡ Some name → name_of g TagKey q.0 ≡ Some name → p.0 ≡ q.0
 one_key_each g key s is p q name c d x y =
-    let same = lower.one_key key s.key is s.is_key s.row_is in
+    let same = lower.one_key (store_after g).widths key s.key is s.is_key s.row_is in
     let a = (s.tags p (subst (λ (k : RowKey). Contains k.pairs.items p) same c)).0 in
     let b = (s.tags q (subst (λ (k : RowKey). Contains k.pairs.items q) same d)).0 in
     let an : a.name ≡ name = same_Some a.name name (sym a.name_is ∙ x) in
     let bn : b.name ≡ name = same_Some b.name name (sym b.name_is ∙ y) in
     same_Some p.0 q.0 (sym a.id_is ∙ ap (id_of g TagKey) (an ∙ sym bn) ∙ b.id_is)
 
-stood_tags : (g : History) (key : RowKey) → lower.StoodRow g (key_bytes key) → IsKey key → (tags : List Pair) × Named (name_of g) key.pairs.items tags
+stood_tags : (g : History) (key : RowKey) → lower.StoodRow g (key_bytes (store_after g).widths key) → IsKey (store_after g).widths key → (tags : List Pair) × Named (name_of g) key.pairs.items tags
 stood_tags g key s is =
     tags_exist (name_of g) key.pairs.items (one_key_each g key s is) is.rising (λ p c.
-    let same = lower.one_key key s.key is s.is_key s.row_is in
+    let same = lower.one_key (store_after g).widths key s.key is s.is_key s.row_is in
     let t = s.tags p (subst (λ (k : RowKey). Contains k.pairs.items p) same c) in
     ((t.0.name, t.1.name), (t.0.name_is, t.1.name_is)))
 
-pub has_conflict : (picks : Picks) (g : History) (start end : ℕ) (metric : List ℕ) (filters : List Filter) (id : ℕ) (f : Found) (time : ℕ) (a b : ℤ) → name_of g Metric id ≡ Some metric → (r : RowConflicts picks id start end f time a b) → lower.StoodRow g (key_bytes r.key) → PicksBy picks filters (name_of g) r.key
-    → HasConflict (name_of g) (is_wanted start end metric filters) f time a b
+pub has_conflict : (picks : Picks) (g : History) (start end : ℕ) (metric : List ℕ) (filters : List Filter) (id : ℕ) (f : Found) (time : ℕ) (a b : ℤ) → name_of g Metric id ≡ Some metric → (r : RowConflicts picks (store_after g).widths id start end f time a b) → lower.StoodRow g (key_bytes (store_after g).widths r.key) → PicksBy picks filters (name_of g) r.key
+    → HasConflict (store_after g).widths (name_of g) (is_wanted start end metric filters) f time a b
 has_conflict picks g start end metric filters id f time a b named r s by =
     let c = r.conflict in
     let v = first_value (values_at c.offset c.all) (a, b) c.values in
@@ -108,20 +109,20 @@ has_conflict picks g start end metric filters id f time a b named r s by =
       are_dots = c.are;
       values = c.values;
       reading = reading;
-      reads = dot_reads (name_of g) id start end f r.key c.all reading r.of c.are reads;
+      reads = dot_reads (name_of g) (store_after g).widths id start end f r.key c.all reading r.of c.are reads;
       at_time = refl;
       asked = is_asked start end metric filters reading refl c.within (sym (by tags.0 tags.1) ∙ r.picked);
     }
 
 -- and none of its conflicts is earlier
-pub least_conflict : (picks : Picks) (names : Kind → ℕ → Option (List ℕ)) (start end : ℕ) (metric : List ℕ) (filters : List Filter) (id : ℕ) (f : Found) (time : ℕ) (a b : ℤ) → RowConflicts picks id start end f time a b → (t : ℕ) (c d : ℤ) → HasConflict names (is_wanted start end metric filters) f t c d → time ≤ t
-least_conflict picks names start end metric filters id f time a b r t c d x = at (below_or t time)
+pub least_conflict : (picks : Picks) (widths : Widths) (names : Kind → ℕ → Option (List ℕ)) (start end : ℕ) (metric : List ℕ) (filters : List Filter) (id : ℕ) (f : Found) (time : ℕ) (a b : ℤ) → RowConflicts picks widths id start end f time a b → (t : ℕ) (c d : ℤ) → HasConflict widths names (is_wanted start end metric filters) f t c d → time ≤ t
+least_conflict picks widths names start end metric filters id f time a b r t c d x = at (below_or t time)
   where
     below_or : (m n : ℕ) → (m < n) ⊎ (n ≤ m)
     below_or m n = grind arith
 
     keys : x.key ≡ r.key
-    keys = lower.one_key x.key r.key x.is_key r.of.is_key (ap (λ (w : Row). w.bytes) (sym x.row_is ∙ r.of.row_is))
+    keys = lower.one_key widths x.key r.key x.is_key r.of.is_key (ap (λ (w : Row). w.bytes) (sym x.row_is ∙ r.of.row_is))
 
     t_is : t ≡ r.key.base * 1000 + x.offset
     t_is = x.time_is ∙ ap (λ (k : RowKey). k.base * 1000 + x.offset) keys
@@ -144,8 +145,9 @@ least_conflict picks names start end metric filters id f time a b r t c d x = at
 
 -- the row of a reading that is wanted, of a cell that was there, is one of the metric in these hours, and is asked for
 asked_row : (picks : Picks) (h : History) (from now start end : ℕ) (metric : List ℕ) (filters : List Filter) (id : ℕ) (row qual value : List ℕ) (r : Reading) → IsLawful h → from ≤ now → id_of (first now h) Metric metric ≡ Some id
-    → ((key : RowKey) → IsKey key → HasCell (store_after (first now h)) (point_row (key_bytes key)) → PicksBy picks filters (name_of (first now h)) key) → value_at (store_after (first from h)) (point_row row) qual ≡ Some value
-    → CellReads (name_of (first now h)) row qual value r → IsTrue (is_wanted start end metric filters r) → IsRowOf id (base_time start) (base_time end) (point_row row) × IsWanted (picked_by picks) (point_row row)
+    → ((key : RowKey) → IsKey (store_after (first now h)).widths key → HasCell (store_after (first now h)) (point_row (key_bytes (store_after (first now h)).widths key)) → PicksBy picks filters (name_of (first now h)) key) → value_at (store_after (first from h)) (point_row row) qual ≡ Some value
+    → CellReads (store_after (first now h)).widths (name_of (first now h)) row qual value r → IsTrue (is_wanted start end metric filters r)
+    → IsRowOf (store_after (first now h)).widths id (base_time start) (base_time end) (point_row row) × IsWanted (store_after (first now h)).widths (picked_by picks) (point_row row)
 asked_row picks h from now start end metric filters id row qual value r lawful le known by is c wants =
     let d = c.dot_reads in
     let a = asks start end metric filters r wants in
@@ -165,8 +167,8 @@ asked_row picks h from now start end metric filters id row qual value r lawful l
     )
 
 -- in a history that has these entries: reads, and then those of a scan that was broken off by the conflict
-module _ (picks : Picks) (h : History) (now start end : ℕ) (metric : List ℕ) (filters : List Filter) (id : ℕ) (looks own : List Placed) (time : ℕ) (a b : ℤ) (lawful : IsLawful h) (order : InOrder h now (looks ++ own)) (reads : AreReads looks) (f : FoundConflict picks id start end own time a b)
-    (by_row : (key : RowKey) → IsKey key → HasCell (store_after (first now h)) (point_row (key_bytes key)) → PicksBy picks filters (name_of (first now h)) key) where
+module _ (picks : Picks) (h : History) (now start end : ℕ) (metric : List ℕ) (filters : List Filter) (id : ℕ) (looks own : List Placed) (time : ℕ) (a b : ℤ) (lawful : IsLawful h) (order : InOrder h now (looks ++ own)) (reads : AreReads looks) (f : FoundConflict picks (store_after (first now h)).widths id start end own time a b)
+    (by_row : (key : RowKey) → IsKey (store_after (first now h)).widths key → HasCell (store_after (first now h)) (point_row (key_bytes (store_after (first now h)).widths key)) → PicksBy picks filters (name_of (first now h)) key) where
   abbrev from : ℕ
   from = before_first (looks ++ own) now
 
@@ -182,15 +184,15 @@ module _ (picks : Picks) (h : History) (now start end : ℕ) (metric : List ℕ)
   early : from ≤ now
   early = let s = stand.each f.last (Contains-append_right looks own f.last last_in) in let low = s.1 in let high = s.2 in omega (arith, low, high)
 
-  all_below : id_of (first now h) Metric metric ≡ Some id → ShowsRowsBelow (store_after (first from h)) (name_of (first now h)) (is_wanted start end metric filters) (looks ++ f.earlier) f.found.row
+  all_below : id_of (first now h) Metric metric ≡ Some id → ShowsRowsBelow (store_after (first from h)) (store_after (first now h)).widths (name_of (first now h)) (is_wanted start end metric filters) (looks ++ f.earlier) f.found.row
   all_below known row qual value r is c wants less =
       let of = asked_row picks h from now start end metric filters id row qual value r lawful early known by_row is c wants in
       let w = f.passed h from lawful (λ q i. let s = stand.each q (Contains-append_right looks own q i) in (s.0, s.1)) (point_row row) of.0 of.1 (qual, value, is) less in
       (w.0, shown_after looks f.earlier w.0 w.1, w.2)
 
-  pub first_conflict_of : name_of (first now h) Metric id ≡ Some metric → id_of (first now h) Metric metric ≡ Some id → lower.StoodRow (first now h) (key_bytes f.conflict.key)
-      → ((found : Found) (key : RowKey) → ShowsRow own found → KeyOf id start end found key → PicksBy picks filters (name_of (first now h)) key)
-      → FirstConflict (store_after (first from h)) (name_of (first now h)) (is_wanted start end metric filters) (looks ++ own) time a b
+  pub first_conflict_of : name_of (first now h) Metric id ≡ Some metric → id_of (first now h) Metric metric ≡ Some id → lower.StoodRow (first now h) (key_bytes (store_after (first now h)).widths f.conflict.key)
+      → ((found : Found) (key : RowKey) → ShowsRow own found → KeyOf (store_after (first now h)).widths id start end found key → PicksBy picks filters (name_of (first now h)) key)
+      → FirstConflict (store_after (first from h)) (store_after (first now h)).widths (name_of (first now h)) (is_wanted start end metric filters) (looks ++ own) time a b
   first_conflict_of named known s by = record {
     earlier = looks ++ f.earlier;
     at = f.last;
@@ -199,10 +201,10 @@ module _ (picks : Picks) (h : History) (now start end : ℕ) (metric : List ℕ)
     conflict_free = λ found shows.
         let w = shown_behind looks f.earlier found reads shows in
         let c = f.conflict_free w.placed found w.among w.reply in
-        conflict_free_row picks (name_of (first now h)) id start end metric filters found c (by found c.key (record { placed = w.placed; among = earlier_in w.placed w.among; reply = w.reply }) c.of);
+        conflict_free_row picks (name_of (first now h)) (store_after (first now h)).widths id start end metric filters found c (by found c.key (record { placed = w.placed; among = earlier_in w.placed w.among; reply = w.reply }) c.of);
     found = f.found;
     reply = f.reply;
     passed = all_below known;
     conflict = has_conflict picks (first now h) start end metric filters id f.found time a b named f.conflict s (by f.found f.conflict.key (record { placed = f.last; among = last_in; reply = f.reply }) f.conflict.of);
-    least = least_conflict picks (name_of (first now h)) start end metric filters id f.found time a b f.conflict;
+    least = least_conflict picks (store_after (first now h)).widths (name_of (first now h)) start end metric filters id f.found time a b f.conflict;
   }

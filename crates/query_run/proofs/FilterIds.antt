@@ -12,7 +12,7 @@ use Rattle.row_key.specs.Key.{IsKey, key_bytes}
 use Rattle.query_text.specs.declared.queries.Test.{Test}
 use Rattle.query_text.specs.declared.queries.Test.TheVariants as text
 use Rattle.query_text.specs.declared.queries.Filter.{Filter}
-use Rattle.cell_model.specs.History.{History}
+use Rattle.cell_model.specs.History.{History, store_after}
 use Rattle.cell_model.specs.IdRows.{id_of, name_of}
 use Rattle.cell_model.specs.Lawful.{IsLawful}
 use Rattle.cell_model.specs.Readings.{Named}
@@ -116,11 +116,11 @@ module _ (g : History) (s : Seen) (now : (kind : Kind) (name : List ℕ) (id : �
     all_same (f ∷ filters) (by ∷ list) z = λ i. filter_same f by z.0 i && all_same filters list z.1 i
 
   -- of a row that stood
-  pub picks_by : (filters : List Filter) (list : List IdFilter) (key : RowKey) → AreIdFilters s filters list → IsKey key → lower.StoodRow g (key_bytes key) → PicksBy (passes list) filters (name_of g) key
+  pub picks_by : (filters : List Filter) (list : List IdFilter) (key : RowKey) → AreIdFilters s filters list → IsKey (store_after g).widths key → lower.StoodRow g (key_bytes (store_after g).widths key) → PicksBy (passes list) filters (name_of g) key
   picks_by filters list key z is row tags named = all_same key.pairs.items tags named key_of value_of filters list z
     where
       same : key ≡ row.key
-      same = lower.one_key key row.key is row.is_key row.row_is
+      same = lower.one_key (store_after g).widths key row.key is row.is_key row.row_is
 
       its : (p : ℕ × ℕ) → Contains key.pairs.items p → lower.IsOf g TagKey p.0 × lower.IsOf g TagValue p.1
       its p c = row.tags p (subst (λ (k : RowKey). Contains k.pairs.items p) same c)

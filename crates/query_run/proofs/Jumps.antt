@@ -1,8 +1,8 @@
 -- Going on behind a key that fails a filter.
-use Rattle.std.proofs.Common.{◌≡◌, ◌⊎◌, inl, inr, ℕ, ◌+◌, ◌-◌, ◌%◌, ◌^◌, ◌<◌, ◌≤◌, Bool, true, false, List, [], ◌∷◌, ◌++◌, length, take, drop, get_or, refl, sym, ap, subst, ◌∙◌, arith, append_assoc, length-append}
+use Rattle.std.proofs.Common.{◌≡◌, ◌⊎◌, inl, inr, ℕ, ◌+◌, ◌-◌, ◌%◌, ◌^◌, ◌<◌, ◌≤◌, Bool, true, false, List, [], ◌∷◌, ◌++◌, length, take, drop, get_or, min, refl, sym, ap, subst, ◌∙◌, arith, append_assoc, length-append}
 use Rattle.std.specs.Prelude.{All, AllPairs, Contains, Option, None, Some, IfSome, nat_eq, ◌&&◌}
 use Rattle.std.specs.Global.{Vec}
-use Rattle.std.specs.List.{list_all, list_any}
+use Rattle.std.specs.List.{list_any}
 use Rattle.std.specs.declared.cmp.Ordering.TheVariants.{Less}
 use Rattle.std.specs.Ordering.{is_lt, nat_cmp, ordering_then}
 use Rattle.std.specs.Cmp.Lexicographic.{slice_cmp}
@@ -10,22 +10,26 @@ use Rattle.std.proofs.lemmas.Bool.{false≢true}
 use Rattle.std.proofs.lemmas.Bool.Decides.{nat_tests}
 use Rattle.std.proofs.lemmas.List.{get_or_default, take-append-drop, drop_more, take_more, length-take-le}
 use Rattle.std.proofs.lemmas.List.Elements.{All-contains, All-push, All-take, All-weaker, Contains-append_right, Contains-append_cases}
+use Rattle.row_key.specs.declared.widths.Widths.{Widths}
 use Rattle.row_key.specs.declared.keys.RowKey.{RowKey}
 use Rattle.row_hours.specs.declared.hours.TheConstants.{HOUR}
-use Rattle.row_key.specs.declared.ids.TheConstants.{MOST_IDS}
-use Rattle.row_key.specs.Key.{IsId, IsKey}
+use Rattle.row_key.specs.Key.{IsId, IsKey, IsWidth, most_ids}
 use Rattle.row_key.specs.KeyOrder.{key_cmp, pair_cmp}
 use Rattle.query_run.specs.declared.id_filter.IdTest.{IdTest}
 use Rattle.query_run.specs.declared.id_filter.IdTest.TheVariants.{OneOf}
 use Rattle.query_run.specs.declared.id_filter.IdFilter.{IdFilter}
-use Rattle.query_run.specs.IdFilters.{passes, passes_filter, passes_test}
-use Rattle.query_run.specs.KeyJumps.{IsFromTo, JumpsOver, IsBehind, IsNextValue}
+use Rattle.query_run.specs.IdFilters.{passes_filter, passes_test}
+use Rattle.query_run.specs.KeyJumps.{IsFromTo, JumpsOver, IsBehind, IsLeastAbove, IsNextId, IsNextValue}
 use Rattle.query_run.proofs.AnyOf.{in_any, any_in}
 use Rattle.query_run.proofs.Lower as lower
 use Rattle.query_run.proofs.PairOrder.{Lesser, then_assoc, tied, not_under, under, less_is, same_then, never_below_none, behind_front, value_above, ValueBetween, value_between, first_from, rising_front, rising_rest, hour_tied}
 
 abbrev Pairs : Type 0
 Pairs = List (ℕ × ℕ)
+
+-- the ids of a pair are ids
+abbrev ArePairIds : Widths → ℕ × ℕ → Type 0
+ArePairIds widths p = IsId widths.tag_key p.0 × IsId widths.tag_value p.1
 
 not_true : (b : Bool) → (b ≡ true → ⊥) → b ≡ false
 not_true true no_ = absurd (no_ refl)
@@ -71,7 +75,7 @@ none_passes f front tail pair up before at =
     ])
 
 -- a key, cut at one of its pairs
-module _ (key : RowKey) (place id value : ℕ) (is : IsKey key) (lt : place < length key.pairs.items) (at : get_or key.pairs.items place (0, 0) ≡ (id, value)) where
+module _ (widths : Widths) (key : RowKey) (place id value : ℕ) (is : IsKey widths key) (lt : place < length key.pairs.items) (at : get_or key.pairs.items place (0, 0) ≡ (id, value)) where
   abbrev front : Pairs
   front = take place key.pairs.items
 
@@ -87,24 +91,24 @@ module _ (key : RowKey) (place id value : ℕ) (is : IsKey key) (lt : place < le
   lesser : (p : ℕ × ℕ) → Contains front p → p.0 < id
   lesser p c = lower.pairs_before Lesser front (id, value) rest rising p c
 
-  its_ids : IsId id × IsId value
-  its_ids = subst (λ (p : ℕ × ℕ). IsId p.0 × IsId p.1) at (is.ids place (0, 0) lt)
+  its_ids : ArePairIds widths (id, value)
+  its_ids = subst (ArePairIds widths) at (is.ids place (0, 0) lt)
 
   -- and another with a greater value there, and nothing behind it
-  module _ (target : RowKey) (next : ℕ) (metric : target.metric ≡ key.metric) (base : target.base ≡ key.base) (pairs : target.pairs.items ≡ front ++ (id, next) ∷ []) (above : value < next) (most : next ≤ MOST_IDS) where
-    put_key : IsKey target
+  module _ (target : RowKey) (next : ℕ) (metric : target.metric ≡ key.metric) (base : target.base ≡ key.base) (pairs : target.pairs.items ≡ front ++ (id, next) ∷ []) (above : value < next) (most : next ≤ most_ids widths.tag_value) where
+    put_key : IsKey widths target
     put_key =
         let size = ap (λ (l : Pairs). length l) pairs ∙ length-append front ((id, next) ∷ []) in
         let taken = length-take-le place key.pairs.items (omega (arith, lt)) in
         let few = is.most in
         record {
-          metric = subst IsId (sym metric) is.metric;
+          metric = subst (IsId widths.metric) (sym metric) is.metric;
           base = subst (λ b. b < 2 ^ 32) (sym base) is.base;
           hour = ap (λ b. b % HOUR) base ∙ is.hour;
           some = omega (arith, size);
           most = omega (arith, size, taken, lt, few);
-          ids = subst (All (λ (p : ℕ × ℕ). IsId p.0 × IsId p.1)) (sym pairs)
-              (All-push (λ (p : ℕ × ℕ). IsId p.0 × IsId p.1) front (id, next) (All-take (λ (p : ℕ × ℕ). IsId p.0 × IsId p.1) place key.pairs.items is.ids) (its_ids.0, (omega (arith, above), most)));
+          ids = subst (All (ArePairIds widths)) (sym pairs)
+              (All-push (ArePairIds widths) front (id, next) (All-take (ArePairIds widths) place key.pairs.items is.ids) (its_ids.0, (omega (arith, above), most)));
           rising = subst (AllPairs Lesser) (sym pairs) (lower.pairs_push Lesser front (id, next) (rising_front front ((id, value) ∷ rest) rising) lesser);
         }
 
@@ -119,7 +123,7 @@ module _ (key : RowKey) (place id value : ℕ) (is : IsKey key) (lt : place < le
         value_between front id value next rest k.pairs.items (ap (λ (l : Pairs). is_lt (slice_cmp pair_cmp k.pairs.items l)) (sym cut) ∙ h.on) (ap (λ (l : Pairs). slice_cmp pair_cmp k.pairs.items l) (sym pairs) ∙ h.below)
 
     -- no value in between passes
-    pub value_jumps : (f : IdFilter) → id ≡ f.key → IsNextValue f.test value next → JumpsOver (passes_filter f) key target
+    pub value_jumps : (f : IdFilter) → id ≡ f.key → IsNextValue (most_ids widths.tag_value) f.test value (Some next) → JumpsOver widths (passes_filter f) key target
     value_jumps f same n = record {
       is_key = put_key;
       metric_is = metric;
@@ -127,11 +131,11 @@ module _ (key : RowKey) (place id value : ℕ) (is : IsKey key) (lt : place < le
       over = λ k ik r.
           let b = put_between k r in
           ap (passes_filter f) b.are
-          ∙ none_passes f front b.rest (id, b.at) (subst (AllPairs Lesser) b.are ik.rising) (λ p c. subst (λ n. p.0 < n) same (lesser p c)) (inr (same, n.fails b.at b.from_on b.below));
+          ∙ none_passes f front b.rest (id, b.at) (subst (AllPairs Lesser) b.are ik.rising) (λ p c. subst (λ n. p.0 < n) same (lesser p c)) (inr (same, n.2 b.at b.from_on b.below));
     }
 
     -- what is in between begins with the pairs up to this one
-    pub put_behind : next ≡ value + 1 → IsBehind key (place + 1) target
+    pub put_behind : next ≡ value + 1 → IsBehind widths key (place + 1) target
     put_behind one = record {
       is_key = put_key;
       metric_is = metric;
@@ -149,7 +153,7 @@ module _ (key : RowKey) (place id value : ℕ) (is : IsKey key) (lt : place < le
     }
 
   -- all that begins with the pairs before this one, and is not below, fails the filter as this one does
-  pub behind_jumps : (f : IdFilter) (target : RowKey) → ((p : ℕ × ℕ) → Contains front p → p.0 < f.key) → (f.key < id) ⊎ ((id ≡ f.key) × ((v : ℕ) → value ≤ v → v ≤ MOST_IDS → passes_test f.test v ≡ false)) → IsBehind key place target → JumpsOver (passes_filter f) key target
+  pub behind_jumps : (f : IdFilter) (target : RowKey) → ((p : ℕ × ℕ) → Contains front p → p.0 < f.key) → (f.key < id) ⊎ ((id ≡ f.key) × ((v : ℕ) → value ≤ v → v ≤ most_ids widths.tag_value → passes_test f.test v ≡ false)) → IsBehind widths key place target → JumpsOver widths (passes_filter f) key target
   behind_jumps f target before fails b = record {
     is_key = b.is_key;
     metric_is = b.metric_is;
@@ -158,11 +162,11 @@ module _ (key : RowKey) (place id value : ℕ) (is : IsKey key) (lt : place < le
         let g = b.alike k ik r in
         let w = first_from id value rest g.rest (behind_front front g.rest ((id, value) ∷ rest) ((λ i. is_lt (slice_cmp pair_cmp (sym g.pairs_are i) (sym cut i))) ∙ g.from_on)) in
         let are = g.pairs_are ∙ ap (λ (l : Pairs). front ++ l) w.are in
-        let small = (All-contains (λ (p : ℕ × ℕ). IsId p.0 × IsId p.1) (front ++ w.pair ∷ w.tail) w.pair (subst (All (λ (p : ℕ × ℕ). IsId p.0 × IsId p.1)) are ik.ids) (Contains-append_right front (w.pair ∷ w.tail) w.pair (lower.here w.pair w.tail))).1 in
+        let small = (All-contains (ArePairIds widths) (front ++ w.pair ∷ w.tail) w.pair (subst (All (ArePairIds widths)) are ik.ids) (Contains-append_right front (w.pair ∷ w.tail) w.pair (lower.here w.pair w.tail))).1 in
         ap (passes_filter f) are ∙ none_passes f front w.tail w.pair (subst (AllPairs Lesser) are ik.rising) before (at_first w.pair small.1 w.from_on fails);
   }
     where
-      at_first : (pair : ℕ × ℕ) → pair.1 ≤ MOST_IDS → (id < pair.0) ⊎ ((pair.0 ≡ id) × (value ≤ pair.1)) → (f.key < id) ⊎ ((id ≡ f.key) × ((v : ℕ) → value ≤ v → v ≤ MOST_IDS → passes_test f.test v ≡ false))
+      at_first : (pair : ℕ × ℕ) → pair.1 ≤ most_ids widths.tag_value → (id < pair.0) ⊎ ((pair.0 ≡ id) × (value ≤ pair.1)) → (f.key < id) ⊎ ((id ≡ f.key) × ((v : ℕ) → value ≤ v → v ≤ most_ids widths.tag_value → passes_test f.test v ≡ false))
           → (f.key < pair.0) ⊎ ((pair.0 ≡ f.key) × (passes_test f.test pair.1 ≡ false))
       at_first pair small (inl lt) (inl low) = inl (omega (arith, lt, low))
       at_first pair small (inl lt) (inr fails) = let e = fails.0 in inl (omega (arith, lt, e))
@@ -174,7 +178,7 @@ module _ (key : RowKey) (place id value : ℕ) (is : IsKey key) (lt : place < le
 inside : (place n : ℕ) → place ≤ n → (place ≡ n → ⊥) → place < n
 inside place n le not_end = grind (arith, le, not_end)
 
-module _ (key : RowKey) (listed : Pairs) (place : ℕ) (is : IsKey key) (listed_is : listed ≡ key.pairs.items) (most : place ≤ length listed) (not_end : place ≡ length listed → ⊥) where
+module _ (widths : Widths) (key : RowKey) (listed : Pairs) (place : ℕ) (is : IsKey widths key) (listed_is : listed ≡ key.pairs.items) (most : place ≤ length listed) (not_end : place ≡ length listed → ⊥) where
   abbrev pair : ℕ × ℕ
   pair = get_or listed place (0, 0)
 
@@ -184,50 +188,47 @@ module _ (key : RowKey) (listed : Pairs) (place : ℕ) (is : IsKey key) (listed_
   at : get_or key.pairs.items place (0, 0) ≡ (pair.0, pair.1)
   at = ap (λ (l : Pairs). get_or l place (0, 0)) (sym listed_is)
 
-  pub its_value : pair.1 ≤ MOST_IDS
-  its_value = (its_ids key place pair.0 pair.1 is lt at).1.1
-
   -- where the key of the pair is the filter's, its value fails
   pub its_value_fails : (f : IdFilter) → passes_filter f key.pairs.items ≡ false → pair.0 ≡ f.key → passes_test f.test pair.1 ≡ false
   its_value_fails f fails same = not_true (passes_test f.test pair.1) (λ e.
       let among : Contains key.pairs.items pair = subst (Contains key.pairs.items) at (place, lt, get_or_default key.pairs.items place (get_or key.pairs.items place (0, 0)) (0, 0) lt) in
       false≢true (sym fails ∙ in_any (λ (p : ℕ × ℕ). nat_eq f.key p.0 && passes_test f.test p.1) pair key.pairs.items among (and_true (nat_eq f.key pair.0) (passes_test f.test pair.1) (is_nat f.key pair.0 (sym same)) e)))
 
-  pub value_target : (f : IdFilter) (target : RowKey) (next : ℕ) → pair.0 ≡ f.key → IsNextValue f.test pair.1 next → next ≤ MOST_IDS → target.metric ≡ key.metric → target.base ≡ key.base → target.pairs.items ≡ take place key.pairs.items ++ (pair.0, next) ∷ []
-      → JumpsOver (passes_filter f) key target
-  value_target f target next same n small metric base pairs = value_jumps key place pair.0 pair.1 is lt at target next metric base pairs n.above small f same n
+  pub value_target : (f : IdFilter) (target : RowKey) (next : ℕ) → pair.0 ≡ f.key → IsNextValue (most_ids widths.tag_value) f.test pair.1 (Some next) → target.metric ≡ key.metric → target.base ≡ key.base → target.pairs.items ≡ take place key.pairs.items ++ (pair.0, next) ∷ []
+      → JumpsOver widths (passes_filter f) key target
+  value_target f target next same n metric base pairs = value_jumps widths key place pair.0 pair.1 is lt at target next metric base pairs n.0 n.1 f same n
 
   -- behind all that begin with the pairs before it
-  pub other_target : (f : IdFilter) (o : Option RowKey) → All (λ (p : ℕ × ℕ). p.0 < f.key) (take place listed) → (place < length listed → f.key ≤ pair.0) → (pair.0 ≡ f.key → ⊥) → IfSome o (IsBehind key place) → IfSome o (JumpsOver (passes_filter f) key)
+  pub other_target : (f : IdFilter) (o : Option RowKey) → All (λ (p : ℕ × ℕ). p.0 < f.key) (take place listed) → (place < length listed → f.key ≤ pair.0) → (pair.0 ≡ f.key → ⊥) → IfSome o (IsBehind widths key place) → IfSome o (JumpsOver widths (passes_filter f) key)
   other_target f o before from differs b =
       let low = from (inside place (length listed) most not_end) in
-      if_some (IsBehind key place) (JumpsOver (passes_filter f) key) o (λ target t. behind_jumps key place pair.0 pair.1 is lt at f target (lesser_of f before) (inl (grind (arith, low, differs))) t) b
+      if_some (IsBehind widths key place) (JumpsOver widths (passes_filter f) key) o (λ target t. behind_jumps widths key place pair.0 pair.1 is lt at f target (lesser_of f before) (inl (grind (arith, low, differs))) t) b
     where
       lesser_of : (f : IdFilter) → All (λ (p : ℕ × ℕ). p.0 < f.key) (take place listed) → (p : ℕ × ℕ) → Contains (take place key.pairs.items) p → p.0 < f.key
       lesser_of f all p c = All-contains (λ (q : ℕ × ℕ). q.0 < f.key) (take place key.pairs.items) p (subst (λ (l : Pairs). All (λ (q : ℕ × ℕ). q.0 < f.key) (take place l)) listed_is all) c
 
-  pub last_target : (f : IdFilter) (o : Option RowKey) (next : ℕ) → All (λ (p : ℕ × ℕ). p.0 < f.key) (take place listed) → pair.0 ≡ f.key → IsNextValue f.test pair.1 next → MOST_IDS < next → IfSome o (IsBehind key place) → IfSome o (JumpsOver (passes_filter f) key)
-  last_target f o next before same n large b =
-      if_some (IsBehind key place) (JumpsOver (passes_filter f) key) o
-      (λ target t. behind_jumps key place pair.0 pair.1 is lt at f target
-      (λ p c. All-contains (λ (q : ℕ × ℕ). q.0 < f.key) (take place key.pairs.items) p (subst (λ (l : Pairs). All (λ (q : ℕ × ℕ). q.0 < f.key) (take place l)) listed_is before) c) (inr (same, λ v from small. n.fails v from (omega (arith, small, large)))) t) b
+  pub last_target : (f : IdFilter) (o : Option RowKey) → All (λ (p : ℕ × ℕ). p.0 < f.key) (take place listed) → pair.0 ≡ f.key → IsNextValue (most_ids widths.tag_value) f.test pair.1 None → IfSome o (IsBehind widths key place) → IfSome o (JumpsOver widths (passes_filter f) key)
+  last_target f o before same n b =
+      if_some (IsBehind widths key place) (JumpsOver widths (passes_filter f) key) o
+      (λ target t. behind_jumps widths key place pair.0 pair.1 is lt at f target
+      (λ p c. All-contains (λ (q : ℕ × ℕ). q.0 < f.key) (take place key.pairs.items) p (subst (λ (l : Pairs). All (λ (q : ℕ × ℕ). q.0 < f.key) (take place l)) listed_is before) c) (inr (same, n)) t) b
 
 -- the pair before this one, with the next value
-pub value_more : (key : RowKey) (listed : Pairs) (place : ℕ) (target : RowKey) → IsKey key → listed ≡ key.pairs.items → place ≤ length key.pairs.items → (place ≡ 0 → ⊥) → ((get_or listed (place - 1) (0, 0)).1 ≡ MOST_IDS → ⊥) → target.metric ≡ key.metric → target.base ≡ key.base
-    → target.pairs.items ≡ take (place - 1) key.pairs.items ++ ((get_or listed (place - 1) (0, 0)).0, (get_or listed (place - 1) (0, 0)).1 + 1) ∷ [] → IsBehind key place target
-value_more key listed place target is listed_is le some small metric base pairs =
+pub value_more : (widths : Widths) (key : RowKey) (listed : Pairs) (place next : ℕ) (target : RowKey) → IsKey widths key → listed ≡ key.pairs.items → place ≤ length key.pairs.items → (place ≡ 0 → ⊥) → IsNextId (most_ids widths.tag_value) (get_or listed (place - 1) (0, 0)).1 (Some next) → target.metric ≡ key.metric → target.base ≡ key.base
+    → target.pairs.items ≡ take (place - 1) key.pairs.items ++ ((get_or listed (place - 1) (0, 0)).0, next) ∷ [] → IsBehind widths key place target
+value_more widths key listed place next target is listed_is le some n metric base pairs =
     let lt : place - 1 < length key.pairs.items = grind (arith, le, some) in
     let pair = get_or listed (place - 1) (0, 0) in
     let at : get_or key.pairs.items (place - 1) (0, 0) ≡ (pair.0, pair.1) = ap (λ (l : Pairs). get_or l (place - 1) (0, 0)) (sym listed_is) in
-    let most = (its_ids key (place - 1) pair.0 pair.1 is lt at).1.1 in
     let back : place - 1 + 1 ≡ place = grind (arith, some) in
-    subst (λ n. IsBehind key n target) back (put_behind key (place - 1) pair.0 pair.1 is lt at target (pair.1 + 1) metric base pairs (omega arith) (grind (arith, most, small)) refl)
+    let above = n.0 in
+    subst (λ m. IsBehind widths key m target) back (put_behind widths key (place - 1) pair.0 pair.1 is lt at target next metric base pairs (omega (arith, above)) n.1 n.0)
 
 -- ---- the next hour
 
-not_below_ones : (qs : Pairs) → 1 ≤ length qs → All (λ (p : ℕ × ℕ). IsId p.0 × IsId p.1) qs → slice_cmp pair_cmp qs ((1, 1) ∷ []) ≡ Less → ⊥
-not_below_ones [] some ids e = omega (arith, some)
-not_below_ones (q ∷ qs) some ids e =
+not_below_ones : (widths : Widths) (qs : Pairs) → 1 ≤ length qs → All (ArePairIds widths) qs → slice_cmp pair_cmp qs ((1, 1) ∷ []) ≡ Less → ⊥
+not_below_ones widths [] some ids e = omega (arith, some)
+not_below_ones widths (q ∷ qs) some ids e =
     let is = ids 0 (0, 0) some in
     let key = is.0.0 in
     let value = is.1.0 in
@@ -239,15 +240,19 @@ not_below_ones (q ∷ qs) some ids e =
 between_hours : (a b : ℕ) → a % HOUR ≡ 0 → b % HOUR ≡ 0 → a < b → b < a + HOUR → ⊥
 between_hours a b x y lt less = omega (arith, x, y, lt, less)
 
-pub hour_behind : (key target : RowKey) → IsKey key → target.metric ≡ key.metric → target.base ≡ key.base + HOUR → target.base < 2 ^ 32 → target.pairs.items ≡ (1, 1) ∷ [] → IsBehind key 0 target
-hour_behind key target is metric base fits pairs = record {
+-- each width has an id
+one_id : (width : ℕ) → IsWidth width → IsId width 1
+one_id width fits = (omega arith, lower.at_width (λ k. 1 ≤ most_ids k) (omega arith) (omega arith) (omega arith) width fits)
+
+pub hour_behind : (widths : Widths) (key target : RowKey) → IsKey widths key → target.metric ≡ key.metric → target.base ≡ key.base + HOUR → target.base < 2 ^ 32 → target.pairs.items ≡ (1, 1) ∷ [] → IsBehind widths key 0 target
+hour_behind widths key target is metric base fits pairs = record {
   is_key = record {
-    metric = subst IsId (sym metric) is.metric;
+    metric = subst (IsId widths.metric) (sym metric) is.metric;
     base = fits;
     hour = let h = is.hour in omega (arith, h, base);
     some = let n = ap (λ (l : Pairs). length l) pairs in omega (arith, n);
     most = let n = ap (λ (l : Pairs). length l) pairs in omega (arith, n);
-    ids = subst (All (λ (p : ℕ × ℕ). IsId p.0 × IsId p.1)) (sym pairs) (All-push (λ (p : ℕ × ℕ). IsId p.0 × IsId p.1) [] (1, 1) (λ k d lt. absurd (omega (arith, lt))) ((omega arith, omega arith), (omega arith, omega arith)));
+    ids = subst (All (ArePairIds widths)) (sym pairs) (All-push (ArePairIds widths) [] (1, 1) (λ k d lt. absurd (omega (arith, lt))) (one_id widths.tag_key widths.key_fits, one_id widths.tag_value widths.value_fits));
     rising = subst (AllPairs Lesser) (sym pairs) (λ i j d lt within. absurd (omega (arith, lt, within)));
   };
   metric_is = metric;
@@ -259,53 +264,76 @@ hour_behind key target is metric base fits pairs = record {
       elim (not_under k.base key.base o a.on) [
         | inl lt ↦ elim (under k.base target.base u a.below) [
           | inl less ↦ absurd (between_hours key.base k.base is.hour ik.hour lt (omega (arith, less, base)))
-          | inr tie ↦ absurd (not_below_ones k.pairs.items ik.some ik.ids (ap (λ (l : Pairs). slice_cmp pair_cmp k.pairs.items l) (sym pairs) ∙ tie.1))
+          | inr tie ↦ absurd (not_below_ones widths k.pairs.items ik.some ik.ids (ap (λ (l : Pairs). slice_cmp pair_cmp k.pairs.items l) (sym pairs) ∙ tie.1))
         ]
         | inr tie ↦ record { from_on = tie.1; rest = k.pairs.items; pairs_are = refl }
       ];
 }
 
--- ---- of several filters
-
-all_false : {X : Type 0} (test : X → Bool) (xs : List X) (x : X) → Contains xs x → test x ≡ false → list_all test xs ≡ false
-all_false test [] x c e = absurd (lower.not_in x c)
-all_false {X} test (y ∷ xs) x c e = at (test y) refl (lower.split y x xs c) (λ later. all_false test xs x later e)
-  where
-    at : (b : Bool) → test y ≡ b → (y ≡ x) ⊎ Contains xs x → (Contains xs x → list_all test xs ≡ false) → (b && list_all test xs) ≡ false
-    at false is i go = refl
-    at true is (inl same) go = absurd (false≢true (sym e ∙ ap test (sym same) ∙ is))
-    at true is (inr later) go = go later
-
-pub one_jumps : (filters : List IdFilter) (f : IdFilter) (key target : RowKey) → Contains filters f → JumpsOver (passes_filter f) key target → JumpsOver (passes filters) key target
-one_jumps filters f key target c j = record { is_key = j.is_key; metric_is = j.metric_is; later = j.later; over = λ k ik r. all_false (λ (g : IdFilter). passes_filter g k.pairs.items) filters f c (j.over k ik r) }
-
 -- ---- for the loops
 
-pub least_more : (ids : List ℕ) (i value old new : ℕ) → i < length ids → All (λ id. value < id → old ≤ id) (take i ids) → new ≤ old → (value < get_or ids i 0 → new ≤ get_or ids i 0) → All (λ id. value < id → new ≤ id) (take (i + 1) ids)
-least_more ids i value old new lt all le its =
-    subst (All (λ id. value < id → new ≤ id)) (sym (take_more ids i 0 lt))
-    (All-push (λ id. value < id → new ≤ id) (take i ids) (get_or ids i 0) (All-weaker (λ id. value < id → old ≤ id) (λ id. value < id → new ≤ id) (λ id h above. let o = h above in omega (arith, o, le)) (take i ids) all) its)
+-- one more id that isn't above the value, or is above the greatest
+pub passed_by : (most value id : ℕ) (ids : List ℕ) (least : Option ℕ) → (id ≤ value) ⊎ (most < id) → IsLeastAbove most value ids least → IsLeastAbove most value (ids ++ id ∷ []) least
+passed_by most value id ids (Some least) out (above, small, all) = (above, small, All-push (λ x. value < x → least ≤ x) ids id all (λ lt. elim out [ inl low ↦ absurd (omega (arith, low, lt)) | inr large ↦ omega (arith, small, large) ]))
+passed_by most value id ids None out all = All-push (λ x. value < x → most < x) ids id all (λ lt. elim out [ inl low ↦ absurd (omega (arith, low, lt)) | inr large ↦ large ])
+
+-- one more that is above it, behind others
+pub lesser_of : (most value id other : ℕ) (ids : List ℕ) → value < id → id ≤ most → IsLeastAbove most value ids (Some other) → IsLeastAbove most value (ids ++ id ∷ []) (Some (min other id))
+lesser_of most value id other ids above small (above_other, small_other, all) = (
+  grind (arith, above, above_other),
+  grind (arith, small, small_other),
+  All-push (λ x. value < x → min other id ≤ x) ids id (All-weaker (λ x. value < x → other ≤ x) (λ x. value < x → min other id ≤ x) (λ x h lt. let le = h lt in grind (arith, le)) ids all) (λ lt. grind arith),
+)
+
+-- the first one that is above it
+pub first_above : (most value id : ℕ) (ids : List ℕ) → value < id → id ≤ most → IsLeastAbove most value ids None → IsLeastAbove most value (ids ++ id ∷ []) (Some id)
+first_above most value id ids above small all = (
+  above,
+  small,
+  All-push (λ x. value < x → id ≤ x) ids id (All-weaker (λ x. value < x → most < x) (λ x. value < x → id ≤ x) (λ x h lt. let large = h lt in omega (arith, large, small)) ids all) (λ lt. omega arith),
+)
+
+-- of the ids so far, and of one more
+pub above_more : (most value i : ℕ) (ids : List ℕ) (new : Option ℕ) → i < length ids → IsLeastAbove most value (take i ids ++ get_or ids i 0 ∷ []) new → IsLeastAbove most value (take (i + 1) ids) new
+above_more most value i ids new lt is = subst (λ (l : List ℕ). IsLeastAbove most value l new) (sym (take_more ids i 0 lt)) is
 
 pub before_more : (pairs : Pairs) (i id : ℕ) → i < length pairs → All (λ (p : ℕ × ℕ). p.0 < id) (take i pairs) → (get_or pairs i (0, 0)).0 < id → All (λ (p : ℕ × ℕ). p.0 < id) (take (i + 1) pairs)
 before_more pairs i id lt all its = subst (All (λ (p : ℕ × ℕ). p.0 < id)) (sym (take_more pairs i (0, 0) lt)) (All-push (λ (p : ℕ × ℕ). p.0 < id) (take i pairs) (get_or pairs i (0, 0)) all its)
 
--- the least of the listed ids above a value is the next one
-pub next_listed : (ids : List ℕ) (value next : ℕ) → list_any (nat_eq value) ids ≡ false → All (λ id. value < id → next ≤ id) ids → (id : ℕ) → value ≤ id → id < next → list_any (nat_eq id) ids ≡ false
-next_listed ids value next none all id from below = not_true (list_any (nat_eq id) ids) (λ e.
+above_or : (a b : ℕ) → a ≤ b → (a < b) ⊎ (a ≡ b)
+above_or a b le = grind (arith, le)
+
+-- where the value isn't listed, and each listed id above it is from some number on, none from the value on is listed below that number
+unlisted : (ids : List ℕ) (value from : ℕ) → list_any (nat_eq value) ids ≡ false → All (λ id. value < id → from ≤ id) ids → (id : ℕ) → value ≤ id → id < from → list_any (nat_eq id) ids ≡ false
+unlisted ids value from none all id low below = not_true (list_any (nat_eq id) ids) (λ e.
     let w = any_in (nat_eq id) ids e in
     let same = nat_is id w.0 w.2 in
-    elim (above_or value id from) [
-      | inl lt ↦ (let le = All-contains (λ x. value < x → next ≤ x) ids w.0 all w.1 (omega (arith, lt, same)) in omega (arith, le, below, same))
+    elim (above_or value id low) [
+      | inl lt ↦ (let le = All-contains (λ x. value < x → from ≤ x) ids w.0 all w.1 (omega (arith, lt, same)) in omega (arith, le, below, same))
       | inr tie ↦ false≢true (sym none ∙ ap (λ n. list_any (nat_eq n) ids) tie ∙ e)
     ])
-  where
-    above_or : (a b : ℕ) → a ≤ b → (a < b) ⊎ (a ≡ b)
-    above_or a b le = grind (arith, le)
 
-pub listed_next : (test : IdTest) (ids : Vec ℕ) (listed : List ℕ) (value next : ℕ) → test ≡ OneOf ids → listed ≡ ids.items → passes_test test value ≡ false → value < next → next ≤ 16777216 → All (λ id. value < id → next ≤ id) listed → IsNextValue test value next
-listed_next test ids listed value next is listed_is fails above most least =
-    subst (λ (t : IdTest). IsNextValue t value next) (sym is) (record {
-      above = above;
-      most = most;
-      fails = next_listed ids.items value next (ap (λ (t : IdTest). passes_test t value) (sym is) ∙ fails) (subst (All (λ id. value < id → next ≤ id)) listed_is least);
-    })
+-- the least of the listed ids above a value is the next one
+next_listed : (most value : ℕ) (ids : Vec ℕ) (next : Option ℕ) → list_any (nat_eq value) ids.items ≡ false → IsLeastAbove most value ids.items next → IsNextValue most (OneOf ids) value next
+next_listed most value ids (Some next) none (above, small, all) = (above, small, unlisted ids.items value next none all)
+next_listed most value ids None none all =
+    λ id low small. unlisted ids.items value (most + 1) none (All-weaker (λ x. value < x → most < x) (λ x. value < x → most + 1 ≤ x) (λ x h lt. let large = h lt in omega (arith, large)) ids.items all) id low (omega (arith, small))
+
+pub listed_next : (most : ℕ) (test : IdTest) (ids : Vec ℕ) (listed : List ℕ) (value : ℕ) (next : Option ℕ) → test ≡ OneOf ids → listed ≡ ids.items → passes_test test value ≡ false → IsLeastAbove most value listed next → IsNextValue most test value next
+listed_next most test ids listed value next is listed_is fails least =
+    subst (λ (t : IdTest). IsNextValue most t value next) (sym is) (next_listed most value ids next (ap (λ (t : IdTest). passes_test t value) (sym is) ∙ fails) (subst (λ (l : List ℕ). IsLeastAbove most value l next) listed_is least))
+
+-- with another name of the greatest id
+pub id_named : (told most id next : ℕ) → told ≡ most → IsNextId told id (Some next) → IsNextId most id (Some next)
+id_named told most id next same (is, small) = (is, subst (λ (n : ℕ). next ≤ n) same small)
+
+pub some_next : (told most : ℕ) (test : IdTest) (value next : ℕ) → told ≡ most → IsNextValue told test value (Some next) → IsNextValue most test value (Some next)
+some_next told most test value next same is = subst (λ (n : ℕ). IsNextValue n test value (Some next)) same is
+
+pub none_next : (told most : ℕ) (test : IdTest) (value : ℕ) (next : Option ℕ) → told ≡ most → next ≡ None → IsNextValue told test value next → IsNextValue most test value None
+none_next told most test value next same none is = subst (λ (n : ℕ). IsNextValue n test value None) same (subst (IsNextValue told test value) none is)
+
+-- of any test the id behind the value is the next one
+pub any_next : (most : ℕ) (test : IdTest) (value : ℕ) (next : Option ℕ) → passes_test test value ≡ false → IsNextId most value next → IsNextValue most test value next
+any_next most test value (Some next) fails (is, small) = (omega (arith, is), small, λ id low below. subst (λ n. passes_test test n ≡ false) (let e : value ≡ id = omega (arith, is, low, below) in e) fails)
+any_next most test value None fails large = λ id low small. subst (λ n. passes_test test n ≡ false) (let e : value ≡ id = omega (arith, large, low, small) in e) fails

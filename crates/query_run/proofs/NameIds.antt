@@ -11,7 +11,11 @@ use Rattle.query_text.specs.declared.queries.Test.{Test}
 use Rattle.query_text.specs.declared.queries.Test.TheVariants as text
 use Rattle.query_text.specs.declared.queries.Filter.{Filter}
 use Rattle.cell_model.specs.declared.events.Placed.{Placed}
-use Rattle.cell_model.specs.Seen.{Seen}
+use Rattle.cell_model.specs.KindWidths.{Widths, IsKindId, kind_bytes}
+use Rattle.cell_model.specs.IdRows.{name_row}
+use Rattle.cell_model.specs.Machine.{kind_qual}
+use Rattle.cell_model.specs.Store.{Store}
+use Rattle.cell_model.specs.Seen.{Seen, KnowsCell}
 use Rattle.cell_model.specs.Deeds.{Extends}
 use Rattle.uid_table.specs.declared.id_answers.ResolveFault.TheVariants as resolve
 use Rattle.uid_table.specs.Shown.{HasShown}
@@ -33,9 +37,12 @@ use Rattle.query_run.proofs.Titles.{zip_push}
 
 pub id_later : (s t : Seen) (kind : Kind) (name : List ℕ) (id : ℕ) → Extends s t → HasShown s kind name id → HasShown t kind name id
 id_later s t kind name id e h = record {
-  is_id = h.is_id;
+  is_id = subst (λ (b : Store). IsKindId b.widths kind id) (sym e.base) h.is_id;
   is_name = h.is_name;
-  known = let k = h.known in (k.0, k.1, e.kept k.0 k.1 k.2, k.3);
+  known =
+      let k = h.known in
+      let still : KnowsCell t (name_row name) (kind_qual kind) (kind_bytes s.base.widths kind id) = (k.0, k.1, e.kept k.0 k.1 k.2, k.3) in
+      subst (λ (b : Store). KnowsCell t (name_row name) (kind_qual kind) (kind_bytes b.widths kind id)) (sym e.base) still;
   stands = λ later more. h.stands later (lower.extends_joined s t later e more);
 }
 
@@ -130,18 +137,18 @@ resolved_lost a b ns p = record { list = p.list; made = p.made; looks = p.looks;
 
 -- ---- one name
 
-looks_few : (kind : Kind) (name : List ℕ) (id : ℕ) (list : List Placed) → LookedOrKept kind name id list → AreFew list
-looks_few kind name id list (inl is) = none_few list is
-looks_few kind name id list (inr (d, is, look)) = one_few list d is look
+looks_few : (widths : Widths) (kind : Kind) (name : List ℕ) (id : ℕ) (list : List Placed) → LookedOrKept widths kind name id list → AreFew list
+looks_few widths kind name id list (inl is) = none_few list is
+looks_few widths kind name id list (inr (d, is, look)) = one_few list d is look
 
 one_look : (n : NameOf) (list : List Placed) → AreFew list → AreLooks (n ∷ []) list
 one_look n list f = record { reads = f.0; few = let l = f.1 in omega (arith, l) }
 
-pub name_resolved : (old new : Seen) (kind : Kind) (name : List ℕ) (id : ℕ) → MadeSo old (ResolveMade kind name (Ok id)) new → HasShown new kind name id → AreResolved old ((kind, name) ∷ []) new
+pub name_resolved : (old new : Seen) (kind : Kind) (name : List ℕ) (id : ℕ) → MadeSo old (ResolveMade old.base.widths kind name (Ok id)) new → HasShown new kind name id → AreResolved old ((kind, name) ∷ []) new
 name_resolved old new kind name id (list, made, how) shown = record {
   list = list;
   made = made;
-  looks = one_look (kind, name) list (looks_few kind name id list how);
+  looks = one_look (kind, name) list (looks_few old.base.widths kind name id list how);
   shown = λ n c. elim (lower.split {X = NameOf} (kind, name) n [] c) [
     | inl is ↦ subst (λ (x : NameOf). (i : ℕ) × HasShown new x.0 x.1 i) is (id, shown)
     | inr none ↦ absurd (lower.not_in {X = NameOf} n none)
@@ -149,7 +156,7 @@ name_resolved old new kind name id (list, made, how) shown = record {
 }
 
 -- the name is unknown, or there is no memory to tell it
-pub name_unknown : (old new : Seen) (kind k : Kind) (name : List ℕ) → MadeSo old (ResolveMade kind name (Err (resolve.Unknown k))) new → IsUnresolved old ((kind, name) ∷ []) (Unknown k name) new
+pub name_unknown : (old new : Seen) (kind k : Kind) (name : List ℕ) → MadeSo old (ResolveMade old.base.widths kind name (Err (resolve.Unknown k))) new → IsUnresolved old ((kind, name) ∷ []) (Unknown k name) new
 name_unknown old new kind k name (list, made, (same, (d, is, look))) = record {
   list = list;
   made = made;
@@ -163,13 +170,13 @@ name_unknown old new kind k name (list, made, (same, (d, is, look))) = record {
   });
 }
 
-pub name_untold : (old new : Seen) (kind k : Kind) (name : List ℕ) → MadeSo old (ResolveMade kind name (Err (resolve.Unknown k))) new → IsUnresolved old ((kind, name) ∷ []) OutOfMemory new
+pub name_untold : (old new : Seen) (kind k : Kind) (name : List ℕ) → MadeSo old (ResolveMade old.base.widths kind name (Err (resolve.Unknown k))) new → IsUnresolved old ((kind, name) ∷ []) OutOfMemory new
 name_untold old new kind k name m = let u = name_unknown old new kind k name m in record { list = u.list; made = u.made; looks = u.looks; cause = tt }
 
-pub name_lost : (old new : Seen) (kind : Kind) (name : List ℕ) → MadeSo old (ResolveMade kind name (Err resolve.OutOfMemory)) new → IsUnresolved old ((kind, name) ∷ []) OutOfMemory new
+pub name_lost : (old new : Seen) (kind : Kind) (name : List ℕ) → MadeSo old (ResolveMade old.base.widths kind name (Err resolve.OutOfMemory)) new → IsUnresolved old ((kind, name) ∷ []) OutOfMemory new
 name_lost old new kind name (list, made, is) = record { list = list; made = made; looks = one_look (kind, name) list (none_few list is); cause = tt }
 
-pub name_stopped : (old new : Seen) (kind : Kind) (name : List ℕ) → MadeSo old (ResolveMade kind name (Err resolve.Stopped)) new → IsUnresolved old ((kind, name) ∷ []) Stopped new
+pub name_stopped : (old new : Seen) (kind : Kind) (name : List ℕ) → MadeSo old (ResolveMade old.base.widths kind name (Err resolve.Stopped)) new → IsUnresolved old ((kind, name) ∷ []) Stopped new
 name_stopped old new kind name (list, made, is) = record { list = list; made = made; looks = one_look (kind, name) list (none_few list is); cause = tt }
 
 -- ---- along a list, each of whose elements has names

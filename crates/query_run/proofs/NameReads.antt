@@ -20,7 +20,11 @@ use Rattle.cell_model.specs.declared.events.Step.TheVariants.{Read}
 use Rattle.cell_model.specs.declared.events.Reply.TheVariants.{Shown}
 use Rattle.cell_model.specs.declared.answers.RowsFault.{RowsFault}
 use Rattle.cell_model.specs.declared.answers.RowsFault.TheVariants as rows
-use Rattle.cell_model.specs.Seen.{Seen}
+use Rattle.cell_model.specs.KindWidths.{Widths}
+use Rattle.cell_model.specs.IdRows.{id_row}
+use Rattle.cell_model.specs.Machine.{kind_qual}
+use Rattle.cell_model.specs.Store.{Store}
+use Rattle.cell_model.specs.Seen.{Seen, KnowsCell}
 use Rattle.cell_model.specs.Deeds.{Extends}
 use Rattle.uid_table.specs.Shown.{HasShownName}
 use Rattle.uid_table.specs.IdSteps.{MadeSo, DidRead, NameMade}
@@ -56,7 +60,7 @@ once_nil R i j d lt within = absurd (omega (arith, within))
 -- ---- one id
 
 -- the reads that the name of an id took
-pub name_asked : (old new : Seen) (kind : Kind) (id : ℕ) (before : List (ℕ × List ℕ)) (e : RowsFault) → listed before id ≡ None → MadeSo old (NameMade kind id (Err e)) new → IdCut old id before new
+pub name_asked : (old new : Seen) (kind : Kind) (id : ℕ) (before : List (ℕ × List ℕ)) (e : RowsFault) → listed before id ≡ None → MadeSo old (NameMade old.base.widths kind id (Err e)) new → IdCut old id before new
 name_asked old new kind id before rows.OutOfMemory none (list, made, inl is) = record { list = list; made = made; reads = subst AreReads (sym is) no_reads; few = let l = ap length is in omega (arith, l); fresh = none }
 name_asked old new kind id before rows.OutOfMemory none (list, made, inr (name, (d, is, did))) = record { list = list; made = made; reads = subst AreReads (sym is) (did_read did); few = let l = ap length is in omega (arith, l); fresh = none }
 name_asked old new kind id before rows.Stopped none (list, made, is) = record { list = list; made = made; reads = subst AreReads (sym is) no_reads; few = let l = ap length is in omega (arith, l); fresh = none }
@@ -72,16 +76,16 @@ pub one_few : {row : Row} {kind : Kind} {o : Option (List ℕ)} (list : List Pla
 one_few list d is did = (subst AreReads (sym is) (did_read did), let l = ap length is in omega (arith, l))
 
 -- the reads that learnt a name, or none where it was kept
-name_few : (kind : Kind) (id : ℕ) (name : List ℕ) (list : List Placed) → NameMade kind id (Ok name) list → AreFew list
-name_few kind id name list (inl is) = none_few list is
-name_few kind id name list (inr (d, is, did)) = one_few list d is did
+name_few : (widths : Widths) (kind : Kind) (id : ℕ) (name : List ℕ) (list : List Placed) → NameMade widths kind id (Ok name) list → AreFew list
+name_few widths kind id name list (inl is) = none_few list is
+name_few widths kind id name list (inr (d, is, did)) = one_few list d is did
 
-pub name_lost : (old new : Seen) (kind : Kind) (id : ℕ) (before : List (ℕ × List ℕ)) (name : List ℕ) → listed before id ≡ None → MadeSo old (NameMade kind id (Ok name)) new → IdCut old id before new
-name_lost old new kind id before name none (list, made, how) = let f = name_few kind id name list how in record { list = list; made = made; reads = f.0; few = f.1; fresh = none }
+pub name_lost : (old new : Seen) (kind : Kind) (id : ℕ) (before : List (ℕ × List ℕ)) (name : List ℕ) → listed before id ≡ None → MadeSo old (NameMade old.base.widths kind id (Ok name)) new → IdCut old id before new
+name_lost old new kind id before name none (list, made, how) = let f = name_few old.base.widths kind id name list how in record { list = list; made = made; reads = f.0; few = f.1; fresh = none }
 
-pub name_found : (old new : Seen) (kind : Kind) (id : ℕ) (before after : List (ℕ × List ℕ)) (name : List ℕ) → listed before id ≡ None → MadeSo old (NameMade kind id (Ok name)) new → HasShownName new kind id name
+pub name_found : (old new : Seen) (kind : Kind) (id : ℕ) (before after : List (ℕ × List ℕ)) (name : List ℕ) → listed before id ≡ None → MadeSo old (NameMade old.base.widths kind id (Ok name)) new → HasShownName new kind id name
     → ((q : ℕ) → listed after q ≡ cond (is_at (nat_cmp id) q) (Some name) (listed before q)) → IdNamed old kind id before after new
-name_found old new kind id before after name none (list, made, how) shown now = let f = name_few kind id name list how in asked none made f.0 f.1 shown now
+name_found old new kind id before after name none (list, made, how) shown now = let f = name_few old.base.widths kind id name list how in asked none made f.0 f.1 shown now
 
 none_of : {X : Type 0} (o : Option X) → is_some o ≡ false → o ≡ None
 none_of None e = refl
@@ -150,7 +154,10 @@ only_one P kind id p i c = at (lower.split {X = IdOf} (kind, id) i [] c)
 shown_kept : (s t : Seen) (kind : Kind) (id : ℕ) (name : List ℕ) → Extends s t → HasShownName s kind id name → HasShownName t kind id name
 shown_kept s t kind id name e h = record {
   is_name = h.is_name;
-  known = let k = h.known in (k.0, k.1, e.kept k.0 k.1 k.2, k.3);
+  known =
+      let k = h.known in
+      let still : KnowsCell t (id_row s.base.widths kind id) (kind_qual kind) name = (k.0, k.1, e.kept k.0 k.1 k.2, k.3) in
+      subst (λ (b : Store). KnowsCell t (id_row b.widths kind id) (kind_qual kind) name) (sym e.base) still;
   stands = λ later more. h.stands later (lower.extends_joined s t later e more);
 }
 

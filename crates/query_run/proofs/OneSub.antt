@@ -10,6 +10,7 @@ use Rattle.tsd_base.specs.declared.kinds.Kind.TheVariants.{Metric}
 use Rattle.tsd_base.specs.declared.kinds.Fill.{Fill}
 use Rattle.tsd_base.specs.declared.kinds.Fill.TheVariants.{NoFill, Zero}
 use Rattle.tsd_base.specs.declared.kinds.Down.{Down}
+use Rattle.row_key.specs.declared.widths.Widths.{Widths}
 use Rattle.row_key.specs.declared.keys.RowKey.{RowKey}
 use Rattle.row_key.specs.Key.{IsKey, key_bytes}
 use Rattle.json_reply.specs.Replies.{Group, plain}
@@ -22,13 +23,14 @@ use Rattle.cell_model.specs.declared.events.Placed.{Placed}
 use Rattle.cell_model.specs.History.{History, first, store_after}
 use Rattle.cell_model.specs.IdRows.{id_of, name_of}
 use Rattle.cell_model.specs.Layout.{base_time}
+use Rattle.cell_model.specs.Store.{Store}
 use Rattle.cell_model.specs.Lawful.{IsLawful}
 use Rattle.cell_model.specs.Readings.{point_row}
 use Rattle.cell_model.specs.Seen.{Seen, IsPossible, Fits, InEach}
 use Rattle.cell_model.specs.Deeds.{Made, Extends, InOrder}
 use Rattle.uid_table.specs.Shown.{HasShown}
 use Rattle.row_scan.specs.Laws.{ScanCovers}
-use Rattle.row_scan.specs.Scans.{HasCell}
+use Rattle.row_scan.specs.Scans.{HasCell, IsStart}
 use Rattle.span_merge.specs.Spans.{Span}
 use Rattle.downsample.specs.Buckets.{all_buckets}
 use Rattle.query_run.specs.declared.fault.AskFault.{AskFault}
@@ -175,6 +177,16 @@ module _ (s : Sub) (id : ℕ) (filters : List IdFilter) (old mid new : Seen) (ow
     metric_named : name_of g Metric id ≡ Some s.metric
     metric_named = lower.names_back g Metric s.metric id g_lawful b.metric.is_name metric_known
 
+    -- the widths that were seen are those of the history and of its beginning
+    widths_in : mid.base.widths ≡ (store_after h).widths
+    widths_in = ap (λ (x : Store). x.widths) (sym from_mid.base) ∙ lower.seen_widths later h fits
+
+    widths_here : mid.base.widths ≡ (store_after g).widths
+    widths_here = ap (λ (x : Store). x.widths) (sym from_mid.base) ∙ lower.seen_widths later g g_fits
+
+    counted_here : (spare start end : ℕ) (founds : List Found) (ids : List IdOf) → Counted spare mid.base.widths id start end own founds ids → Counted spare (store_after g).widths id start end own founds ids
+    counted_here spare start end founds ids c = subst (λ (w : Widths). Counted spare w id start end own founds ids) widths_here c
+
     all_resolved : AllResolved g (names_in s)
     all_resolved n c = let w = b.resolved.shown n c in (w.0, w.1.stands later from_mid g g_lawful g_fits)
 
@@ -184,33 +196,34 @@ module _ (s : Sub) (id : ℕ) (filters : List IdFilter) (old mid new : Seen) (ow
         let longer = ext.length in
         record { rising = o.rising; each = λ q c. let w = o.each q c in (let le = w.0 in omega (arith, le, longer), w.1) }
 
-    stood : (spare start end : ℕ) (founds : List Found) (ids : List IdOf) → Counted spare id start end own founds ids → (f : Found) → Contains founds f → StoodFound h later.length f
-    stood spare start end founds ids counted f c =
-        let x = found_stood spare id start end mid new own founds ids h counted b.made lawful (ext.fits h fits) f c in
+    stood : (spare : ℕ) (widths : Widths) (start end : ℕ) (founds : List Found) (ids : List IdOf) → Counted spare widths id start end own founds ids → (f : Found) → Contains founds f → StoodFound h later.length f
+    stood spare widths start end founds ids counted f c =
+        let x = found_stood spare widths id start end mid new own founds ids h counted b.made lawful (ext.fits h fits) f c in
         let le = x.up_to in
         let longer = ext.length in
         record { when = x.when; up_to = omega (arith, le, longer); has = x.has }
 
     -- the filters by ids pick the rows that were found as the filters by names do
-    pick : (spare start end : ℕ) (founds : List Found) (ids : List IdOf) → Counted spare id start end own founds ids → (f : Found) (key : RowKey) → Contains founds f → KeyOf id start end f key → PicksBy (passes filters) s.filters (name_of g) key
+    pick : (spare start end : ℕ) (founds : List Found) (ids : List IdOf) → Counted spare (store_after g).widths id start end own founds ids → (f : Found) (key : RowKey) → Contains founds f → KeyOf (store_after g).widths id start end f key → PicksBy (passes filters) s.filters (name_of g) key
     pick spare start end founds ids counted f key c of =
         picks_by g mid (λ kind name i shown. id_now mid later g kind name i from_mid g_lawful g_fits shown) s.filters filters key b.by of.is_key
-        (row_names h later.length id start end f key lawful (stood spare start end founds ids counted f c) of)
+        (row_names h later.length (store_after g).widths id start end f key lawful (stood spare (store_after g).widths start end founds ids counted f c) of)
 
     -- and the rows that are there
-    pick_row : (key : RowKey) → IsKey key → HasCell (store_after g) (point_row (key_bytes key)) → PicksBy (passes filters) s.filters (name_of g) key
+    pick_row : (key : RowKey) → IsKey (store_after g).widths key → HasCell (store_after g) (point_row (key_bytes (store_after g).widths key)) → PicksBy (passes filters) s.filters (name_of g) key
     pick_row key is has =
         picks_by g mid (λ kind name i shown. id_now mid later g kind name i from_mid g_lawful g_fits shown) s.filters filters key b.by is
-        (lower.row_stood h later.length later.length (key_bytes key) has.0 has.1 lawful (omega arith) has.2)
+        (lower.row_stood h later.length later.length (key_bytes (store_after g).widths key) has.0 has.1 lawful (omega arith) has.2)
 
-  few_later : (q : Query) (founds : List Found) (ids : List IdOf) → Counted 1 id q.start q.end own founds ids → Later new (λ end h. IsFew q s (looks ++ own) (first end h))
+  few_later : (q : Query) (founds : List Found) (ids : List IdOf) → Counted 1 mid.base.widths id q.start q.end own founds ids → Later new (λ end h. IsFew q s (looks ++ own) (first end h))
   few_later q founds ids counted later ext h lawful fits =
-      few_rows (names_in s) q.start q.end s.metric id looks own founds ids h later.length b.resolved.looks.few counted lawful (metric_known later ext h lawful fits) (stood later ext h lawful fits 1 q.start q.end founds ids counted)
+      let here = counted_here later ext h lawful fits 1 q.start q.end founds ids counted in
+      few_rows (names_in s) q.start q.end s.metric id looks own founds ids h later.length b.resolved.looks.few here lawful (metric_known later ext h lawful fits) (stood later ext h lawful fits 1 (store_after (first later.length h)).widths q.start q.end founds ids here)
 
 -- ---- the rows
 
-found_in_own : (picks : Picks) (spare id start end : ℕ) (own : List Placed) (founds : List Found) (ids : List IdOf) (time : ℕ) (a b : ℤ) → Counted spare id start end own founds ids → (f : FoundConflict picks id start end own time a b) → Contains founds f.found
-found_in_own picks spare id start end own founds ids time a b c f =
+found_in_own : (picks : Picks) (spare : ℕ) (widths : Widths) (id start end : ℕ) (own : List Placed) (founds : List Found) (ids : List IdOf) (time : ℕ) (a b : ℤ) → Counted spare widths id start end own founds ids → (f : FoundConflict picks widths id start end own time a b) → Contains founds f.found
+found_in_own picks spare widths id start end own founds ids time a b c f =
     c.shows f.last f.found (subst (λ (l : List Placed). Contains l f.last) (sym f.cut) (Contains-append_right f.earlier (f.last ∷ []) f.last (lower.here f.last []))) f.reply
 
 module _ (q : Query) (s : Sub) (old mid new : Seen) (id : ℕ) (filters : List IdFilter) (free : barred q s ≡ None) where
@@ -226,20 +239,23 @@ module _ (q : Query) (s : Sub) (old mid new : Seen) (id : ℕ) (filters : List I
         few = λ h lawful fits. few_later s id filters old mid new c.own b q c.founds c.ids c.counted new (lower.itself new) h lawful fits;
       }
 
-      at : (e : AskFault) → ConflictOf (passes filters) id q.start q.end c.own e → SubRefused q s old e new
-      at (Duplicate time x y) f =
+      at : (e : AskFault) → ConflictOf (passes filters) mid.base.widths id q.start q.end c.own e → SubRefused q s old e new
+      at (Duplicate time x y) its =
           refused (Duplicate time x y) (λ h lawful fits.
-          let found = found_in_own (passes filters) 1 id q.start q.end c.own c.founds c.ids time x y c.counted f in
-          let stand = stood s id filters old mid new c.own b new (lower.itself new) h lawful fits 1 q.start q.end c.founds c.ids c.counted f.found found in
+          let widths = (store_after (first new.length h)).widths in
+          let counted = counted_here s id filters old mid new c.own b new (lower.itself new) h lawful fits 1 q.start q.end c.founds c.ids c.counted in
+          let f = subst (λ (w : Widths). FoundConflict (passes filters) w id q.start q.end c.own time x y) (widths_here s id filters old mid new c.own b new (lower.itself new) h lawful fits) its in
+          let found = found_in_own (passes filters) 1 widths id q.start q.end c.own c.founds c.ids time x y counted f in
+          let stand = stood s id filters old mid new c.own b new (lower.itself new) h lawful fits 1 widths q.start q.end c.founds c.ids counted f.found found in
           let resolved = all_resolved s id filters old mid new c.own b new (lower.itself new) h lawful fits in
           let named = metric_named s id filters old mid new c.own b new (lower.itself new) h lawful fits in
           let known = metric_known s id filters old mid new c.own b new (lower.itself new) h lawful fits in
           let order = in_order s id filters old mid new c.own b new (lower.itself new) h lawful fits in
-          let row = row_names h new.length id q.start q.end f.found f.conflict.key lawful stand f.conflict.of in (
+          let row = row_names h new.length widths id q.start q.end f.found f.conflict.key lawful stand f.conflict.of in (
             free,
             resolved,
             first_conflict_of (passes filters) h new.length q.start q.end s.metric s.filters id b.resolved.list c.own time x y lawful order b.resolved.looks.reads f (pick_row s id filters old mid new c.own b new (lower.itself new) h lawful fits) named known row
-                (λ other key shows of. pick s id filters old mid new c.own b new (lower.itself new) h lawful fits 1 q.start q.end c.founds c.ids c.counted other key (c.counted.shows shows.placed other shows.among shows.reply) of),
+                (λ other key shows of. pick s id filters old mid new c.own b new (lower.itself new) h lawful fits 1 q.start q.end c.founds c.ids counted other key (counted.shows shows.placed other shows.among shows.reply) of),
           ))
       at OutOfMemory f = refused OutOfMemory (λ h lawful fits. tt)
       at Stopped f = refused Stopped (λ h lawful fits. tt)
@@ -250,15 +266,15 @@ module _ (q : Query) (s : Sub) (old mid new : Seen) (id : ℕ) (filters : List I
 -- ---- the groups
 
 -- the ids of a series with a point are those of a row
-pairs_titled : (picks : Picks) (id start end : ℕ) (founds : List Found) (spans : List Span) (names : Names) → Gathered picks id start end founds spans names → (s : Span) → Contains spans s → ArePairs names s.0
-pairs_titled picks id start end founds spans names g s c = at s.1 refl (g.some s c)
+pairs_titled : (picks : Picks) (widths : Widths) (id start end : ℕ) (founds : List Found) (spans : List Span) (names : Names) → Gathered picks widths id start end founds spans names → (s : Span) → Contains spans s → ArePairs names s.0
+pairs_titled picks widths id start end founds spans names g s c = at s.1 refl (g.some s c)
   where
     at : (dots : List (ℕ × ℤ)) → s.1 ≡ dots → 1 ≤ length s.1 → ArePairs names s.0
     at [] e some = let n = ap length e in absurd (omega (arith, some, n))
     at (d ∷ dots) e some =
         let w = g.from s d c (subst (λ (l : List (ℕ × ℤ)). Contains l d) (sym e) (lower.here d dots)) in
         let row = g.rows w.found w.among in
-        let same : row.key ≡ w.key = lower.one_key row.key w.key row.of.is_key w.of.is_key (ap (λ x. x.bytes) (sym row.of.row_is ∙ w.of.row_is)) in
+        let same : row.key ≡ w.key = lower.one_key widths row.key w.key row.of.is_key w.of.is_key (ap (λ x. x.bytes) (sym row.of.row_is ∙ w.of.row_is)) in
         subst (ArePairs names) w.pairs_are (record {
           some = w.of.is_key.some;
           most = w.of.is_key.most;
@@ -269,7 +285,7 @@ pairs_titled picks id start end founds spans names g s c = at s.1 refl (g.some s
 pub can_title : (picks : Picks) (id start end : ℕ) (old new : Seen) (spans : List Span) (names : Names) → HasCollected picks id start end old spans names new → IsPossible new → CanTitle names spans
 can_title picks id start end old new spans names c p = record {
   one = one_to_one names new p.history c.shown p.lawful p.fits;
-  each = pairs_titled picks id start end c.founds spans names c.content;
+  each = pairs_titled picks old.base.widths id start end c.founds spans names c.content;
 }
 
 pub times_small : (picks : Picks) (id start end : ℕ) (old new : Seen) (spans : List Span) (names : Names) → end ≤ LAST_TIME → HasCollected picks id start end old spans names new → (s : Span) (d : ℕ × ℤ) → Contains spans s → Contains s.1 d → d.0 < 2 ^ 43
@@ -286,9 +302,13 @@ module _ (q : Query) (s : Sub) (old mid new : Seen) (id : ℕ) (filters : List I
       let g = first later.length h in
       let gl = g_lawful s id filters old mid new c.own b later ext h lawful fits in
       let gf = g_fits s id filters old mid new c.own b later ext h lawful fits in
-      stands_in (passes filters) q.start q.end s.metric s.filters id b.resolved.list c.own c.founds c.ids spans names series g b.resolved.looks.reads c.counted c.content titles (metric_named s id filters old mid new c.own b later ext h lawful fits)
-      (metric_known s id filters old mid new c.own b later ext h lawful fits) (λ pairs tags n. named_in names new later g pairs tags c.shown ext gl gf n) (pick s id filters old mid new c.own b later ext h lawful fits 1 q.start q.end c.founds c.ids c.counted)
-      (pick_row s id filters old mid new c.own b later ext h lawful fits) h later.length refl covering lawful (in_order s id filters old mid new c.own b later ext h lawful fits) c.begin c.starts c.whole (names_in s) (all_resolved s id filters old mid new c.own b later ext h lawful fits)
+      let here = widths_here s id filters old mid new c.own b later ext h lawful fits in
+      let counted = counted_here s id filters old mid new c.own b later ext h lawful fits 1 q.start q.end c.founds c.ids c.counted in
+      let content = subst (λ (w : Widths). Gathered (passes filters) w id q.start q.end c.founds spans names) here c.content in
+      let starts = subst (λ (w : Widths). IsStart w id (base_time q.start) (base_time q.end) c.begin) (widths_in s id filters old mid new c.own b later ext h lawful fits) c.starts in
+      stands_in (passes filters) q.start q.end s.metric s.filters id b.resolved.list c.own c.founds c.ids spans names series g b.resolved.looks.reads counted content titles (metric_named s id filters old mid new c.own b later ext h lawful fits)
+      (metric_known s id filters old mid new c.own b later ext h lawful fits) (λ pairs tags n. named_in names new later g pairs tags c.shown ext gl gf n) (pick s id filters old mid new c.own b later ext h lawful fits 1 q.start q.end c.founds c.ids counted)
+      (pick_row s id filters old mid new c.own b later ext h lawful fits) h later.length refl covering lawful (in_order s id filters old mid new c.own b later ext h lawful fits) c.begin starts c.whole (names_in s) (all_resolved s id filters old mid new c.own b later ext h lawful fits)
 
   same_answer : (series : List Series) (wants : Result (List Group) ℕ) → answer q s (points_in s.metric series) ≡ wants → answer_over q s (readings_in s.metric series) ≡ wants
   same_answer series wants e = ap (answer q s) (as_points s.metric series) ∙ e

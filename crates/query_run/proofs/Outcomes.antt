@@ -116,10 +116,10 @@ module _ (h : History) (to : ℕ) (lawful : IsLawful h) (own : List Placed) (sta
       }
 
   -- so a conflict is of two readings that were accepted
-  pub no_conflict_of : (q : Query) (s : Sub) (began : Store) (time : ℕ) (a b : ℤ) → OneValued (AcceptedFor q s (first to h)) → FirstConflict began (name_of (first to h)) (wanted q s) own time a b → ⊥
+  pub no_conflict_of : (q : Query) (s : Sub) (began : Store) (time : ℕ) (a b : ℤ) → OneValued (AcceptedFor q s (first to h)) → FirstConflict began (store_after (first to h)).widths (name_of (first to h)) (wanted q s) own time a b → ⊥
   no_conflict_of q s began time a b one f = none_some (a, b) (sym (lower.no_conflict (values_at c.offset c.dots) values_same) ∙ c.values)
     where
-      c : HasConflict (name_of (first to h)) (wanted q s) f.found time a b
+      c : HasConflict (store_after (first to h)).widths (name_of (first to h)) (wanted q s) f.found time a b
       c = f.conflict
 
       at_in : Contains own f.at
@@ -129,7 +129,7 @@ module _ (h : History) (to : ℕ) (lawful : IsLawful h) (own : List Placed) (sta
       row = c.row_is ∙ ap point_row (sym (ap (λ (r : Row). r.bytes) c.row_is))
 
       key : c.key ≡ c.reads.reads.dot_reads.key
-      key = lower.one_key c.key c.reads.reads.dot_reads.key c.is_key c.reads.reads.dot_reads.is_key (sym (ap (λ (r : Row). r.bytes) c.row_is) ∙ c.reads.reads.dot_reads.row_is)
+      key = lower.one_key (store_after (first to h)).widths c.key c.reads.reads.dot_reads.key c.is_key c.reads.reads.dot_reads.is_key (sym (ap (λ (r : Row). r.bytes) c.row_is) ∙ c.reads.reads.dot_reads.row_is)
 
       with_value : ℤ → Reading
       with_value v = record { metric = c.reading.metric; tags = c.reading.tags; time = time; value = v }
@@ -137,7 +137,7 @@ module _ (h : History) (to : ℕ) (lawful : IsLawful h) (own : List Placed) (sta
       asked : (v : ℤ) → IsTrue (wanted q s (with_value v))
       asked v = sym (by_series q.start q.end s.metric s.filters c.reading (with_value v) (record { metric = refl; tags = refl; time = c.at_time })) ∙ c.asked
 
-      reads_value : (v : ℤ) → Contains (values_at c.offset c.dots) v → RowReads (name_of (first to h)) f.found (with_value v)
+      reads_value : (v : ℤ) → Contains (values_at c.offset c.dots) v → RowReads (store_after (first to h)).widths (name_of (first to h)) f.found (with_value v)
       reads_value v has =
           let d = lower.value_dot c.dots c.offset v has in
           let w = cell_of_dot f.found.cells c.dots d.dot c.are_dots d.among in

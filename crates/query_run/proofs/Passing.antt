@@ -6,6 +6,7 @@ use Rattle.std.specs.declared.cmp.Ordering.TheVariants.{Less, Equal, Greater}
 use Rattle.std.specs.Ordering.{is_lt}
 use Rattle.std.proofs.lemmas.List.Elements.{Contains-append_left, Contains-append_right}
 use Rattle.row_key.specs.declared.tables.Table.TheVariants.{Points}
+use Rattle.row_key.specs.declared.widths.Widths.{Widths}
 use Rattle.cell_model.specs.declared.row.Row.{Row}
 use Rattle.cell_model.specs.declared.row.Found.{Found}
 use Rattle.cell_model.specs.declared.events.Placed.{Placed}
@@ -24,7 +25,7 @@ less_not Greater e n = cc
 
 -- where the scan begins, none is below what is left
 pub below_none : (picks : Picks) (begin : Left) → FoundBelow picks begin begin [] []
-below_none picks begin = record { to = refl; each = λ h n lawful stand row in_range wanted has less. absurd (less_not (bytes_cmp row.bytes begin.from) less (lower.between begin.from begin.to row in_range).from_on) }
+below_none picks begin = record { widths_are = refl; to = refl; each = λ h n lawful stand row in_range wanted has less. absurd (less_not (bytes_cmp row.bytes begin.from) less (lower.between begin.from begin.to row in_range).from_on) }
 
 -- a row of the scan is below what is left, or is left
 below_or_left : (begin left : Left) (row : Row) → left.to ≡ begin.to → IsTrue (is_between Points begin.from begin.to row) → (bytes_cmp row.bytes left.from ≡ Less) ⊎ lower.Between left.from left.to row
@@ -44,7 +45,7 @@ at_or_above h n left p f row lawful at low next b has =
 
 module _ (picks : Picks) (begin left : Left) (own : List Placed) (founds : List Found) (p : Placed) (f : Found) (so : FoundBelow picks begin left own founds) (next : IsNext left (Some f) p) where
   -- each row below the one that the next row finds was found
-  pub found_before : (h : History) (n : ℕ) → IsLawful h → StandAfter h n (own ++ p ∷ []) → (row : Row) → IsTrue (is_between Points begin.from begin.to row) → IsWanted (picked_by picks) row → HasCell (store_after (first n h)) row → bytes_cmp row.bytes f.row.bytes ≡ Less
+  pub found_before : (h : History) (n : ℕ) → IsLawful h → StandAfter h n (own ++ p ∷ []) → (row : Row) → IsTrue (is_between Points begin.from begin.to row) → IsWanted begin.widths (picked_by picks) row → HasCell (store_after (first n h)) row → bytes_cmp row.bytes f.row.bytes ≡ Less
       → (g : Found) × Contains founds g × (g.row ≡ row)
   found_before h n lawful stand row in_range wanted has less = elim (below_or_left begin left row so.to in_range) [
     | inl low ↦ so.each h n lawful (λ q c. stand q (Contains-append_left own (p ∷ []) q c)) row in_range wanted has low
@@ -59,11 +60,12 @@ module _ (picks : Picks) (begin left : Left) (own : List Placed) (founds : List 
   -- and behind it, each up to it
   pub below_more : (list : List Placed) → FoundBelow picks begin (behind left f.row) ((own ++ p ∷ []) ++ list) (founds ++ f ∷ [])
   below_more list = record {
+    widths_are = so.widths_are;
     to = so.to;
     each = λ h n lawful stand row in_range wanted has less. at h n lawful (λ q c. stand q (Contains-append_left (own ++ p ∷ []) list q c)) row in_range wanted has less (below_or_left begin left row so.to in_range);
   }
     where
-      at : (h : History) (n : ℕ) → IsLawful h → StandAfter h n (own ++ p ∷ []) → (row : Row) → IsTrue (is_between Points begin.from begin.to row) → IsWanted (picked_by picks) row → HasCell (store_after (first n h)) row → bytes_cmp row.bytes (behind left f.row).from ≡ Less
+      at : (h : History) (n : ℕ) → IsLawful h → StandAfter h n (own ++ p ∷ []) → (row : Row) → IsTrue (is_between Points begin.from begin.to row) → IsWanted begin.widths (picked_by picks) row → HasCell (store_after (first n h)) row → bytes_cmp row.bytes (behind left f.row).from ≡ Less
           → (bytes_cmp row.bytes left.from ≡ Less) ⊎ lower.Between left.from left.to row → (g : Found) × Contains (founds ++ f ∷ []) g × (g.row ≡ row)
       at h n lawful stand row in_range wanted has less (inl low) =
           let w = so.each h n lawful (λ q c. stand q (Contains-append_left own (p ∷ []) q c)) row in_range wanted has low in
@@ -78,9 +80,10 @@ module _ (picks : Picks) (begin left : Left) (own : List Placed) (founds : List 
 -- where it goes on further, since no row in between is asked for, those below are found still
 pub below_skipped : (picks : Picks) (begin left : Left) (from : List ℕ) (own : List Placed) (founds : List Found) → FoundBelow picks begin left own founds → Skips (picked_by picks) left from → FoundBelow picks begin (left_at left from) own founds
 below_skipped picks begin left from own founds so skips = record {
+  widths_are = so.widths_are;
   to = so.to;
   each = λ h n lawful stand row in_range wanted has less. elim (below_or_left begin left row so.to in_range) [
     | inl low ↦ so.each h n lawful stand row in_range wanted has low
-    | inr b ↦ absurd (less_not (bytes_cmp row.bytes from) less (lower.wanted_stays (picked_by picks) left from row skips wanted b).from_on)
+    | inr b ↦ absurd (less_not (bytes_cmp row.bytes from) less (lower.wanted_stays (picked_by picks) left from row skips (subst (λ (w : Widths). IsWanted w (picked_by picks) row) (sym so.widths_are) wanted) b).from_on)
   ];
 }

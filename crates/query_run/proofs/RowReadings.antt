@@ -10,6 +10,7 @@ use Rattle.tsd_base.specs.declared.kinds.Kind.{Kind}
 use Rattle.tsd_base.specs.declared.kinds.Kind.TheVariants.{Metric}
 use Rattle.tsd_base.specs.TagList.{Pair, is_same}
 use Rattle.list_lemmas.specs.BytesOrder.{bytes_cmp}
+use Rattle.row_key.specs.declared.widths.Widths.{Widths}
 use Rattle.row_key.specs.declared.keys.RowKey.{RowKey}
 use Rattle.qual_codec.specs.declared.cells.Cell.{Cell}
 use Rattle.qual_codec.specs.declared.cells.Dot.{Dot}
@@ -110,10 +111,10 @@ pub record ReadsDot (names : Kind → ℕ → Option (List ℕ)) (key : RowKey) 
   pub time_is : r.time ≡ key.base * 1000 + dot.item.offset
   pub value_is : r.value ≡ dot.value
 
-pub reads_dot : (names : Kind → ℕ → Option (List ℕ)) (id start end : ℕ) (f : Found) (key : RowKey) (all : List Dot) (r : Reading) → KeyOf id start end f key → AreDots f.cells all → RowReads names f r → ReadsDot names key all r
-reads_dot names id start end f key all r of are x =
+pub reads_dot : (names : Kind → ℕ → Option (List ℕ)) (widths : Widths) (id start end : ℕ) (f : Found) (key : RowKey) (all : List Dot) (r : Reading) → KeyOf widths id start end f key → AreDots f.cells all → RowReads widths names f r → ReadsDot names key all r
+reads_dot names widths id start end f key all r of are x =
     let d = x.reads.dot_reads in
-    let same : d.key ≡ key = lower.one_key d.key key d.is_key of.is_key (sym d.row_is ∙ ap (λ (w : Row). w.bytes) of.row_is) in
+    let same : d.key ≡ key = lower.one_key widths d.key key d.is_key of.is_key (sym d.row_is ∙ ap (λ (w : Row). w.bytes) of.row_is) in
     record {
       dot = x.reads.dot;
       there = dot_of_cell f.cells all x.cell x.reads.dots x.reads.dot are x.among x.reads.reads x.reads.among;
@@ -124,15 +125,15 @@ reads_dot names id start end f key all r of are x =
     }
 
 -- the tags of a reading of the row have the names of its ids
-pub read_tags : (names : Kind → ℕ → Option (List ℕ)) (id start end : ℕ) (f : Found) (key : RowKey) (r : Reading) → KeyOf id start end f key → RowReads names f r → Named names key.pairs.items r.tags
-read_tags names id start end f key r of x =
+pub read_tags : (names : Kind → ℕ → Option (List ℕ)) (widths : Widths) (id start end : ℕ) (f : Found) (key : RowKey) (r : Reading) → KeyOf widths id start end f key → RowReads widths names f r → Named names key.pairs.items r.tags
+read_tags names widths id start end f key r of x =
     let d = x.reads.dot_reads in
-    let same : d.key ≡ key = lower.one_key d.key key d.is_key of.is_key (sym d.row_is ∙ ap (λ (w : Row). w.bytes) of.row_is) in
+    let same : d.key ≡ key = lower.one_key widths d.key key d.is_key of.is_key (sym d.row_is ∙ ap (λ (w : Row). w.bytes) of.row_is) in
     subst (λ (k : RowKey). Named names k.pairs.items r.tags) same d.tags_are
 
 -- and each data point, with names, is a reading
-pub dot_reads : (names : Kind → ℕ → Option (List ℕ)) (id start end : ℕ) (f : Found) (key : RowKey) (all : List Dot) (r : Reading) → KeyOf id start end f key → AreDots f.cells all → ReadsDot names key all r → RowReads names f r
-dot_reads names id start end f key all r of are x =
+pub dot_reads : (names : Kind → ℕ → Option (List ℕ)) (widths : Widths) (id start end : ℕ) (f : Found) (key : RowKey) (all : List Dot) (r : Reading) → KeyOf widths id start end f key → AreDots f.cells all → ReadsDot names key all r → RowReads widths names f r
+dot_reads names widths id start end f key all r of are x =
     let c = cell_of_dot f.cells all x.dot are x.there in
     record {
       cell = c.cell;
@@ -154,13 +155,13 @@ abbrev pub PicksBy : Picks → List Filter → (Kind → ℕ → Option (List �
 PicksBy picks filters names key = (tags : List Pair) → Named names key.pairs.items tags → picks key.pairs.items ≡ passes filters tags
 
 -- at one time a conflict_free row has one value
-pub conflict_free_row : (picks : Picks) (names : Kind → ℕ → Option (List ℕ)) (id start end : ℕ) (metric : List ℕ) (filters : List Filter) (f : Found) → (c : RowIsConflictFree picks id start end f) → PicksBy picks filters names c.key → OneValued (Chosen (is_wanted start end metric filters) (RowReads names f))
-conflict_free_row picks names id start end metric filters f c by a b x y meets =
+pub conflict_free_row : (picks : Picks) (names : Kind → ℕ → Option (List ℕ)) (widths : Widths) (id start end : ℕ) (metric : List ℕ) (filters : List Filter) (f : Found) → (c : RowIsConflictFree picks widths id start end f) → PicksBy picks filters names c.key → OneValued (Chosen (is_wanted start end metric filters) (RowReads widths names f))
+conflict_free_row picks names widths id start end metric filters f c by a b x y meets =
     let w = asks start end metric filters a x.1 in
-    let tags = read_tags names id start end f c.key a c.of x.0 in
+    let tags = read_tags names widths id start end f c.key a c.of x.0 in
     let conflict_free = c.conflict_free (by a.tags tags ∙ w.passed) in
-    let p = reads_dot names id start end f c.key conflict_free.all a c.of conflict_free.are x.0 in
-    let q = reads_dot names id start end f c.key conflict_free.all b c.of conflict_free.are y.0 in
+    let p = reads_dot names widths id start end f c.key conflict_free.all a c.of conflict_free.are x.0 in
+    let q = reads_dot names widths id start end f c.key conflict_free.all b c.of conflict_free.are y.0 in
     let offset = same_offset c.key.base p.dot.item.offset q.dot.item.offset a.time b.time p.time_is q.time_is meets.time in
     let none = conflict_free.one p.dot.item.offset (subst (IsIn start end) p.time_is w.within) in
     p.value_is ∙ one_value (values_at p.dot.item.offset conflict_free.all) none p.dot.value q.dot.value (lower.dot_value conflict_free.all p.dot p.dot.item.offset p.there refl) (lower.dot_value conflict_free.all q.dot p.dot.item.offset q.there (sym offset)) ∙ sym q.value_is

@@ -3,6 +3,7 @@ use Rattle.std.proofs.Common.{◌≡◌, ℕ, ◌+◌, ◌*◌, ◌<◌, ◌≤�
 use Rattle.std.specs.Prelude.{ℤ, All, Contains, Err}
 use Rattle.std.specs.List.{AllByRecursion}
 use Rattle.std.proofs.lemmas.List.Elements.{recursion_from_All}
+use Rattle.row_key.specs.declared.widths.Widths.{Widths}
 use Rattle.row_key.specs.declared.keys.RowKey.{RowKey}
 use Rattle.row_key.specs.Key.{IsKey, key_bytes}
 use Rattle.tsd_base.specs.Dots.{IsAboveAll}
@@ -23,56 +24,56 @@ use Rattle.query_run.specs.Collection.{Picks, KeyOf, FoundRow, StandsBehind, Add
 use Rattle.query_run.proofs.Lower as lower
 use Rattle.query_run.proofs.NameReads.{read_nothing, read_then_cut, cut_among}
 
-pub key_same : (s : Seen) (id start end : ℕ) (f : Found) (key : RowKey) → (x : FoundRow s id start end f) → IsKey key → f.row.bytes ≡ key_bytes key → x.key ≡ key
-key_same s id start end f key x is row = lower.one_key x.key key x.of.is_key is (sym (ap (λ (r : Row). r.bytes) x.of.row_is) ∙ row)
+pub key_same : (s : Seen) (widths : Widths) (id start end : ℕ) (f : Found) (key : RowKey) → (x : FoundRow s widths id start end f) → IsKey widths key → f.row.bytes ≡ key_bytes widths key → x.key ≡ key
+key_same s widths id start end f key x is row = lower.one_key widths x.key key x.of.is_key is (sym (ap (λ (r : Row). r.bytes) x.of.row_is) ∙ row)
 
 -- the key that was read is the row's
-pub key_of_row : (s : Seen) (id start end : ℕ) (f : Found) (key : RowKey) → FoundRow s id start end f → IsKey key → f.row.bytes ≡ key_bytes key → KeyOf id start end f key
-key_of_row s id start end f key x is row = subst (KeyOf id start end f) (key_same s id start end f key x is row) x.of
+pub key_of_row : (s : Seen) (widths : Widths) (id start end : ℕ) (f : Found) (key : RowKey) → FoundRow s widths id start end f → IsKey widths key → f.row.bytes ≡ key_bytes widths key → KeyOf widths id start end f key
+key_of_row s widths id start end f key x is row = subst (KeyOf widths id start end f) (key_same s widths id start end f key x is row) x.of
 
-pub row_knows : (s : Seen) (id start end : ℕ) (f : Found) (key : RowKey) (pairs : List (ℕ × ℕ)) → FoundRow s id start end f → IsKey key → f.row.bytes ≡ key_bytes key → pairs ≡ key.pairs.items
+pub row_knows : (s : Seen) (widths : Widths) (id start end : ℕ) (f : Found) (key : RowKey) (pairs : List (ℕ × ℕ)) → FoundRow s widths id start end f → IsKey widths key → f.row.bytes ≡ key_bytes widths key → pairs ≡ key.pairs.items
     → (p : ℕ × ℕ) → Contains pairs p → KnowsPair s p
-row_knows s id start end f key pairs x is row same p c =
-    x.knows p (subst (λ (l : List (ℕ × ℕ)). Contains l p) (same ∙ ap (λ (k : RowKey). k.pairs.items) (sym (key_same s id start end f key x is row))) c)
+row_knows s widths id start end f key pairs x is row same p c =
+    x.knows p (subst (λ (l : List (ℕ × ℕ)). Contains l p) (same ∙ ap (λ (k : RowKey). k.pairs.items) (sym (key_same s widths id start end f key x is row))) c)
 
 no_names : (s : Seen) (names : Names) (asked : List IdOf) → NamesCut s names asked s
 no_names s names asked = cut_among s s names [] asked (λ i c. absurd (lower.not_in i c)) (read_then_cut s s names names [] (read_nothing s names))
 
 -- ---- a fault of its points
 
-pub dots_failed : (picks : Picks) (s : Seen) (id start end : ℕ) (f : Found) (key : RowKey) (before after : Collected) (fault : AskFault) → KeyOf id start end f key → picks key.pairs.items ≡ true → DotsAsked f.cells key.base start end (Err fault) → RowAsked picks id start end f s before (Err fault) s after
-dots_failed picks s id start end f key before after (Duplicate time a b) of picked asked = (lower.nothing_made s, record { key = key; of = of; picked = picked; conflict = asked })
-dots_failed picks s id start end f key before after OutOfMemory of picked asked = record { key = key; of = of; named = no_names s (known before.names) (ids_of key.pairs.items) }
-dots_failed picks s id start end f key before after (TooManyBuckets count) of picked asked = absurd asked
-dots_failed picks s id start end f key before after (Unknown kind name) of picked asked = absurd asked
-dots_failed picks s id start end f key before after (Overflow time) of picked asked = absurd asked
-dots_failed picks s id start end f key before after Stopped of picked asked = absurd asked
+pub dots_failed : (picks : Picks) (s : Seen) (widths : Widths) (id start end : ℕ) (f : Found) (key : RowKey) (before after : Collected) (fault : AskFault) → KeyOf widths id start end f key → picks key.pairs.items ≡ true → DotsAsked f.cells key.base start end (Err fault) → RowAsked picks widths id start end f s before (Err fault) s after
+dots_failed picks s widths id start end f key before after (Duplicate time a b) of picked asked = (lower.nothing_made s, record { key = key; of = of; picked = picked; conflict = asked })
+dots_failed picks s widths id start end f key before after OutOfMemory of picked asked = record { key = key; of = of; named = no_names s (known before.names) (ids_of key.pairs.items) }
+dots_failed picks s widths id start end f key before after (TooManyBuckets count) of picked asked = absurd asked
+dots_failed picks s widths id start end f key before after (Unknown kind name) of picked asked = absurd asked
+dots_failed picks s widths id start end f key before after (Overflow time) of picked asked = absurd asked
+dots_failed picks s widths id start end f key before after Stopped of picked asked = absurd asked
 
 -- ---- a fault of its names
 
-pub names_failed : (picks : Picks) (s t : Seen) (id start end : ℕ) (f : Found) (key : RowKey) (pairs : List (ℕ × ℕ)) (before after : Collected) (e : RowsFault) → KeyOf id start end f key → pairs ≡ key.pairs.items → NamesCut s (known before.names) (ids_of pairs) t
-    → RowAsked picks id start end f s before (Err (ask_fault e)) t after
-names_failed picks s t id start end f key pairs before after e of same cut = at e
+pub names_failed : (picks : Picks) (s t : Seen) (widths : Widths) (id start end : ℕ) (f : Found) (key : RowKey) (pairs : List (ℕ × ℕ)) (before after : Collected) (e : RowsFault) → KeyOf widths id start end f key → pairs ≡ key.pairs.items → NamesCut s (known before.names) (ids_of pairs) t
+    → RowAsked picks widths id start end f s before (Err (ask_fault e)) t after
+names_failed picks s t widths id start end f key pairs before after e of same cut = at e
   where
-    all : RowCut id start end f s (known before.names) t
+    all : RowCut widths id start end f s (known before.names) t
     all = record { key = key; of = of; named = subst (λ (l : List (ℕ × ℕ)). NamesCut s (known before.names) (ids_of l) t) same cut }
 
-    at : (e : RowsFault) → RowAsked picks id start end f s before (Err (ask_fault e)) t after
+    at : (e : RowsFault) → RowAsked picks widths id start end f s before (Err (ask_fault e)) t after
     at rows.OutOfMemory = all
     at rows.Stopped = all
 
 -- ---- no memory for the points
 
-pub add_failed : (picks : Picks) (s t : Seen) (id start end : ℕ) (f : Found) (key : RowKey) (pairs : List (ℕ × ℕ)) (before after : Collected) (names : Names) → KeyOf id start end f key → pairs ≡ key.pairs.items → NamesRead s (known before.names) (ids_of pairs) t names
-    → RowAsked picks id start end f s before (Err OutOfMemory) t after
-add_failed picks s t id start end f key pairs before after names of same read =
-    names_failed picks s t id start end f key pairs before after rows.OutOfMemory of same (read_then_cut s t (known before.names) names (ids_of pairs) read)
+pub add_failed : (picks : Picks) (s t : Seen) (widths : Widths) (id start end : ℕ) (f : Found) (key : RowKey) (pairs : List (ℕ × ℕ)) (before after : Collected) (names : Names) → KeyOf widths id start end f key → pairs ≡ key.pairs.items → NamesRead s (known before.names) (ids_of pairs) t names
+    → RowAsked picks widths id start end f s before (Err OutOfMemory) t after
+add_failed picks s t widths id start end f key pairs before after names of same read =
+    names_failed picks s t widths id start end f key pairs before after rows.OutOfMemory of same (read_then_cut s t (known before.names) names (ids_of pairs) read)
 
 -- ---- all was taken
 
-pub row_taken : (picks : Picks) (s t : Seen) (id start end : ℕ) (f : Found) (key : RowKey) (pairs again : List (ℕ × ℕ)) (dots : List (ℕ × ℤ)) (before after : List Span) (names names_after : Names) → KeyOf id start end f key → picks key.pairs.items ≡ true → pairs ≡ key.pairs.items → again ≡ key.pairs.items
-    → NamesRead s names (ids_of pairs) t names_after → HasDots f.cells key.base start end dots → Adds before again dots after → RowTaken picks id start end f s before names t after names_after
-row_taken picks s t id start end f key pairs again dots before after names names_after of picked same still read has adds = record {
+pub row_taken : (picks : Picks) (s t : Seen) (widths : Widths) (id start end : ℕ) (f : Found) (key : RowKey) (pairs again : List (ℕ × ℕ)) (dots : List (ℕ × ℤ)) (before after : List Span) (names names_after : Names) → KeyOf widths id start end f key → picks key.pairs.items ≡ true → pairs ≡ key.pairs.items → again ≡ key.pairs.items
+    → NamesRead s names (ids_of pairs) t names_after → HasDots f.cells key.base start end dots → Adds before again dots after → RowTaken picks widths id start end f s before names t after names_after
+row_taken picks s t widths id start end f key pairs again dots before after names names_after of picked same still read has adds = record {
   key = key;
   of = of;
   picked = picked;
@@ -84,8 +85,8 @@ row_taken picks s t id start end f key pairs again dots before after names names
 
 -- ---- it isn't asked for
 
-pub row_left : (picks : Picks) (s : Seen) (id start end : ℕ) (f : Found) (key : RowKey) (spans : List Span) (names : Names) → KeyOf id start end f key → picks key.pairs.items ≡ false → RowLeft picks id start end f s spans names s spans names
-row_left picks s id start end f key spans names of left = record { key = key; of = of; left = left; made = lower.nothing_made s; spans_are = refl; names_are = refl }
+pub row_left : (picks : Picks) (s : Seen) (widths : Widths) (id start end : ℕ) (f : Found) (key : RowKey) (spans : List Span) (names : Names) → KeyOf widths id start end f key → picks key.pairs.items ≡ false → RowLeft picks widths id start end f s spans names s spans names
+row_left picks s widths id start end f key spans names of left = record { key = key; of = of; left = left; made = lower.nothing_made s; spans_are = refl; names_are = refl }
 
 -- ---- the points are above those of earlier hours
 
@@ -93,9 +94,9 @@ above_more : (low time : ℕ) (dots : List (ℕ × ℤ)) → low ≤ time → Al
 above_more low time [] le all = tt
 above_more low time (d ∷ dots) le all = let first = all.0 in (omega (arith, first, le), above_more low time dots le all.1)
 
-pub may_add : (f : Found) (key : RowKey) (start end : ℕ) (pairs : List (ℕ × ℕ)) (spans : List Span) (dots : List (ℕ × ℤ)) → StandsBehind spans f → IsKey key → f.row ≡ point_row (key_bytes key) → pairs ≡ key.pairs.items → HasDots f.cells key.base start end dots
+pub may_add : (widths : Widths) (f : Found) (key : RowKey) (start end : ℕ) (pairs : List (ℕ × ℕ)) (spans : List Span) (dots : List (ℕ × ℤ)) → StandsBehind widths spans f → IsKey widths key → f.row ≡ point_row (key_bytes widths key) → pairs ≡ key.pairs.items → HasDots f.cells key.base start end dots
     → All (λ d. IsAboveAll d.0 (dots_of spans pairs)) dots
-may_add f key start end pairs spans dots behind is row same has =
+may_add widths f key start end pairs spans dots behind is row same has =
     lower.all_of (λ d. IsAboveAll d.0 (dots_of spans pairs)) dots (λ d c.
     let w = has.each d c in
     let time : d.0 ≡ key.base * 1000 + w.0.item.offset = ap (λ (x : ℕ × ℤ). x.0) w.2 in

@@ -8,7 +8,7 @@ use Rattle.cell_model.specs.declared.row.Row.{Row}
 use Rattle.cell_model.specs.declared.row.Found.{Found}
 use Rattle.cell_model.specs.declared.events.Placed.{Placed}
 use Rattle.cell_model.specs.Layout.{base_time}
-use Rattle.cell_model.specs.History.{History, first}
+use Rattle.cell_model.specs.History.{History, first, store_after}
 use Rattle.cell_model.specs.IdRows.{id_of}
 use Rattle.cell_model.specs.Lawful.{IsLawful}
 use Rattle.query_run.specs.Parts.{NameOf, IsShort}
@@ -30,7 +30,7 @@ ids_in (p ∷ pairs) ids all i c = elim (lower.split {X = IdOf} (TagKey, p.0) i 
   ]
 ]
 
-pub few_rows : (names : List NameOf) (start end : ℕ) (metric : List ℕ) (id : ℕ) (looks own : List Placed) (founds : List Found) (ids : List IdOf) (h : History) (now : ℕ) → length looks ≤ length names → Counted 1 id start end own founds ids → IsLawful h → id_of (first now h) Metric metric ≡ Some id
+pub few_rows : (names : List NameOf) (start end : ℕ) (metric : List ℕ) (id : ℕ) (looks own : List Placed) (founds : List Found) (ids : List IdOf) (h : History) (now : ℕ) → length looks ≤ length names → Counted 1 (store_after (first now h)).widths id start end own founds ids → IsLawful h → id_of (first now h) Metric metric ≡ Some id
     → ((f : Found) → Contains founds f → StoodFound h now f) → IsShort names metric (base_time start) (base_time end) (looks ++ own) (first now h)
 few_rows names start end metric id looks own founds ids h now few c lawful known stood rows all holds_rows holds_ids =
     let n = c.count in

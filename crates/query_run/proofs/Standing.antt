@@ -78,9 +78,9 @@ reading_among metric tags d r list m t i v c =
 -- ---- one history
 
 module _ (picks : Picks) (start end : ℕ) (metric : List ℕ) (filters : List Filter) (id : ℕ) (looks own : List Placed) (founds : List Found) (ids : List IdOf) (spans : List Span) (names : Names) (series : List Series) (g : History)
-    (reads : AreReads looks) (counted : Counted 1 id start end own founds ids) (content : Gathered picks id start end founds spans names) (titles : Titles names spans series)
+    (reads : AreReads looks) (counted : Counted 1 (store_after g).widths id start end own founds ids) (content : Gathered picks (store_after g).widths id start end founds spans names) (titles : Titles names spans series)
     (metric_named : name_of g Metric id ≡ Some metric) (metric_known : id_of g Metric metric ≡ Some id) (tags_named : (pairs : List (ℕ × ℕ)) (tags : List Pair) → Named names pairs tags → Named (name_of g) pairs tags)
-    (by : (f : Found) (key : RowKey) → Contains founds f → KeyOf id start end f key → PicksBy picks filters (name_of g) key) (by_row : (key : RowKey) → IsKey key → HasCell (store_after g) (point_row (key_bytes key)) → PicksBy picks filters (name_of g) key) where
+    (by : (f : Found) (key : RowKey) → Contains founds f → KeyOf (store_after g).widths id start end f key → PicksBy picks filters (name_of g) key) (by_row : (key : RowKey) → IsKey (store_after g).widths key → HasCell (store_after g) (point_row (key_bytes (store_after g).widths key)) → PicksBy picks filters (name_of g) key) where
   abbrev wants : Reading → Bool
   wants = is_wanted start end metric filters
 
@@ -90,13 +90,13 @@ module _ (picks : Picks) (start end : ℕ) (metric : List ℕ) (filters : List F
   found_of : (f : Found) → ShowsRow (looks ++ own) f → Contains founds f
   found_of f s = let w = shown_behind looks own f reads s in counted.shows w.placed f w.among w.reply
 
-  conflict_free : NoConflict (name_of g) wants (looks ++ own)
+  conflict_free : NoConflict (store_after g).widths (name_of g) wants (looks ++ own)
   conflict_free f s =
-      let row = row_conflict_free picks id start end spans names f (content.rows f (found_of f s)) in
-      conflict_free_row picks (name_of g) id start end metric filters f row (by f row.key (found_of f s) row.of)
+      let row = row_conflict_free picks (store_after g).widths id start end spans names f (content.rows f (found_of f s)) in
+      conflict_free_row picks (name_of g) (store_after g).widths id start end metric filters f row (by f row.key (found_of f s) row.of)
 
   -- each reading under its names is shown
-  shown_to : (r : Reading) → Contains (readings_in metric series) r → Chosen wants (ShowsReading (name_of g) (looks ++ own)) r
+  shown_to : (r : Reading) → Contains (readings_in metric series) r → Chosen wants (ShowsReading (store_after g).widths (name_of g) (looks ++ own)) r
   shown_to r c =
       let w = reading_of metric series r c in
       let t = titles.each w.series_of w.among in
@@ -112,7 +112,7 @@ module _ (picks : Picks) (start end : ℕ) (metric : List ℕ) (filters : List F
         time_is = time;
         value_is = ap (λ (x : Reading). x.value) w.is ∙ ap (λ (x : ℕ × ℤ). x.1) d.dot_is;
       } in (
-        (d.found, shows_found d.found d.among, dot_reads (name_of g) id start end d.found d.key d.all r d.of d.are dot),
+        (d.found, shows_found d.found d.among, dot_reads (name_of g) (store_after g).widths id start end d.found d.key d.all r d.of d.are dot),
         is_asked start end metric filters r (ap (λ (x : Reading). x.metric) w.is) (subst (λ (x : Reading). IsIn start end x.time) (sym w.is) d.within) (sym (by d.found d.key d.among d.of r.tags tags) ∙ d.picked),
       )
 
@@ -125,13 +125,13 @@ module _ (picks : Picks) (start end : ℕ) (metric : List ℕ) (filters : List F
       let among = of_reading metric series t.0 (dot_at key.base d.dot) t.1 (subst (λ (l : List (ℕ × ℤ)). Contains l (dot_at key.base d.dot)) (sym t.2.dots_are) there) in
       reading_among metric t.0.tags (dot_at key.base d.dot) r (readings_in metric series) a.metric_is tags d.time_is d.value_is among
 
-  shown_from : (r : Reading) → Chosen wants (ShowsReading (name_of g) (looks ++ own)) r → Contains (readings_in metric series) r
+  shown_from : (r : Reading) → Chosen wants (ShowsReading (store_after g).widths (name_of g) (looks ++ own)) r → Contains (readings_in metric series) r
   shown_from r ((f, s, read), wanted) =
       let found = found_of f s in
       let row = content.rows f found in
       let a = asks start end metric filters r wanted in
-      let c = row.is_in (by f row.key found row.of r.tags (read_tags (name_of g) id start end f row.key r row.of read) ∙ a.passed) in
-      shown_at r f row.key c (reads_dot (name_of g) id start end f row.key c.conflict_free.all r row.of c.conflict_free.are read) a
+      let c = row.is_in (by f row.key found row.of r.tags (read_tags (name_of g) (store_after g).widths id start end f row.key r row.of read) ∙ a.passed) in
+      shown_at r f row.key c (reads_dot (name_of g) (store_after g).widths id start end f row.key c.conflict_free.all r row.of c.conflict_free.are read) a
 
   asks_within : AsksWithin wants g id (base_time start) (base_time end)
   asks_within r wanted =
@@ -142,14 +142,14 @@ module _ (picks : Picks) (start end : ℕ) (metric : List ℕ) (filters : List F
   asks_picked : AsksOfWanted (picked_by picks) wants g
   asks_picked key r is has of wanted = by_row key is has r.tags of.tags_are ∙ (asks start end metric filters r wanted).passed
 
-  pub stands_in : (h : History) (length_now : ℕ) → first length_now h ≡ g → ScanCovers → IsLawful h → InOrder h length_now (looks ++ own) → (begin : Left) → IsStart id (base_time start) (base_time end) begin → Scanned (picked_by picks) begin own founds
+  pub stands_in : (h : History) (length_now : ℕ) → first length_now h ≡ g → ScanCovers → IsLawful h → InOrder h length_now (looks ++ own) → (begin : Left) → IsStart (store_after h).widths id (base_time start) (base_time end) begin → Scanned (picked_by picks) begin own founds
       → (asked : List NameOf) → AllResolved (first length_now h) asked → PartStands (is_wanted start end metric filters) asked (record { own = looks ++ own; shown = readings_in metric series }) length_now h
   stands_in h n same covering lawful order begin starts whole asked resolved =
-      let conflict_free_h = subst (λ (x : History). NoConflict (name_of x) wants (looks ++ own)) (sym same) conflict_free in
+      let conflict_free_h = subst (λ (x : History). NoConflict (store_after x).widths (name_of x) wants (looks ++ own)) (sym same) conflict_free in
       let within_h = subst (λ (x : History). AsksWithin wants x id (base_time start) (base_time end)) (sym same) asks_within in
       let picked_h = subst (λ (x : History). AsksOfWanted (picked_by picks) wants x) (sym same) asks_picked in
-      let to = λ (r : Reading) (c : Contains (readings_in metric series) r). subst (λ (x : History). Chosen wants (ShowsReading (name_of x) (looks ++ own)) r) (sym same) (shown_to r c) in
-      let from = λ (r : Reading) (c : Chosen wants (ShowsReading (name_of (first n h)) (looks ++ own)) r). shown_from r (subst (λ (x : History). Chosen wants (ShowsReading (name_of x) (looks ++ own)) r) same c) in
+      let to = λ (r : Reading) (c : Contains (readings_in metric series) r). subst (λ (x : History). Chosen wants (ShowsReading (store_after x).widths (name_of x) (looks ++ own)) r) (sym same) (shown_to r c) in
+      let from = λ (r : Reading) (c : Chosen wants (ShowsReading (store_after (first n h)).widths (name_of (first n h)) (looks ++ own)) r). shown_from r (subst (λ (x : History). Chosen wants (ShowsReading (store_after x).widths (name_of x) (looks ++ own)) r) same c) in
       let covers : OwnCovers wants (looks ++ own) n h =
       covering (picked_by picks) h n id (base_time start) (base_time end) begin (looks ++ own) founds wants lawful order starts (scan_after (picked_by picks) begin looks own founds reads whole) (by_series start end metric filters) within_h picked_h conflict_free_h in
       record {

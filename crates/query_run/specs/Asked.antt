@@ -19,7 +19,7 @@ module _ {Sub : Type 0} (wanted : Sub → Reading → Bool) (names_in : Sub → 
   abbrev pub Cause : Sub → Part → ℕ → History → AskFault → Type 0
   Cause s part end h (TooManyBuckets count) = (part.own ≡ []) × (barred s ≡ Some (TooManyBuckets count))
   Cause s part end h (Unknown kind name) = (barred s ≡ None) × FirstUnknown (names_in s) (kind, name) part.own (first end h)
-  Cause s part end h (Duplicate time a b) = (barred s ≡ None) × AllResolved (first end h) (names_in s) × FirstConflict (store_after (first (before_first part.own end) h)) (name_of (first end h)) (wanted s) part.own time a b
+  Cause s part end h (Duplicate time a b) = (barred s ≡ None) × AllResolved (first end h) (names_in s) × FirstConflict (store_after (first (before_first part.own end) h)) (store_after (first end h)).widths (name_of (first end h)) (wanted s) part.own time a b
   Cause s part end h (Overflow time) = (barred s ≡ None) × PartStands (wanted s) (names_in s) part end h × (answer_over s part.shown ≡ Err time)
   Cause s part end h OutOfMemory = Unit {0}
   Cause s part end h Stopped = Unit {0}

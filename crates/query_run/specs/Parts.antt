@@ -4,6 +4,7 @@ use Rattle.std.specs.List.{flat_map}
 use Rattle.std.specs.declared.cmp.Ordering.TheVariants.{Less}
 use Rattle.tsd_base.specs.declared.kinds.Kind.{Kind}
 use Rattle.tsd_base.specs.declared.kinds.Kind.TheVariants.{Metric, TagKey, TagValue}
+use Rattle.row_key.specs.declared.widths.Widths.{Widths}
 use Rattle.row_key.specs.declared.keys.RowKey.{RowKey}
 use Rattle.row_key.specs.Key.{IsKey, key_bytes}
 use Rattle.qual_codec.specs.declared.cells.Dot.{Dot}
@@ -47,8 +48,8 @@ AreQuerySteps list = (p : Placed) → Contains list p → IsQueryStep p.entry.st
 -- it shows cover what was accepted before its first entry, and lie within what is accepted at the end.
 pub record PartStands (wanted : Reading → Bool) (names : List NameOf) (part : Part) (end : ℕ) (h : History) : Type 0 where
   pub resolved : AllResolved (first end h) names
-  pub shown : (r : Reading) → Contains part.shown r ↔ Chosen wanted (ShowsReading (name_of (first end h)) part.own) r
-  pub conflict_free : NoConflict (name_of (first end h)) wanted part.own
+  pub shown : (r : Reading) → Contains part.shown r ↔ Chosen wanted (ShowsReading (store_after (first end h)).widths (name_of (first end h)) part.own) r
+  pub conflict_free : NoConflict (store_after (first end h)).widths (name_of (first end h)) wanted part.own
   pub covers : Covers (Contains part.shown) (Chosen wanted (Accepted (first (before_first part.own end) h))) (Chosen wanted (Accepted (first end h)))
 
 -- one of the entries is a read that found no cell of the name
@@ -64,50 +65,50 @@ pub record FirstUnknown (names : List NameOf) (n : NameOf) (own : List Placed) (
   pub none : FoundNone own n
 
 -- at a time that is asked for the cells of a point row have two values: a in the first cell that has one, b in the first behind it that has another
-pub record HasConflict (names : Kind → ℕ → Option (List ℕ)) (wanted : Reading → Bool) (found : Found) (time : ℕ) (a b : ℤ) : Type 0 where
+pub record HasConflict (widths : Widths) (names : Kind → ℕ → Option (List ℕ)) (wanted : Reading → Bool) (found : Found) (time : ℕ) (a b : ℤ) : Type 0 where
   pub key : RowKey
-  pub is_key : IsKey key
-  pub row_is : found.row ≡ point_row (key_bytes key)
+  pub is_key : IsKey widths key
+  pub row_is : found.row ≡ point_row (key_bytes widths key)
   pub offset : ℕ
   pub time_is : time ≡ key.base * 1000 + offset
   pub dots : List Dot
   pub are_dots : AreDots found.cells dots
   pub values : first_conflict (values_at offset dots) ≡ Some (a, b)
   pub reading : Reading
-  pub reads : RowReads names found reading
+  pub reads : RowReads widths names found reading
   pub at_time : reading.time ≡ time
   pub asked : IsTrue (wanted reading)
 
 -- each row below this one that had a wanted reading in the store is shown
-abbrev pub ShowsRowsBelow : Store → (Kind → ℕ → Option (List ℕ)) → (Reading → Bool) → List Placed → Row → Type 0
-ShowsRowsBelow began names wanted own below =
-    (row qual value : List ℕ) (r : Reading) → value_at began (point_row row) qual ≡ Some value → CellReads names row qual value r → IsTrue (wanted r) → bytes_cmp row below.bytes ≡ Less
+abbrev pub ShowsRowsBelow : Store → Widths → (Kind → ℕ → Option (List ℕ)) → (Reading → Bool) → List Placed → Row → Type 0
+ShowsRowsBelow began widths names wanted own below =
+    (row qual value : List ℕ) (r : Reading) → value_at began (point_row row) qual ≡ Some value → CellReads widths names row qual value r → IsTrue (wanted r) → bytes_cmp row below.bytes ≡ Less
     → (found : Found) × ShowsRow own found × (found.row ≡ point_row row)
 
 -- The first row shown that has a conflict has its least one at this time. No row was passed over before it, of those that were there when the part began.
-pub record FirstConflict (began : Store) (names : Kind → ℕ → Option (List ℕ)) (wanted : Reading → Bool) (own : List Placed) (time : ℕ) (a b : ℤ) : Type 0 where
+pub record FirstConflict (began : Store) (widths : Widths) (names : Kind → ℕ → Option (List ℕ)) (wanted : Reading → Bool) (own : List Placed) (time : ℕ) (a b : ℤ) : Type 0 where
   pub earlier : List Placed
   pub at : Placed
   pub later : List Placed
   pub cut : own ≡ earlier ++ at ∷ later
-  pub conflict_free : NoConflict names wanted earlier
+  pub conflict_free : NoConflict widths names wanted earlier
   pub found : Found
   pub reply : at.entry.reply ≡ Next (Some found)
-  pub passed : ShowsRowsBelow began names wanted earlier found.row
-  pub conflict : HasConflict names wanted found time a b
-  pub least : (t : ℕ) (c d : ℤ) → HasConflict names wanted found t c d → time ≤ t
+  pub passed : ShowsRowsBelow began widths names wanted earlier found.row
+  pub conflict : HasConflict widths names wanted found time a b
+  pub least : (t : ℕ) (c d : ℤ) → HasConflict widths names wanted found t c d → time ≤ t
 
 -- the list has each row of the metric in these hours that is there after the history
 abbrev pub HoldsRows : List ℕ → ℕ → ℕ → History → List Row → Type 0
 HoldsRows metric first_base last_base h rows =
-    (id : ℕ) (row : Row) → id_of h Metric metric ≡ Some id → IsRowOf id first_base last_base row → HasCell (store_after h) row → Contains rows row
+    (id : ℕ) (row : Row) → id_of h Metric metric ≡ Some id → IsRowOf (store_after h).widths id first_base last_base row → HasCell (store_after h) row → Contains rows row
 
 -- the list has each id of the tags of these rows
-abbrev pub HoldsIds : List Row → List (Kind × ℕ) → Type 0
-HoldsIds rows ids =
-    (key : RowKey) → IsKey key → Contains rows (point_row (key_bytes key)) → (i : ℕ × ℕ) → Contains key.pairs.items i → Contains ids (TagKey, i.0) × Contains ids (TagValue, i.1)
+abbrev pub HoldsIds : Widths → List Row → List (Kind × ℕ) → Type 0
+HoldsIds widths rows ids =
+    (key : RowKey) → IsKey widths key → Contains rows (point_row (key_bytes widths key)) → (i : ℕ × ℕ) → Contains key.pairs.items i → Contains ids (TagKey, i.0) × Contains ids (TagValue, i.1)
 
 -- the entries are at most one for each name asked for, for each row of the metric in these hours, for each id of their tags, and one more
 abbrev pub IsShort : List NameOf → List ℕ → ℕ → ℕ → List Placed → History → Type 0
 IsShort names metric first_base last_base own h =
-    (rows : List Row) (ids : List (Kind × ℕ)) → HoldsRows metric first_base last_base h rows → HoldsIds rows ids → length own ≤ length names + length rows + length ids + 1
+    (rows : List Row) (ids : List (Kind × ℕ)) → HoldsRows metric first_base last_base h rows → HoldsIds (store_after h).widths rows ids → length own ≤ length names + length rows + length ids + 1

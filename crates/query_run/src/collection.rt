@@ -1,7 +1,7 @@
 //! The rows of a metric that pass filters, collected as the points of series by the ids of their tags.
 ghost use Rattle.std.specs.Prelude.{◌≡◌, ◌≤◌, ◌++◌, ◌∷◌, [], ℕ, All, OnOk};
 ghost use Rattle.row_key.specs.declared.keys.RowKey.{RowKey};
-ghost use Rattle.row_key.specs.Key.{IsKey, key_bytes};
+ghost use Rattle.row_key.specs.Key.{IsKey, key_bytes, most_ids};
 ghost use Rattle.cell_model.specs.Seen.{IsPossible};
 ghost use Rattle.cell_model.specs.Calls.{Leaves};
 ghost use Rattle.tsd_base.specs.declared.times.TheConstants.{LAST_TIME};
@@ -19,7 +19,7 @@ use crate::row_names::{IdNames, name_pairs};
 use cell_model::row::Found;
 use cell_model::rows::Rows;
 use row_hours::base_of;
-use row_key::{MOST_IDS, RowKey, read_key};
+use row_key::{RowKey, read_key};
 use row_scan::Scan;
 use span_merge::spans::Spans;
 use std::alloc::{AllocError, Global};
@@ -33,13 +33,13 @@ pub(crate) struct Collected {
     pub(crate) names: IdNames,
 }
 
-/// The key of a row that has one.
-fn key_of(row: &[u8]) -> RowKey
-    requires { (key : RowKey) × IsKey key × (row.now ≡ key_bytes key) }
-    ensures is_key { IsKey result }
-    ensures row { row.now ≡ key_bytes result }
+/// The key of a row that a scan found.
+fn key_of(row: &[u8], scan: &Scan) -> RowKey
+    requires { (key : RowKey) × IsKey scan.now.widths key × (row.now ≡ key_bytes scan.now.widths key) }
+    ensures is_key { IsKey scan.now.widths result }
+    ensures row { row.now ≡ key_bytes scan.now.widths result }
 {
-    match read_key(row) {
+    match read_key(row, scan.widths()) {
         Ok(key) => key,
         Err(_) => unreachable!(),
     }
@@ -63,11 +63,11 @@ fn add_dots(
 
 /// Lets a scan go on behind the rows that fail the filters as one with this key does, which it found last.
 fn pass_over(scan: &mut Scan, filters: &[IdFilter], key: &RowKey)
-    requires key { IsKey key.now }
-    requires behind { scan.old.from ≡ key_bytes key.now ++ 0 ∷ [] }
+    requires key { IsKey scan.old.widths key.now }
+    requires behind { scan.old.from ≡ key_bytes scan.old.widths key.now ++ 0 ∷ [] }
     ensures { GoesOn (passes filters.now) scan.old scan.new }
 {
-    if let Some(target) = jump(filters, key) {
+    if let Some(target) = jump(filters, key, scan.widths()) {
         scan.skip_to(&target);
     }
 }
@@ -85,15 +85,15 @@ fn take_row<R: Rows + Drop>(
     collected: &mut Collected,
 ) -> Result<(), AskFault>
     requires most { end ≤ LAST_TIME }
-    requires row { (metric : ℕ) × FoundRow (R.seen names.old) metric start end found.now }
-    requires behind { StandsBehind collected.old.spans found.now }
+    requires row { (metric : ℕ) × FoundRow (R.seen names.old) scan.old.widths metric start end found.now }
+    requires behind { StandsBehind scan.old.widths collected.old.spans found.now }
     requires scan { scan.old.from ≡ found.now.row.bytes ++ 0 ∷ [] }
     requires possible { IsPossible (R.seen names.old) }
-    ensures asked { (metric : ℕ) → FoundRow (R.seen names.old) metric start end found.now → RowAsked (passes filters.now) metric start end found.now (R.seen names.old) collected.old result (R.seen names.new) collected.new }
+    ensures asked { (metric : ℕ) → FoundRow (R.seen names.old) scan.old.widths metric start end found.now → RowAsked (passes filters.now) scan.old.widths metric start end found.now (R.seen names.old) collected.old result (R.seen names.new) collected.new }
     ensures goes_on { OnOk result (GoesOn (passes filters.now) scan.old scan.new) }
     ensures leaves { Leaves is_stop result (R.seen names.new) (R.stops names.old) (R.stops names.new) }
 {
-    let key = key_of(found.row.bytes.list());
+    let key = key_of(found.row.bytes.list(), scan);
     if !passes(filters, key.pairs.as_slice()) {
         pass_over(scan, filters, &key);
         return Ok(());
@@ -113,14 +113,14 @@ pub(crate) fn collect<R: Rows + Drop>(
     start: u64,
     end: u64,
 ) -> Result<Collected, AskFault>
-    requires metric { metric ≤ MOST_IDS }
+    requires metric { metric ≤ most_ids (R.seen names.old).base.widths.metric }
     requires order { start ≤ end }
     requires most { end ≤ LAST_TIME }
     requires possible { IsPossible (R.seen names.old) }
     ensures says { CollectSays (passes filters.now) metric start end (R.seen names.old) result (R.seen names.new) }
     ensures leaves { Leaves is_stop result (R.seen names.new) (R.stops names.old) (R.stops names.new) }
 {
-    let mut scan = Scan::start(metric, base_of(start), base_of(end));
+    let mut scan = Scan::start(metric, base_of(start), base_of(end), names.widths());
     let mut collected = Collected {
         spans: Spans::make(alloc),
         names: IdNames::none(alloc),

@@ -1,47 +1,53 @@
 //! Where a search for rows that pass filters goes on behind one that doesn't.
-ghost use Rattle.std.specs.Prelude.{◌≡◌, ◌+◌, ◌∷◌, [], ◌++◌, ◌<◌, ◌≤◌, false, length, take, get_or, All, IfSome};
-ghost use Rattle.row_key.specs.Key.{IsKey};
+ghost use Rattle.std.specs.Prelude.{◌≡◌, ℕ, List, ◌∷◌, [], ◌++◌, ◌<◌, ◌≤◌, false, length, take, get_or, All, IfSome};
+ghost use Rattle.row_key.specs.Key.{IsKey, most_ids};
 ghost use Rattle.query_run.specs.IdFilters.{passes, passes_filter, passes_test};
-ghost use Rattle.query_run.specs.KeyJumps.{IsBehind, IsNextValue, JumpsOver};
+ghost use Rattle.query_run.specs.KeyJumps.{IsBehind, IsLeastAbove, IsNextId, IsNextValue, JumpsOver};
 
 use crate::id_filter::{IdFilter, IdTest, passes_filter};
 use arrayvec::ArrayVec;
 use row_hours::HOUR;
-use row_key::{MOST_IDS, RowKey};
+use row_key::{RowKey, Widths, most_ids};
 
-/// The lesser of two ids, where the one is above a value.
-fn nearer(least: u32, id: u32, value: u32) -> u32
-    requires { value < least }
-    ensures above { value < result }
-    ensures most { result ≤ least }
-    ensures least { value < id → result ≤ id }
+/// The id behind this one, or None where it is the greatest.
+fn next_id(id: u32, most: u32) -> Option<u32>
+    ensures { IsNextId most id result }
 {
-    if value < id { least.min(id) } else { least }
+    if id < most { Some(id + 1) } else { None }
 }
 
-/// The least of the ids that is above a value, or one more than the greatest that there can be.
-fn least_above(ids: &[u32], value: u32) -> u32
-    requires { value ≤ MOST_IDS }
-    ensures above { value < result }
-    ensures most { result ≤ MOST_IDS + 1 }
-    ensures least { All (λ id. value < id → result ≤ id) ids.now }
+/// The least of some ids that is above a value, where one more of them is looked at.
+fn nearer(least: Option<u32>, id: u32, value: u32, most: u32) -> Option<u32>
+    ensures { (ids : List ℕ) → IsLeastAbove most value ids least → IsLeastAbove most value (ids ++ id ∷ []) result }
 {
-    let mut least = MOST_IDS + 1;
+    if id <= value || most < id {
+        return least;
+    }
+    match least {
+        Some(other) => Some(other.min(id)),
+        None => Some(id),
+    }
+}
+
+/// The least of the ids that is above a value and up to the greatest that there can be, or None where there is none.
+fn least_above(ids: &[u32], value: u32, most: u32) -> Option<u32>
+    ensures { IsLeastAbove most value ids.now result }
+{
+    let mut least = None;
     for id in ids {
-        least = nearer(least, *id, value);
+        least = nearer(least, *id, value, most);
     }
     least
 }
 
-/// Where a value fails a test, the least one above it that may pass, or one more than the greatest that there can be.
-fn next_value(test: &IdTest, value: u32) -> u32
-    requires most { value ≤ MOST_IDS }
-    requires fails { passes_test test.now value ≡ false }
-    ensures { IsNextValue test.now value result }
+/// Where a value fails a test, the least one above it that may pass, of those up to the greatest that there can be.
+fn next_value(test: &IdTest, value: u32, most: u32) -> Option<u32>
+    requires { passes_test test.now value ≡ false }
+    ensures { IsNextValue most test.now value result }
 {
     match test {
-        IdTest::Any | IdTest::NotOneOf { .. } => value + 1,
-        IdTest::OneOf { ids } => least_above(ids, value),
+        IdTest::Any | IdTest::NotOneOf { .. } => next_id(value, most),
+        IdTest::OneOf { ids } => least_above(ids, value, most),
     }
 }
 
@@ -78,9 +84,9 @@ fn key_at(key: &RowKey, place: usize, pair: (u32, u32)) -> RowKey
 }
 
 /// The least key that the metric can have behind an hour.
-fn next_hour(key: &RowKey) -> Option<RowKey>
-    requires { IsKey key.now }
-    ensures { IfSome result (IsBehind key.now 0) }
+fn next_hour(key: &RowKey, widths: Widths) -> Option<RowKey>
+    requires { IsKey widths key.now }
+    ensures { IfSome result (IsBehind widths key.now 0) }
 {
     let base = key.base.checked_add(HOUR)?;
     let mut pairs = ArrayVec::new();
@@ -93,27 +99,25 @@ fn next_hour(key: &RowKey) -> Option<RowKey>
 }
 
 /// A key behind all those of the metric that have this key's hour and first pairs.
-fn behind(key: &RowKey, place: usize) -> Option<RowKey>
-    requires key { IsKey key.now }
+fn behind(key: &RowKey, place: usize, widths: Widths) -> Option<RowKey>
+    requires key { IsKey widths key.now }
     requires inside { place ≤ length key.now.pairs.items }
-    ensures { IfSome result (IsBehind key.now place) }
+    ensures { IfSome result (IsBehind widths key.now place) }
 {
     if place == 0 {
-        return next_hour(key);
+        return next_hour(key, widths);
     }
     let (id, value) = key.pairs.as_slice()[place - 1];
-    if value == MOST_IDS {
-        return None;
-    }
-    Some(key_at(key, place - 1, (id, value + 1)))
+    let next = next_id(value, most_ids(widths.tag_value))?;
+    Some(key_at(key, place - 1, (id, next)))
 }
 
 /// A key behind all those that fail the filter as this one does: they have its hour and the same pairs before that of the filter.
 /// Where no pair of the key has a greater id than the filter, there is none, since the next key may have the filter's.
-fn jump_by(filter: &IdFilter, key: &RowKey) -> Option<RowKey>
-    requires key { IsKey key.now }
+fn jump_by(filter: &IdFilter, key: &RowKey, widths: Widths) -> Option<RowKey>
+    requires key { IsKey widths key.now }
     requires fails { passes_filter filter.now key.now.pairs.items ≡ false }
-    ensures { IfSome result (JumpsOver (passes_filter filter.now) key.now) }
+    ensures { IfSome result (JumpsOver widths (passes_filter filter.now) key.now) }
 {
     let pairs = key.pairs.as_slice();
     let place = place_of(pairs, filter.key);
@@ -122,21 +126,20 @@ fn jump_by(filter: &IdFilter, key: &RowKey) -> Option<RowKey>
     }
     let (id, value) = pairs[place];
     if id != filter.key {
-        return behind(key, place);
+        return behind(key, place, widths);
     }
-    let next = next_value(&filter.test, value);
-    if next > MOST_IDS {
-        return behind(key, place);
-    }
+    let Some(next) = next_value(&filter.test, value, most_ids(widths.tag_value)) else {
+        return behind(key, place, widths);
+    };
     Some(key_at(key, place, (id, next)))
 }
 
 /// A key behind one that fails the filters, so that none from that one on and before it passes them.
 ///
 /// Of the filters that it fails the one with the least id tells, since its pair stands first.
-pub(crate) fn jump(filters: &[IdFilter], key: &RowKey) -> Option<RowKey>
-    requires { IsKey key.now }
-    ensures { IfSome result (JumpsOver (passes filters.now) key.now) }
+pub(crate) fn jump(filters: &[IdFilter], key: &RowKey, widths: Widths) -> Option<RowKey>
+    requires { IsKey widths key.now }
+    ensures { IfSome result (JumpsOver widths (passes filters.now) key.now) }
 {
     let mut first: Option<&IdFilter> = None;
     for filter in filters {
@@ -146,5 +149,5 @@ pub(crate) fn jump(filters: &[IdFilter], key: &RowKey) -> Option<RowKey>
             first = Some(filter);
         }
     }
-    jump_by(first?, key)
+    jump_by(first?, key, widths)
 }

@@ -1,3 +1,5 @@
+mod EachWidth
+mod OneWidths
 mod Once
 mod Comparing
 mod Homes

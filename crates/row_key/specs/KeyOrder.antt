@@ -5,9 +5,9 @@ use Rattle.std.specs.declared.cmp.Ordering.TheVariants.{Less}
 use Rattle.std.specs.Ordering.{nat_cmp, ordering_then, is_lt}
 use Rattle.std.specs.Cmp.Lexicographic.{slice_cmp}
 use Rattle.list_lemmas.specs.BytesOrder.{bytes_cmp}
-use Rattle.row_key.specs.declared.ids.TheConstants.{MOST_IDS}
+use Rattle.row_key.specs.declared.widths.Widths.{Widths}
 use Rattle.row_key.specs.declared.keys.RowKey.{RowKey}
-use Rattle.row_key.specs.Key.{IsKey, key_bytes, hour_bytes}
+use Rattle.row_key.specs.Key.{IsKey, key_bytes, hour_bytes, most_ids}
 
 -- a tag by its key, then by its value
 abbrev pub pair_cmp : ℕ × ℕ → ℕ × ℕ → Ordering
@@ -23,14 +23,14 @@ IsInRange from to row = (is_lt (bytes_cmp row from) ≡ false) × (bytes_cmp row
 
 -- keys with the same bytes are one
 abbrev pub KeysAreUnique : Type 0
-KeysAreUnique = (a b : RowKey) → IsKey a → IsKey b → key_bytes a ≡ key_bytes b → a ≡ b
+KeysAreUnique = (w : Widths) (a b : RowKey) → IsKey w a → IsKey w b → key_bytes w a ≡ key_bytes w b → a ≡ b
 
 -- rows stand in the order of their keys
 abbrev pub RowsFollowKeys : Type 0
-RowsFollowKeys = (a b : RowKey) → IsKey a → IsKey b → bytes_cmp (key_bytes a) (key_bytes b) ≡ key_cmp a b
+RowsFollowKeys = (w : Widths) (a b : RowKey) → IsKey w a → IsKey w b → bytes_cmp (key_bytes w a) (key_bytes w b) ≡ key_cmp a b
 
 -- the rows of a metric whose hours are from one base on and before another are a range of bytes, which has no other row
 abbrev pub HoursAreRange : Type 0
 HoursAreRange =
-    (key : RowKey) (metric from to : ℕ) → IsKey key → metric ≤ MOST_IDS → from < 2 ^ 32 → to < 2 ^ 32
-    → IsInRange (hour_bytes metric from) (hour_bytes metric to) (key_bytes key) ↔ ((key.metric ≡ metric) × (from ≤ key.base) × (key.base < to))
+    (w : Widths) (key : RowKey) (metric from to : ℕ) → IsKey w key → metric ≤ most_ids w.metric → from < 2 ^ 32 → to < 2 ^ 32
+    → IsInRange (hour_bytes w metric from) (hour_bytes w metric to) (key_bytes w key) ↔ ((key.metric ≡ metric) × (from ≤ key.base) × (key.base < to))

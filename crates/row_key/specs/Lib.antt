@@ -1,3 +1,5 @@
+pub mod IdWidths
+pub mod Made
 pub mod Key
 pub mod KeyOrder
 pub mod Regions

@@ -1,8 +1,9 @@
 -- Which region of the store has a row.
-use Rattle.std.specs.Prelude.{◌≡◌, ℕ, ◌+◌, ◌%◌, ◌<◌, ◌≤◌, List, [], ◌∷◌, nat_lt, nat_eq, if◌then◌else◌}
+use Rattle.std.specs.Prelude.{◌≡◌, ℕ, ◌+◌, ◌-◌, ◌%◌, ◌<◌, ◌≤◌, List, [], ◌∷◌, nat_lt, nat_eq, slice_index, if◌then◌else◌}
 use Rattle.row_key.specs.declared.tables.Table.{Table}
 use Rattle.row_key.specs.declared.tables.Table.TheVariants.{Ids, Names, Points}
 use Rattle.row_key.specs.declared.regions.TheConstants.{NAME_REGIONS}
+use Rattle.row_key.specs.declared.widths.Widths.{Widths}
 use Rattle.row_key.specs.declared.keys.RowKey.{RowKey}
 use Rattle.row_key.specs.Key.{IsKey, key_bytes}
 
@@ -21,21 +22,20 @@ last_byte [] = 0
 last_byte (b ∷ []) = b
 last_byte (b ∷ c ∷ bs) = last_byte (c ∷ bs)
 
--- of a point row it is the last byte of the metric's id
-abbrev pub third_byte : List ℕ → ℕ
-third_byte (a ∷ b ∷ c ∷ bs) = c
-third_byte _ = 0
+-- of a point row it is the last byte of the metric's id, and 0 where the row hasn't that byte
+abbrev pub metric_byte : Widths → List ℕ → ℕ
+metric_byte w row = slice_index row (w.metric - 1)
 
--- the region of a row where there are so many data regions
-abbrev pub region_number : ℕ → Table → List ℕ → ℕ
-region_number data_regions Ids row = ids_region row
-region_number data_regions Names row = 5 + last_byte row % 4
-region_number data_regions Points row = NAME_REGIONS + third_byte row % data_regions
+-- the region of a row where ids have these widths and there are so many data regions
+abbrev pub region_number : Widths → ℕ → Table → List ℕ → ℕ
+region_number w data_regions Ids row = ids_region row
+region_number w data_regions Names row = 5 + last_byte row % 4
+region_number w data_regions Points row = NAME_REGIONS + metric_byte w row % data_regions
 
 -- each row has one of these regions
 abbrev pub RegionsEnd : Type 0
-RegionsEnd = (data_regions : ℕ) (table : Table) (row : List ℕ) → 1 ≤ data_regions → region_number data_regions table row < NAME_REGIONS + data_regions
+RegionsEnd = (w : Widths) (data_regions : ℕ) (table : Table) (row : List ℕ) → 1 ≤ data_regions → region_number w data_regions table row < NAME_REGIONS + data_regions
 
 -- the rows of a metric are in one region, which is told by its id alone
 abbrev pub MetricsAreWhole : Type 0
-MetricsAreWhole = (data_regions : ℕ) (key : RowKey) → IsKey key → region_number data_regions Points (key_bytes key) ≡ NAME_REGIONS + key.metric % 256 % data_regions
+MetricsAreWhole = (w : Widths) (data_regions : ℕ) (key : RowKey) → IsKey w key → region_number w data_regions Points (key_bytes w key) ≡ NAME_REGIONS + key.metric % 256 % data_regions

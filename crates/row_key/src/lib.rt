@@ -6,8 +6,10 @@ pub mod keys;
 pub mod laws;
 pub mod regions;
 pub mod tables;
+pub mod widths;
 
-pub use ids::{MOST_IDS, id_bytes};
+pub use ids::{MOST_IDS, id_bytes, is_width, most_ids};
 pub use keys::{KeyFault, RowKey, read_key, write_key};
 pub use regions::{MOST_DATA_REGIONS, NAME_REGIONS, region_of};
 pub use tables::Table;
+pub use widths::Widths;

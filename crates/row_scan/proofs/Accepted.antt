@@ -3,6 +3,7 @@ use Rattle.std.proofs.Common.{◌≡◌, inl, inr, ℕ, ◌≤◌, List, refl, s
 use Rattle.std.specs.Prelude.{Option, Some, Contains}
 use Rattle.tsd_base.specs.declared.kinds.Kind.{Kind}
 use Rattle.qual_codec.specs.declared.cells.Cell.{Cell}
+use Rattle.row_key.specs.declared.widths.Widths.{Widths}
 use Rattle.cell_model.specs.declared.row.Row.{Row}
 use Rattle.cell_model.specs.declared.row.Found.{Found}
 use Rattle.cell_model.specs.Store.{value_at}
@@ -24,8 +25,8 @@ pub record ShownCell (h : History) (end : ℕ) (f : Found) (cell : Cell) : Type 
   pub up_to : when ≤ end
   pub stands : value_at (store_after (first when h)) (point_row f.row.bytes) cell.qual ≡ Some cell.value
 
-pub in_points : (metric first last : ℕ) (row : Row) → IsRowOf metric first last row → row ≡ point_row row.bytes
-in_points metric first last row r = r.row_is ∙ ap point_row (sym (ap (λ (x : Row). x.bytes) r.row_is))
+pub in_points : (w : Widths) (metric first last : ℕ) (row : Row) → IsRowOf w metric first last row → row ≡ point_row row.bytes
+in_points w metric first last row r = r.row_is ∙ ap point_row (sym (ap (λ (x : Row). x.bytes) r.row_is))
 
 pub shown_cell : (wants : Wanting) (h : History) (start end metric first_base last_base : ℕ) (founds : List Found) → ScanGives wants h start end metric first_base last_base founds → (f : Found) → Contains founds f → (cell : Cell) → Contains f.cells cell → ShownCell h end f cell
 shown_cell wants h start end metric first_base last_base founds gives f given cell c =
@@ -34,7 +35,7 @@ shown_cell wants h start end metric first_base last_base founds gives f given ce
     record {
       when = found.when;
       up_to = found.up_to;
-      stands = ap (λ (r : Row). value_at (store_after (first found.when h)) r cell.qual) (sym (in_points metric first_base last_base f.row w.0))
+      stands = ap (λ (r : Row). value_at (store_after (first found.when h)) r cell.qual) (sym (in_points (store_after h).widths metric first_base last_base f.row w.0))
           ∙ cell_at (store_after (first found.when h)) f.row cell (subst (λ (cs : List Cell). Contains cs cell) found.cells c);
     }
 
@@ -47,7 +48,7 @@ accepted_begins names r (longer {h = h} {e = e} b) a = more (accepted_begins nam
     more (inr w) = inr (w.0, (w.1.0, entry_at-more h e w.0 w.1.0 w.1.1), w.2)
 
 -- what it reads was accepted
-pub shown_accepted : (h : History) (end : ℕ) (f : Found) (r : Reading) → IsLawful h → (x : RowReads (name_of (first end h)) f r) → ShownCell h end f x.cell → Accepted (first end h) r
+pub shown_accepted : (h : History) (end : ℕ) (f : Found) (r : Reading) → IsLawful h → (x : RowReads (store_after (first end h)).widths (name_of (first end h)) f r) → ShownCell h end f x.cell → Accepted (first end h) r
 shown_accepted h end f r l x s =
     let row = point_row f.row.bytes in
     let had = had_cell (first s.when h) row x.cell.qual x.cell.value (first_lawful h s.when l) refl s.stands in

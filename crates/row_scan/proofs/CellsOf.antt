@@ -3,12 +3,12 @@ use Rattle.std.proofs.Common.{◌≡◌, ℕ, Bool, true, false, cond, List, [],
 use Rattle.std.specs.Prelude.{Option, None, Some, option_map, find, filter, Contains}
 use Rattle.std.specs.Ordering.{eq_by_cmp}
 use Rattle.std.specs.Cmp.Lexicographic.{texts_ties}
-use Rattle.std.specs.FinMap.{entries, get-entries, entries_sorted, slice_cmp-IsAntisymmetric, nat_cmp-IsAntisymmetric}
+use Rattle.std.specs.FinMap.{get-entries, entries_sorted, slice_cmp-IsAntisymmetric, nat_cmp-IsAntisymmetric}
 use Rattle.qual_codec.specs.declared.cells.Cell.{Cell}
 use Rattle.cell_model.specs.declared.row.Row.{Row}
 use Rattle.cell_model.specs.declared.events.Place.{Place}
 use Rattle.cell_model.specs.declared.events.Content.{Content}
-use Rattle.cell_model.specs.Store.{Store, row_cmp, value_at, cells_of, cell_of, same_bytes, value_among}
+use Rattle.cell_model.specs.Store.{Store, entries, row_cmp, value_at, cells_of, cell_of, same_bytes, value_among}
 use Rattle.list_lemmas.specs.BytesOrder.{bytes_cmp}
 use Rattle.list_lemmas.proofs.BoolTests.{is_equal}
 use Rattle.row_scan.proofs.Lower.{in_filter, here, there, map_in, exact_rows, value_among-cells_of}
@@ -50,5 +50,5 @@ cell_at s row c i =
     let w = map_in cell_of (filter is_of (entries s)) c i in
     let f = in_filter is_of (entries s) w.0 w.1 in
     let row_is : row ≡ w.0.0.row = exact_rows row w.0.0.row (is_equal _ f.1) in
-    let stands = get-entries s w.0.0 ∙ found_there w.0 (entries s) (entries_sorted s) f.0 in
+    let stands = get-entries s.cells w.0.0 ∙ found_there w.0 (entries s) (entries_sorted s.cells) f.0 in
     ap (λ (r : Row). value_at s r c.qual) row_is ∙ ap (λ (x : Cell). value_at s w.0.0.row x.qual) (sym w.2) ∙ ap (option_map (λ (x : Content). x.value)) stands ∙ ap (λ (x : Cell). Some x.value) w.2

@@ -6,6 +6,7 @@ use Rattle.std.proofs.lemmas.List.{length-map}
 use Rattle.list_lemmas.proofs.ListCuts.{fewer}
 use Rattle.list_lemmas.proofs.ListParts.{pairs_cons}
 use Rattle.row_key.specs.declared.tables.Table.TheVariants.{Points}
+use Rattle.row_key.specs.declared.widths.Widths.{Widths}
 use Rattle.cell_model.specs.declared.row.Row.{Row}
 use Rattle.cell_model.specs.declared.row.Found.{Found}
 use Rattle.cell_model.specs.declared.events.Step.{Step}
@@ -38,15 +39,15 @@ rows_differ (f ∷ founds) up =
     not_itself f.row.bytes (subst (λ (r : Row). bytes_cmp f.row.bytes r.bytes ≡ Less) (w.2 ∙ sym same) less))
     (rows_differ founds (pairs_tail (λ (f g : Found). bytes_cmp f.row.bytes g.row.bytes ≡ Less) f founds up))
 
-points_of : (metric first last : ℕ) (row : Row) → IsRowOf metric first last row → row.table ≡ Points
-points_of metric first last row r = ap (λ (x : Row). x.table) r.row_is
+points_of : (w : Widths) (metric first last : ℕ) (row : Row) → IsRowOf w metric first last row → row.table ≡ Points
+points_of w metric first last row r = ap (λ (x : Row). x.table) r.row_is
 
 pub scan_counts : ScanCounts
 scan_counts wants h end metric first_base last_base left own founds l o start sc rows all =
     let w = scan_whole wants h end metric first_base last_base left own founds l o start sc in
     let in_rows : (f : Found) → Contains founds f → Contains rows f.row = λ f c.
     let x = w.only f c in
-    all f.row x.0 (row_stays h x.1.when end f.row l (points_of metric first_base last_base f.row x.0) x.1.up_to x.1.there) in
+    all f.row x.0 (row_stays h x.1.when end f.row l (points_of (store_after h).widths metric first_base last_base f.row x.0) x.1.up_to x.1.there) in
     let few = fewer (map (λ (f : Found). f.row) founds) rows (rows_differ founds w.rising) (λ row c. let f = map_in (λ (f : Found). f.row) founds row c in subst (Contains rows) f.2 (in_rows f.0 f.1)) in
     let same = length-map founds (λ (f : Found). f.row) in
     omega (arith, same, few)

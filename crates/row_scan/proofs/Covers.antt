@@ -5,7 +5,7 @@ use Rattle.std.specs.declared.cmp.Ordering.TheVariants.{Less}
 use Rattle.cell_model.specs.declared.row.Found.{Found}
 use Rattle.cell_model.specs.declared.events.Placed.{Placed}
 use Rattle.list_lemmas.specs.BytesOrder.{bytes_cmp}
-use Rattle.cell_model.specs.History.{History, first}
+use Rattle.cell_model.specs.History.{History, first, store_after}
 use Rattle.cell_model.specs.IdRows.{name_of}
 use Rattle.cell_model.specs.Lawful.{IsLawful}
 use Rattle.cell_model.specs.Readings.{Reading, Meets, OneValued, Accepted}
@@ -45,8 +45,8 @@ record Whole (wants : Wanting) (h : History) (start end metric first_base last_b
   shown : (f : Found) → ShowsRow own f → Contains founds f
   shows : (f : Found) → Contains founds f → ShowsRow own f
 
-one_value : (wants : Wanting) (h : History) (start end metric first_base last_base : ℕ) (own : List Placed) (founds : List Found) (asked : Reading → Bool) → Whole wants h start end metric first_base last_base own founds → NoConflict (name_of (first end h)) asked own
-    → OneValued (Chosen asked (ShowsReading (name_of (first end h)) own))
+one_value : (wants : Wanting) (h : History) (start end metric first_base last_base : ℕ) (own : List Placed) (founds : List Found) (asked : Reading → Bool) → Whole wants h start end metric first_base last_base own founds → NoConflict (store_after (first end h)).widths (name_of (first end h)) asked own
+    → OneValued (Chosen asked (ShowsReading (store_after (first end h)).widths (name_of (first end h)) own))
 one_value wants h start end metric first_base last_base own founds asked w conflict_free r s ((f, fs, fr), yr) ((g, gs, gr), ys) m =
     let cf = shown_cell wants h start end metric first_base last_base founds w.gives f (w.shown f fs) fr.cell fr.among in
     let cg = shown_cell wants h start end metric first_base last_base founds w.gives g (w.shown g gs) gr.cell gr.among in
@@ -56,16 +56,16 @@ one_value wants h start end metric first_base last_base own founds asked w confl
     (row_stood h cf.when end f.row.bytes fr.cell.qual fr.cell.value w.lawful cf.up_to cf.stands) (row_stood h cg.when end g.row.bytes gr.cell.qual gr.cell.value w.lawful cg.up_to cg.stands)
     (dot_offset fr.cell.qual fr.cell.value a.dots a.dot a.reads a.among) (dot_offset gr.cell.qual gr.cell.value b.dots b.dot b.reads b.among) a.dot_reads b.dot_reads m in
     let is : f ≡ g = once founds f g w.gives.rising (w.shown f fs) (w.shown g gs) same in
-    conflict_free g gs r s (subst (λ (x : Found). RowReads (name_of (first end h)) x r) is fr, yr) (gr, ys) m
+    conflict_free g gs r s (subst (λ (x : Found). RowReads (store_after (first end h)).widths (name_of (first end h)) x r) is fr, yr) (gr, ys) m
 
 within_accepted : (wants : Wanting) (h : History) (start end metric first_base last_base : ℕ) (own : List Placed) (founds : List Found) (asked : Reading → Bool) → Whole wants h start end metric first_base last_base own founds
-    → (r : Reading) → Chosen asked (ShowsReading (name_of (first end h)) own) r → Chosen asked (Accepted (first end h)) r
+    → (r : Reading) → Chosen asked (ShowsReading (store_after (first end h)).widths (name_of (first end h)) own) r → Chosen asked (Accepted (first end h)) r
 within_accepted wants h start end metric first_base last_base own founds asked w r ((f, fs, fr), yr) =
     (shown_accepted h end f r w.lawful fr (shown_cell wants h start end metric first_base last_base founds w.gives f (w.shown f fs) fr.cell fr.among), yr)
 
 each_covered : (wants : Wanting) (h : History) (start end metric first_base last_base : ℕ) (own : List Placed) (founds : List Found) (asked : Reading → Bool) → Whole wants h start end metric first_base last_base own founds
     → BySeries asked → AsksWithin asked (first end h) metric first_base last_base → AsksOfWanted wants asked (first end h)
-    → (r : Reading) → Chosen asked (Accepted (first start h)) r → (q : Reading) × Chosen asked (ShowsReading (name_of (first end h)) own) q × Meets r q
+    → (r : Reading) → Chosen asked (Accepted (first start h)) r → (q : Reading) × Chosen asked (ShowsReading (store_after (first end h)).widths (name_of (first end h)) own) q × Meets r q
 each_covered wants h start end metric first_base last_base own founds asked w by within only r (accepted, asks) =
     let st = stood h start end r w.lawful w.order accepted in
     let s = st.0 in

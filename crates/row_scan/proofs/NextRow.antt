@@ -5,7 +5,7 @@ use Rattle.std.specs.declared.cmp.Ordering.{Ordering}
 use Rattle.std.specs.declared.cmp.Ordering.TheVariants.{Less, Equal, Greater}
 use Rattle.std.specs.Ordering.{nat_cmp, ordering_then, ordering_reverse, eq_by_cmp, is_eq, is_lt}
 use Rattle.std.specs.Cmp.{tied_itself}
-use Rattle.std.specs.FinMap.{entries, get-entries, entries_sorted, is_sorted}
+use Rattle.std.specs.FinMap.{get-entries, entries_sorted, is_sorted}
 use Rattle.std.specs.FinMap as fin
 use Rattle.std.specs.FinMap.Entries.{below_all}
 use Rattle.row_key.specs.declared.tables.Table.{Table}
@@ -14,7 +14,7 @@ use Rattle.cell_model.specs.declared.row.Row.{Row}
 use Rattle.cell_model.specs.declared.row.Found.{Found}
 use Rattle.cell_model.specs.declared.events.Place.{Place}
 use Rattle.cell_model.specs.declared.events.Content.{Content}
-use Rattle.cell_model.specs.Store.{Store, place_cmp, row_cmp, place_of, table_number, content_at, value_at, cells_of, next_row_of, is_between}
+use Rattle.cell_model.specs.Store.{Store, entries, place_cmp, row_cmp, place_of, table_number, content_at, value_at, cells_of, next_row_of, is_between}
 use Rattle.list_lemmas.specs.BytesOrder.{bytes_cmp}
 use Rattle.list_lemmas.proofs.BoolTests.{is_equal}
 use Rattle.row_scan.proofs.Lower.{exact_places, exact_rows, places_total, here, there, split, not_in}
@@ -146,7 +146,7 @@ hit : (s : Store) (from to : List ℕ) (row : Row) (qual value : List ℕ) → I
     → FirstOf (place_of row qual) (find (λ (e : Place × Content). is_between Points from to e.0.row) (entries s))
 hit s from to row qual value t is =
     let st = mapped_Some (content_at s row qual) value is in
-    first_hit (is_between Points from to) (place_of row qual) st.content (entries s) (entries_sorted s) (sym (get-entries s (place_of row qual)) ∙ st.is) t
+    first_hit (is_between Points from to) (place_of row qual) st.content (entries s) (entries_sorted s.cells) (sym (get-entries s.cells (place_of row qual)) ∙ st.is) t
 
 -- where none is found, no row of the range has a cell
 pub next_none : (s : Store) (from to : List ℕ) (row : Row) (qual value : List ℕ) → next_row_of s Points from to ≡ None → Between from to row → value_at s row qual ≡ Some value → ⊥
@@ -206,8 +206,8 @@ found_there e (x ∷ es) s c = at (split x e es c) (λ c. found_there e es (T_se
 pub next_has : (s : Store) (from to : List ℕ) (f : Found) → next_row_of s Points from to ≡ Some f → (qual : List ℕ) × (value : List ℕ) × (value_at s f.row qual ≡ Some value)
 next_has s from to f is =
     let b = found_by s from to f is in
-    let there = found_there b.entry (entries s) (entries_sorted s) (find_in (is_between Points from to) (entries s) b.entry b.is) in (
+    let there = found_there b.entry (entries s) (entries_sorted s.cells) (find_in (is_between Points from to) (entries s) b.entry b.is) in (
       b.entry.0.qual,
       b.entry.1.value,
-      ap (λ (r : Row). value_at s r b.entry.0.qual) b.row_is ∙ ap (λ (o : Option Content). option_map (λ (c : Content). c.value) o) (get-entries s b.entry.0 ∙ there),
+      ap (λ (r : Row). value_at s r b.entry.0.qual) b.row_is ∙ ap (λ (o : Option Content). option_map (λ (c : Content). c.value) o) (get-entries s.cells b.entry.0 ∙ there),
     )

@@ -8,6 +8,7 @@ use Rattle.std.specs.Cmp.Lexicographic.{nat_list_cmp_total}
 use Rattle.std.proofs.lemmas.List.Kept.{AllPairs-cons}
 use Rattle.std.proofs.lemmas.Bool.{false≢true}
 use Rattle.row_key.specs.declared.tables.Table.TheVariants.{Points}
+use Rattle.row_key.specs.declared.widths.Widths.{Widths}
 use Rattle.cell_model.specs.declared.row.Row.{Row}
 use Rattle.cell_model.specs.declared.row.Found.{Found}
 use Rattle.cell_model.specs.declared.events.Reply.TheVariants.{Next}
@@ -24,7 +25,7 @@ use Rattle.row_scan.specs.Scans.{Left, IsNext, IsRowOf, behind, Wanting, IsWante
 use Rattle.row_scan.specs.Scans.Scanned.{ended, found, other, skipped}
 use Rattle.row_scan.specs.Laws.{ScanIsWhole}
 use Rattle.list_lemmas.proofs.OrderedBytes.{less_behind, less_or_not, from_on_from_on, below_from_on, below_behind, not_back}
-use Rattle.row_scan.proofs.Lower.{first_first, all_of, first_lawful, each_entry, Begins, whole, longer, here, there, split, not_in, pairs_in, entry_at-more, had_cell, keep, begins_first}
+use Rattle.row_scan.proofs.Lower.{first_first, all_of, first_lawful, each_entry, Begins, whole, longer, carry, here, there, split, not_in, pairs_in, entry_at-more, had_cell, keep, begins_first}
 use Rattle.row_scan.proofs.NextRow.{Between, between, between_is, next_cells, next_none, next_least, next_has}
 use Rattle.row_scan.proofs.Turning.{HasKey, found_key}
 
@@ -86,7 +87,7 @@ between_behind : (left : Left) (a row : Row) → Between left.from left.to row �
 between_behind left a row b less = record { in_points = b.in_points; from_on = less_behind a.bytes row.bytes less; below = b.below }
 
 -- a wanted row that is left is left where the scan goes on, too
-pub wanted_stays : (wants : Wanting) (left : Left) (from : List ℕ) (row : Row) → Skips wants left from → IsWanted wants row → Between left.from left.to row → Between from left.to row
+pub wanted_stays : (wants : Wanting) (left : Left) (from : List ℕ) (row : Row) → Skips wants left from → IsWanted left.widths wants row → Between left.from left.to row → Between from left.to row
 wanted_stays wants left from row skips w b = elim (less_or_not row.bytes from) [
   | inl less ↦
       let in_range = between_is left.from from row (record { in_points = b.in_points; from_on = b.from_on; below = ap is_lt less }) in
@@ -96,7 +97,7 @@ wanted_stays wants left from row skips w b = elim (less_or_not row.bytes from) [
 ]
 
 pub scan_each : (wants : Wanting) (h : History) (start end : ℕ) → IsLawful h → {left : Left} {own : List Placed} {founds : List Found} → Scanned wants left own founds → StandAbove h start end own
-    → (row : Row) → IsWanted wants row → Between left.from left.to row → HasCell (store_after (first start h)) row → (f : Found) × Contains founds f × (f.row ≡ row)
+    → (row : Row) → IsWanted left.widths wants row → Between left.from left.to row → HasCell (store_after (first start h)) row → (f : Found) × Contains founds f × (f.row ≡ row)
 scan_each wants h start end l (ended {left} {p} {own} n others) s row w b c =
     let at = s.each p (here p own) in
     let lower = at.1 in
@@ -124,7 +125,7 @@ pub record FoundAt (h : History) (start end : ℕ) (from to : List ℕ) (own : L
   pub reply : placed.entry.reply ≡ Next (Some f)
   pub above : start < placed.place
   pub up_to : placed.place ≤ end
-  pub key : HasKey from to f.row
+  pub key : HasKey (store_after h).widths from to f.row
   pub has : HasCell (store_after (first (placed.place - 1) h)) f.row
   pub cells : f.cells ≡ cells_of (store_after (first (placed.place - 1) h)) f.row
 
@@ -175,7 +176,7 @@ scan_found wants h start end l (found {left = left} {p = p} {own = own} {f = g} 
       reply = n.1;
       above = at.1;
       up_to = at.2;
-      key = found_key h (p.place - 1) left.from left.to g l is;
+      key = carry (begins_first (p.place - 1) h) (λ (w : Widths). HasKey w left.from left.to g.row) (found_key h (p.place - 1) left.from left.to g l is);
       has = next_has (store_after (first (p.place - 1) h)) left.from left.to g is;
       cells = next_cells (store_after (first (p.place - 1) h)) left.from left.to g is;
     }
@@ -222,8 +223,8 @@ scan_whole wants h end metric first_base last_base left own founds l o start sc 
           let low = w.above in
           let high = w.up_to in
           let in_range = subst (λ (r : Row). IsTrue (is_between Points left.from left.to r)) k.row_is (between_is left.from left.to f.row k.between) in (
-            subst (IsRowOf metric first_base last_base) (sym k.row_is) (start.only k.key k.is_key in_range),
+            subst (IsRowOf (store_after h).widths metric first_base last_base) (sym k.row_is) (start.only k.key k.is_key in_range),
             record { when = w.placed.place - 1; from_on = omega (arith, low); up_to = omega (arith, low, high); there = w.has; cells = w.cells },
           );
-      all = λ row r w c. scan_each wants h (before_first own end) end l sc s row w (between left.from left.to row (start.all row r)) c;
+      all = λ row r w c. scan_each wants h (before_first own end) end l sc s row (subst (λ (x : Widths). IsWanted x wants row) (sym start.widths_are) w) (between left.from left.to row (start.all row r)) c;
     }

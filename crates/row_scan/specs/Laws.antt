@@ -25,20 +25,20 @@ pub record WasFound (h : History) (start end : ℕ) (f : Found) : Type 0 where
 -- the rows found rise; each is one of the metric in these hours that was there; and each such row that was there at the start is among them, where it is wanted
 pub record ScanGives (wants : Wanting) (h : History) (start end metric first_base last_base : ℕ) (founds : List Found) : Type 0 where
   pub rising : AllPairs (λ (f g : Found). bytes_cmp f.row.bytes g.row.bytes ≡ Less) founds
-  pub only : (f : Found) → Contains founds f → IsRowOf metric first_base last_base f.row × WasFound h start end f
-  pub all : (row : Row) → IsRowOf metric first_base last_base row → IsWanted wants row → HasCell (store_after (first start h)) row → (f : Found) × Contains founds f × (f.row ≡ row)
+  pub only : (f : Found) → Contains founds f → IsRowOf (store_after h).widths metric first_base last_base f.row × WasFound h start end f
+  pub all : (row : Row) → IsRowOf (store_after h).widths metric first_base last_base row → IsWanted (store_after h).widths wants row → HasCell (store_after (first start h)) row → (f : Found) × Contains founds f × (f.row ≡ row)
 
 -- a whole scan gives every wanted row of the metric in the hours that was there before its first step, once and in order, whatever others merged and dropped meanwhile
 abbrev pub ScanIsWhole : Type 0
 ScanIsWhole = (wants : Wanting) (h : History) (end metric first_base last_base : ℕ) (left : Left) (own : List Placed) (founds : List Found)
-    → IsLawful h → InOrder h end own → IsStart metric first_base last_base left → Scanned wants left own founds
+    → IsLawful h → InOrder h end own → IsStart (store_after h).widths metric first_base last_base left → Scanned wants left own founds
     → ScanGives wants h (before_first own end) end metric first_base last_base founds
 
 -- it finds no more rows than any list has that holds each row of the metric in the hours which is there at its end
 abbrev pub ScanCounts : Type 0
 ScanCounts = (wants : Wanting) (h : History) (end metric first_base last_base : ℕ) (left : Left) (own : List Placed) (founds : List Found)
-    → IsLawful h → InOrder h end own → IsStart metric first_base last_base left → Scanned wants left own founds
-    → (rows : List Row) → ((row : Row) → IsRowOf metric first_base last_base row → HasCell (store_after (first end h)) row → Contains rows row) → length founds ≤ length rows
+    → IsLawful h → InOrder h end own → IsStart (store_after h).widths metric first_base last_base left → Scanned wants left own founds
+    → (rows : List Row) → ((row : Row) → IsRowOf (store_after h).widths metric first_base last_base row → HasCell (store_after (first end h)) row → Contains rows row) → length founds ≤ length rows
 
 -- the rows that its entries show are those that it found
 abbrev pub ScanShows : Type 0
@@ -48,8 +48,8 @@ ScanShows = (wants : Wanting) (h : History) (end : ℕ) (left : Left) (own : Lis
 -- a whole scan that shows no conflict covers what is asked for, whatever was put, merged and dropped meanwhile
 abbrev pub ScanCovers : Type 0
 ScanCovers = (wants : Wanting) (h : History) (end metric first_base last_base : ℕ) (left : Left) (own : List Placed) (founds : List Found) (asked : Reading → Bool)
-    → IsLawful h → InOrder h end own → IsStart metric first_base last_base left → Scanned wants left own founds
-    → BySeries asked → AsksWithin asked (first end h) metric first_base last_base → AsksOfWanted wants asked (first end h) → NoConflict (name_of (first end h)) asked own → OwnCovers asked own end h
+    → IsLawful h → InOrder h end own → IsStart (store_after h).widths metric first_base last_base left → Scanned wants left own founds
+    → BySeries asked → AsksWithin asked (first end h) metric first_base last_base → AsksOfWanted wants asked (first end h) → NoConflict (store_after (first end h)).widths (name_of (first end h)) asked own → OwnCovers asked own end h
 
 -- where no turn was made yet, all is left
 abbrev pub ScanBegins : Type 0

@@ -2,6 +2,7 @@
 use Rattle.std.specs.Prelude.{◌≡◌, ℕ, ◌≤◌, Bool, List, IsTrue, Contains, Option, Some}
 use Rattle.tsd_base.specs.declared.kinds.Kind.{Kind}
 use Rattle.tsd_base.specs.declared.kinds.Kind.TheVariants.{Metric}
+use Rattle.row_key.specs.declared.widths.Widths.{Widths}
 use Rattle.row_key.specs.declared.keys.RowKey.{RowKey}
 use Rattle.row_key.specs.Key.{IsKey, key_bytes}
 use Rattle.qual_codec.specs.declared.cells.Cell.{Cell}
@@ -22,14 +23,14 @@ pub record ShowsRow (own : List Placed) (found : Found) : Type 0 where
   pub reply : placed.entry.reply ≡ Next (Some found)
 
 -- a cell of the row has the reading, with these names
-pub record RowReads (names : Kind → ℕ → Option (List ℕ)) (found : Found) (r : Reading) : Type 0 where
+pub record RowReads (w : Widths) (names : Kind → ℕ → Option (List ℕ)) (found : Found) (r : Reading) : Type 0 where
   pub cell : Cell
   pub among : Contains found.cells cell
-  pub reads : CellReads names found.row.bytes cell.qual cell.value r
+  pub reads : CellReads w names found.row.bytes cell.qual cell.value r
 
 -- the readings of the rows that the entries show
-abbrev pub ShowsReading : (Kind → ℕ → Option (List ℕ)) → List Placed → Reading → Type 0
-ShowsReading names own r = (found : Found) × ShowsRow own found × RowReads names found r
+abbrev pub ShowsReading : Widths → (Kind → ℕ → Option (List ℕ)) → List Placed → Reading → Type 0
+ShowsReading w names own r = (found : Found) × ShowsRow own found × RowReads w names found r
 
 -- those of the readings that are asked for
 abbrev pub Chosen : (Reading → Bool) → (Reading → Type 0) → Reading → Type 0
@@ -59,13 +60,13 @@ pub record IsKeyOf (names : Kind → ℕ → Option (List ℕ)) (key : RowKey) (
 -- what is asked for is of wanted rows, of those that are there after the history
 abbrev pub AsksOfWanted : Wanting → (Reading → Bool) → History → Type 0
 AsksOfWanted wants asked h =
-    (key : RowKey) (r : Reading) → IsKey key → HasCell (store_after h) (point_row (key_bytes key)) → IsKeyOf (name_of h) key r → IsTrue (asked r) → IsTrue (wants key)
+    (key : RowKey) (r : Reading) → IsKey (store_after h).widths key → HasCell (store_after h) (point_row (key_bytes (store_after h).widths key)) → IsKeyOf (name_of h) key r → IsTrue (asked r) → IsTrue (wants key)
 
 -- no row that is shown has two values at one time that is asked for
-abbrev pub NoConflict : (Kind → ℕ → Option (List ℕ)) → (Reading → Bool) → List Placed → Type 0
-NoConflict names asked own = (found : Found) → ShowsRow own found → OneValued (Chosen asked (RowReads names found))
+abbrev pub NoConflict : Widths → (Kind → ℕ → Option (List ℕ)) → (Reading → Bool) → List Placed → Type 0
+NoConflict w names asked own = (found : Found) → ShowsRow own found → OneValued (Chosen asked (RowReads w names found))
 
 -- what these entries show of what is asked for covers what was accepted before the first of them, and lies within what was accepted at the end
 abbrev pub OwnCovers : (Reading → Bool) → List Placed → ℕ → History → Type 0
 OwnCovers asked own end h =
-    Covers (Chosen asked (ShowsReading (name_of (first end h)) own)) (Chosen asked (Accepted (first (before_first own end) h))) (Chosen asked (Accepted (first end h)))
+    Covers (Chosen asked (ShowsReading (store_after (first end h)).widths (name_of (first end h)) own)) (Chosen asked (Accepted (first (before_first own end) h))) (Chosen asked (Accepted (first end h)))

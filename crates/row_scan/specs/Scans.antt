@@ -2,6 +2,7 @@
 use Rattle.std.specs.Prelude.{◌≡◌, ℕ, ◌≤◌, Bool, false, List, [], ◌∷◌, ◌++◌, IsTrue, Contains, Option, None, Some, Result, Ok, Err}
 use Rattle.std.specs.Ordering.{is_lt}
 use Rattle.row_key.specs.declared.tables.Table.TheVariants.{Points}
+use Rattle.row_key.specs.declared.widths.Widths.{Widths}
 use Rattle.row_key.specs.declared.keys.RowKey.{RowKey}
 use Rattle.row_key.specs.Key.{IsKey, key_bytes}
 use Rattle.cell_model.specs.declared.row.Row.{Row}
@@ -16,28 +17,30 @@ use Rattle.list_lemmas.specs.BytesOrder.{bytes_cmp}
 use Rattle.cell_model.specs.Readings.{point_row}
 pub use Rattle.cell_model.specs.Deeds.{MadeSo}
 
--- what is left of a scan: the point rows from `from` on and below `to`
+-- what is left of a scan: the point rows from `from` on and below `to`, whose ids have these widths
 pub record Left : Type 0 where
+  pub widths : Widths
   pub from : List ℕ
   pub to : List ℕ
 
 -- the row is one of the metric, in an hour that begins at one of the seconds from `first` to `last`
-pub record IsRowOf (metric first last : ℕ) (row : Row) : Type 0 where
+pub record IsRowOf (w : Widths) (metric first last : ℕ) (row : Row) : Type 0 where
   pub key : RowKey
-  pub is_key : IsKey key
-  pub row_is : row ≡ point_row (key_bytes key)
+  pub is_key : IsKey w key
+  pub row_is : row ≡ point_row (key_bytes w key)
   pub metric_is : key.metric ≡ metric
   pub from_on : first ≤ key.base
   pub up_to : key.base ≤ last
 
 -- of the rows with a key, those of the metric in these hours are left, and no other
-pub record IsStart (metric first last : ℕ) (left : Left) : Type 0 where
-  pub all : (row : Row) → IsRowOf metric first last row → IsTrue (is_between Points left.from left.to row)
-  pub only : (key : RowKey) → IsKey key → IsTrue (is_between Points left.from left.to (point_row (key_bytes key))) → IsRowOf metric first last (point_row (key_bytes key))
+pub record IsStart (w : Widths) (metric first last : ℕ) (left : Left) : Type 0 where
+  pub widths_are : left.widths ≡ w
+  pub all : (row : Row) → IsRowOf w metric first last row → IsTrue (is_between Points left.from left.to row)
+  pub only : (key : RowKey) → IsKey w key → IsTrue (is_between Points left.from left.to (point_row (key_bytes w key))) → IsRowOf w metric first last (point_row (key_bytes w key))
 
 -- what is left from these bytes on
 abbrev pub left_at : Left → List ℕ → Left
-left_at left from = record { from = from; to = left.to }
+left_at left from = record { widths = left.widths; from = from; to = left.to }
 
 -- what is left behind a row: the least bytes above the row's are the first
 abbrev pub behind : Left → Row → Left
@@ -71,16 +74,16 @@ abbrev pub Wanting : Type 0
 Wanting = RowKey → Bool
 
 -- the row has a key that is wanted
-pub record IsWanted (wants : Wanting) (row : Row) : Type 0 where
+pub record IsWanted (w : Widths) (wants : Wanting) (row : Row) : Type 0 where
   pub key : RowKey
-  pub is_key : IsKey key
-  pub row_is : row ≡ point_row (key_bytes key)
+  pub is_key : IsKey w key
+  pub row_is : row ≡ point_row (key_bytes w key)
   pub wanted : IsTrue (wants key)
 
 -- the scan may go on at these bytes: they are not before those at which the rest begins, and no row in between is wanted
 pub record Skips (wants : Wanting) (left : Left) (from : List ℕ) : Type 0 where
   pub forward : is_lt (bytes_cmp from left.from) ≡ false
-  pub over : (key : RowKey) → IsKey key → IsTrue (is_between Points left.from from (point_row (key_bytes key))) → wants key ≡ false
+  pub over : (key : RowKey) → IsKey left.widths key → IsTrue (is_between Points left.from from (point_row (key_bytes left.widths key))) → wants key ≡ false
 
 -- The next rows among the entries make a whole scan of what is left: each looks behind the row that the one before it found, or further on
 -- where no row in between is wanted, and the last found none. A scan for all rows passes none over.

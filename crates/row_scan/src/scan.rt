@@ -1,7 +1,7 @@
 //! Scans over the rows of one metric.
 ghost use Rattle.std.specs.Prelude.{◌≡◌, ◌++◌, ◌∷◌, [], ◌≤◌, false, length, OnOk, OnErr};
 ghost use Rattle.std.specs.Ordering.{is_lt};
-ghost use Rattle.row_key.specs.Key.{IsKey, hour_bytes, key_bytes};
+ghost use Rattle.row_key.specs.Key.{IsKey, hour_bytes, key_bytes, most_ids};
 ghost use Rattle.cell_model.specs.Ranges.{SameMetric};
 ghost use Rattle.cell_model.specs.Seen.{IsPossible};
 ghost use Rattle.cell_model.specs.Stops.{is_stop};
@@ -12,18 +12,19 @@ ghost use Rattle.row_scan.specs.Scans.{IsStart, Left, MadeSo, TurnMade, after_tu
 use arrayvec::ArrayVec;
 use cell_model::{Found, Rows, RowsFault};
 use qual_codec::Bytes;
-use row_key::{MOST_IDS, RowKey, Table, write_key};
+use row_key::{RowKey, Table, Widths, id_bytes, write_key};
 use std::alloc::Global;
 use std::marker::Model;
 
-/// The longest key of a point row has 55 bytes, and a scan goes on one byte behind it.
-const LONGEST_START: usize = 56;
+/// The longest key of a point row has 72 bytes, and a scan goes on one byte behind it.
+const LONGEST_START: usize = 73;
 
 /// What is left of a scan over the rows of one metric, in a range of hours.
 ///
-/// Contracts see it as the bytes at which the rows that are left begin and end.
+/// Contracts see it as the widths of the rows' ids, and the bytes at which the rows that are left begin and end.
 #[derive(Drop)]
 pub struct Scan {
+    widths: Widths,
     from: ArrayVec<u8, LONGEST_START>,
     to: Bytes,
 }
@@ -34,23 +35,14 @@ impl Model for Scan {
 
     ghost Value = { Left };
 
-    ghost view = { λ s. record { from = s.from.items; to = s.to } };
+    ghost view = { λ s. record { widths = s.widths; from = s.from.items; to = s.to } };
 
-    ghost invariant = { λ s. SameMetric s.from.items s.to };
-}
-
-/// The bytes with which the rows of a metric and an hour begin.
-fn hour_start(metric: u32, base: u32) -> [u8; 7]
-    ensures { result ≡ hour_bytes metric base }
-{
-    let [_, a, b, c] = metric.to_be_bytes();
-    let [d, e, f, g] = base.to_be_bytes();
-    [a, b, c, d, e, f, g]
+    ghost invariant = { λ s. SameMetric s.widths s.from.items s.to };
 }
 
 /// These bytes, which fit.
 fn held(bytes: &[u8]) -> ArrayVec<u8, LONGEST_START>
-    requires { length bytes.now ≤ 56 }
+    requires { length bytes.now ≤ 73 }
     ensures { result.items ≡ bytes.now }
 {
     let mut held = ArrayVec::new();
@@ -58,27 +50,46 @@ fn held(bytes: &[u8]) -> ArrayVec<u8, LONGEST_START>
     held
 }
 
+/// The bytes with which the rows of a metric and an hour begin.
+fn hour_start(metric: u32, base: u32, widths: Widths) -> ArrayVec<u8, LONGEST_START>
+    ensures bytes { result.items ≡ hour_bytes widths metric base }
+    ensures short { length result.items ≤ 8 }
+{
+    let id = id_bytes(metric, widths.metric);
+    let mut start = held(id.as_slice());
+    let _ = start.try_extend_from_slice(base.to_be_bytes().as_slice());
+    start
+}
+
 impl Scan {
-    /// A scan over the rows of a metric in the hours that begin at the seconds from `first_base` to `last_base`, both included.
-    pub fn start(metric: u32, first_base: u32, last_base: u32) -> Scan
-        ensures { metric ≤ MOST_IDS → IsStart metric first_base last_base result }
+    /// A scan over the rows of a metric in the hours that begin at the seconds from `first_base` to `last_base`, both included, in a
+    /// store whose ids have these widths.
+    pub fn start(metric: u32, first_base: u32, last_base: u32, widths: Widths) -> Scan
+        ensures widths { result.widths ≡ widths }
+        ensures starts { metric ≤ most_ids widths.metric → IsStart widths metric first_base last_base result }
     {
         // A second behind the last hour will do: the next hour may have no number.
         let end = last_base.saturating_add(1);
-        let first_row = hour_start(metric, first_base);
-        let end_row = hour_start(metric, end);
+        let end_row = hour_start(metric, end, widths);
         Scan {
-            from: held(&first_row),
-            to: Bytes::short(&end_row),
+            widths,
+            from: hour_start(metric, first_base, widths),
+            to: Bytes::short(end_row.as_slice()),
         }
+    }
+
+    /// How many bytes the ids of each kind have in the rows.
+    pub fn widths(&self) -> Widths
+        ensures { result ≡ self.now.widths }
+    {
+        self.widths
     }
 
     /// Goes on behind a row of the same metric.
     fn go_behind(&mut self, row: &[u8])
-        requires short { length row.now ≤ 55 }
-        requires metric { SameMetric row.now self.old.to }
-        ensures from { self.new.from ≡ row.now ++ 0 ∷ [] }
-        ensures to { self.new.to ≡ self.old.to }
+        requires short { length row.now ≤ 72 }
+        requires metric { SameMetric self.old.widths row.now self.old.to }
+        ensures { self.new ≡ left_at self.old (row.now ++ 0 ∷ []) }
     {
         self.from = held(row);
         self.from.push(0);
@@ -87,19 +98,21 @@ impl Scan {
     /// Goes on at the row of this key, of the same metric and not before what is left: the rows in between are passed over. It makes no
     /// step.
     pub fn skip_to(&mut self, key: &RowKey)
-        requires key { IsKey key.now }
-        requires metric { SameMetric (key_bytes key.now) self.old.from }
-        requires forward { is_lt (bytes_cmp (key_bytes key.now) self.old.from) ≡ false }
-        ensures { self.new ≡ left_at self.old (key_bytes key.now) }
+        requires key { IsKey self.old.widths key.now }
+        requires metric { SameMetric self.old.widths (key_bytes self.old.widths key.now) self.old.from }
+        requires forward { is_lt (bytes_cmp (key_bytes self.old.widths key.now) self.old.from) ≡ false }
+        ensures { self.new ≡ left_at self.old (key_bytes self.old.widths key.now) }
     {
-        let row = write_key(key);
+        let row = write_key(key, self.widths);
         self.from = held(row.as_slice());
     }
 
-    /// The next row with its cells, or None where no more is left. It makes one `next_row`.
+    /// The next row with its cells, or None where no more is left. It makes one `next_row`. The ids of the rows have the widths that the
+    /// scan was started with.
     ///
     /// After a fault nothing was made, and the scan may go on: `OutOfMemory` for want of memory, `Stopped` where the step was stopped.
     pub fn turn<R: Rows>(&mut self, alloc: Global, rows: &mut R) -> Result<Option<Found>, RowsFault>
+        requires { self.old.widths ≡ (R.seen rows.old).base.widths }
         ensures made { MadeSo (R.seen rows.old) (TurnMade self.old result) (R.seen rows.new) }
         ensures left { self.new ≡ after_turn self.old result }
         ensures lives { OnErr result (IsPossible (R.seen rows.old) → IsPossible (R.seen rows.new)) }

@@ -1,7 +1,8 @@
 -- What a fleet's job does: what it serves, and what it prints.
 use Rattle.std.specs.Prelude.{◌≡◌, ◌≢◌, ◌≤◌, ◌⊎◌, ℕ, Bool, true, false, length, List, [], ◌++◌, codes, decimal, flat_map, Option, Some}
 use Rattle.std.specs.List.{list_any}
-use Rattle.std.specs.FinMap.{empty}
+use Rattle.row_key.specs.Made.{three}
+use Rattle.cell_model.specs.Store.{no_cells}
 use Rattle.std.specs.Io.KnownBytes.{Appends}
 use Rattle.tsd_io.specs.Causes.{Rose}
 use Rattle.tsd_doors.specs.Links.{Counts, Shut}
@@ -47,7 +48,7 @@ pub record RunsFleet (result : FleetEnd) (asked : ℕ) (inlets_tell outlets_tell
   pub ends : List Served
   pub links : ℕ
   pub tally : Tally
-  pub serves : FleetServes inlets_tell outlets_tell c moments empty back back' faults faults' ends tally
+  pub serves : FleetServes inlets_tell outlets_tell c moments (no_cells three) back back' faults faults' ends tally
   pub counted : CountsLinks result links (length ends) counts counts'
   pub closed : result ≡ end.Closed → list_any is_die ends ≡ false
   pub died : result ≡ end.Died → list_any is_die ends ≡ true

@@ -1,7 +1,8 @@
 -- What was served over a store of one's own stands in the store's whole history.
 use Rattle.std.proofs.Common.{◌≡◌, ℕ, true, List, [], refl, sym, subst, ◌∙◌, arith}
 use Rattle.std.specs.Prelude.{None}
-use Rattle.std.specs.FinMap.{empty}
+use Rattle.row_key.specs.declared.widths.Widths.{Widths}
+use Rattle.cell_model.specs.Store.{no_cells}
 use Rattle.cell_model.specs.History.{History, len}
 use Rattle.cell_model.specs.Seen.{Seen, IsPossible}
 use Rattle.cell_solo.specs.Turns.{whole_seen, opened, opening}
@@ -15,14 +16,14 @@ use Rattle.tsd_daemon.specs.Exchanges.Ran.{start}
 use Rattle.tsd_daemon.specs.ServedConns.{Fills, IsServed, Serves}
 use Rattle.stdio_job.specs.LoneConnections.{IsServedAlone}
 
-abbrev begun : History
-begun = opened empty 1
+abbrev begun : Widths → History
+begun w = opened (no_cells w) 1
 
-abbrev fresh_seen : Seen
-fresh_seen = whole_seen begun 1 true
+abbrev fresh_seen : Widths → Seen
+fresh_seen w = whole_seen (begun w) 1 true
 
-alone_served : (c : Admission) (new : Seen) (input output times : List ℕ) (result : Served) → IsPossible fresh_seen → Serves c fresh_seen input output times result new → IsServedAlone c input output times result
-alone_served c new input output times result possible s =
+alone_served : (w : Widths) (c : Admission) (new : Seen) (input output times : List ℕ) (result : Served) → IsPossible (fresh_seen w) → Serves c (fresh_seen w) input output times result new → IsServedAlone w c input output times result
+alone_served w c new input output times result possible s =
     let p = s.since.lives possible in
     let long : len p.history ≡ new.length = p.whole s.since.alone in
     record {
@@ -35,15 +36,15 @@ alone_served c new input output times result possible s =
     }
 
 -- what was served from a fresh store on
-pub served_alone : (c : Admission) (old new : Seen) (input output times : List ℕ) (result : Served) → IsFresh old → Serves c old input output times result new → IsServedAlone c input output times result
-served_alone c old new input output times result fresh s =
-    alone_served c new input output times result (subst IsPossible fresh.seen fresh.possible) (subst (λ (o : Seen). Serves c o input output times result new) fresh.seen s)
+pub served_alone : (w : Widths) (c : Admission) (old new : Seen) (input output times : List ℕ) (result : Served) → IsFresh w old → Serves c old input output times result new → IsServedAlone w c input output times result
+served_alone w c old new input output times result fresh s =
+    alone_served w c new input output times result (subst IsPossible fresh.seen fresh.possible) (subst (λ (o : Seen). Serves c o input output times result new) fresh.seen s)
 
 -- no memory for the store: nothing was served
-pub none_served : (c : Admission) → IsServedAlone c [] [] [] answer.OutOfMemory
-none_served c = record {
-  history = begun;
-  lawful = begun_lawful;
+pub none_served : (w : Widths) (c : Admission) → IsServedAlone w c [] [] [] answer.OutOfMemory
+none_served w c = record {
+  history = begun w;
+  lawful = begun_lawful w;
   base = refl;
   opened = refl;
   only = λ place e above most is. absurd (omega (arith, above, most));

@@ -8,6 +8,7 @@ ghost use Rattle.stdio_job.specs.LoneConnections.{ServesAlone};
 use compactor::queue::Queue;
 use lone_store::{empty, halt_of};
 use point_put::Config;
+use row_key::Widths;
 use std::alloc::Global;
 use tsd_daemon::{Served, serve_conn};
 use tsd_hooks::UidRule;
@@ -22,10 +23,11 @@ pub struct Finished<H> {
     pub halt: H,
 }
 
-/// Serves one connection over an empty store of its own, each step of which asks the halt first. A new name is given an id only where
-/// the rule allows it. Rows that were put to are not compacted: the store goes with the connection.
+/// Serves one connection over an empty store of its own, whose ids have these widths and each step of which asks the halt first. A new
+/// name is given an id only where the rule allows it. Rows that were put to are not compacted: the store goes with the connection.
 pub fn serve_alone<S: Source, K: Sink, C: Clock, H: Halt + Drop>(
     alloc: Global,
+    widths: Widths,
     rule: &UidRule,
     config: &Config,
     source: &mut S,
@@ -34,11 +36,11 @@ pub fn serve_alone<S: Source, K: Sink, C: Clock, H: Halt + Drop>(
     halt: H,
 ) -> Finished<H>
     ensures served { Passes (S.taken source.old) (S.taken source.new) (S.left source.old) (S.left source.new) (K.held sink.old) (K.held sink.new) (C.moments clock.old) (C.moments clock.new)
-        (ServesAlone (admission config.now rule.now.patterns) result.served) }
+        (ServesAlone widths (admission config.now rule.now.patterns) result.served) }
     ensures end { result.served ≡ Served.End → IsAtEnd (S.left source.new) }
     ensures causes { ConnCauses (S.faults source.old) (S.faults source.new) (K.faults sink.old) (K.faults sink.new) (H.stops halt) (H.stops result.halt) (C.faults clock.old) (C.faults clock.new) result.served }
 {
-    match empty(alloc, halt) {
+    match empty(alloc, widths, halt) {
         Ok(store) => {
             let mut store = store;
             let mut queue = Queue::make(alloc);

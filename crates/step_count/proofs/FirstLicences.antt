@@ -2,16 +2,16 @@
 use Rattle.std.proofs.Common.{◌≡◌, ℕ, zero, suc, ◌+◌, ◌<◌, List, [], ◌∷◌, ◌++◌, refl, sym, ap, ◌∙◌, subst, arith}
 use Rattle.std.specs.Prelude.{◌-◌}
 use Rattle.std.specs.declared.option.Option.{Option}
-use Rattle.std.specs.FinMap.{from_entries, entries, get-from_entries, get-entries, same_map}
+use Rattle.std.specs.FinMap.{from_entries, get-from_entries, get-entries}
 use mathlib.Core.Option.{some, some-injective, some-ne-none}
 use lib.ListN.{get_elem?}
 use Rattle.list_lemmas.proofs.BoolTests.{same_Some}
 use Rattle.list_lemmas.proofs.ListMembers.{here, not_in}
 use Rattle.list_lemmas.proofs.ListCuts.{joined}
-use Rattle.cell_model.specs.Store.{Store}
+use Rattle.cell_model.specs.Store.{Store, entries}
 use Rattle.cell_model.specs.Sound.{IsBase}
 use Rattle.cell_model.specs.History.History.{Base}
-use Rattle.cell_model.proofs.CallerLemmas.{places_total, exact_places}
+use Rattle.cell_model.proofs.CallerLemmas.{places_total, same_store}
 use Rattle.step_count.specs.declared.view.Named.{Named}
 use Rattle.step_count.specs.declared.view.View.{View}
 use Rattle.step_count.specs.CounterRule.{Log, store_in, region_count, Fits, Within, HasEachOnce, Holder, licences_in, callers_in, words_of, Kept}
@@ -21,8 +21,8 @@ use Rattle.step_count.proofs.LogLists.{unused_empty, in_unused, without_first, o
 use Rattle.step_count.proofs.CallerNumbers.{none_different}
 
 -- the store that its entries tell
-pub store_told : (s : Store) → from_entries (entries s) ≡ s
-store_told s = same_map places_total exact_places _ _ (λ q. get-from_entries places_total (entries s) q ∙ sym (get-entries s q))
+pub store_told : (s : Store) → record { widths = s.widths; cells = from_entries (entries s) } ≡ s
+store_told s = same_store (record { widths = s.widths; cells = from_entries (entries s) }) s refl (λ q. get-from_entries places_total (entries s) q ∙ sym (get-entries s.cells q))
 
 -- the rule at the start
 pub starts : (n : Named) → IsBase (store_in n) → Kept n record { words = words_of 0; homes = []; views = first_of n ∷ [] }

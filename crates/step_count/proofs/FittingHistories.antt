@@ -95,13 +95,13 @@ fits_shorter n h v k le f = record { named = f.named; long = let l = f.long in o
 
 -- another's entry
 pub fits_others : (n : Named) (h : History) (e : Entry) (u : View) → ((c : ℕ) (log : List Placed) → Contains u.callers (c, log) → by_caller c e ≡ false)
-    → ((r : ℕ) (log : List Placed) → Contains u.licences (r, log) → in_region n.data_regions r e ≡ false) → Fits n h u → Fits n (Then h e) u
+    → ((r : ℕ) (log : List Placed) → Contains u.licences (r, log) → in_region n r e ≡ false) → Fits n h u → Fits n (Then h e) u
 fits_others n h e u apart away f = record {
   named = f.named;
   long = let l = f.long in omega (arith, l);
   seen = λ p c. entry_at-more h e p.entry p.place (f.seen p c);
   callers = λ c log has. let l = f.callers c log has in record { opened = entry_at-more h e (opening c) c l.opened; all = picked_same (by_caller c) h e (apart c log has) ∙ l.all; each = l.each };
-  regions = λ r log has. picked_same (in_region n.data_regions r) h e (away r log has) ∙ f.regions r log has;
+  regions = λ r log has. picked_same (in_region n r) h e (away r log has) ∙ f.regions r log has;
 }
 
 -- an entry of one's own, with the licences of its region
@@ -130,9 +130,9 @@ fits_added n h e v named f = record {
           ];
         }
 
-    region : (r : ℕ) (log : List Placed) → (log0 : List Placed) × Contains v.licences (r, log0) × (log ≡ log0 ++ cond (in_region (regions_in v.named) r e) (placed (len h + 1) e ∷ []) []) → picked (in_region n.data_regions r) (Then h e) ≡ log
+    region : (r : ℕ) (log : List Placed) → (log0 : List Placed) × Contains v.licences (r, log0) × (log ≡ log0 ++ cond (in_region (regions_in v.named) r e) (placed (len h + 1) e ∷ []) []) → picked (in_region n r) (Then h e) ≡ log
     region r log b =
-        ap (λ xs. xs ++ cond (in_region n.data_regions r e) (placed (len h + 1) e ∷ []) []) (f.regions r b.0 b.1)
+        ap (λ xs. xs ++ cond (in_region n r e) (placed (len h + 1) e ∷ []) []) (f.regions r b.0 b.1)
         ∙ ap (λ D. b.0 ++ cond (in_region D r e) (placed (len h + 1) e ∷ []) []) (sym (ap regions_in named))
         ∙ sym b.2
 
@@ -144,7 +144,7 @@ within_added v place e le within p c = at (split (placed place e) p v.seen c)
     at (inr c) = let w = within p c in omega (arith, w, le)
 
 -- a step of one region is none of another
-both_regions : (D j k : ℕ) (step : Step) → is_mine (is_in D j) step ≡ true → is_mine (is_in D k) step ≡ true → j ≡ k
+both_regions : (D : Named) (j k : ℕ) (step : Step) → is_mine (is_in D.widths D.data_regions j) step ≡ true → is_mine (is_in D.widths D.data_regions k) step ≡ true → j ≡ k
 both_regions D j k Open a b = absurd (false≠true a)
   where
     false≠true : false ≡ true → ⊥
@@ -157,7 +157,7 @@ both_regions D j k (PutPoint point row qual value) a b = sym (nat_eq_is _ _ a) �
 both_regions D j k (PutMerged row qual value) a b = sym (nat_eq_is _ _ a) ∙ nat_eq_is _ _ b
 both_regions D j k (DropCells row which) a b = sym (nat_eq_is _ _ a) ∙ nat_eq_is _ _ b
 
-pub other_region : (D j k : ℕ) (e : Entry) → in_region D k e ≡ true → (j ≡ k → ⊥) → in_region D j e ≡ false
+pub other_region : (D : Named) (j k : ℕ) (e : Entry) → in_region D k e ≡ true → (j ≡ k → ⊥) → in_region D j e ≡ false
 other_region D j k e mine apart = bool_false (in_region D j e) (λ a. apart (both_regions D j k e.step a mine))
 
 -- what may be added is allowed, and its reply is the machine's
@@ -174,17 +174,17 @@ has_opened h caller (DropCells row which) had = had
 pub may_lawful : (n : Named) (h : History) (v : View) (e : Entry) → IsOver n h → Fits n h v → MayAdd v e → IsOver n (Then h e)
 may_lawful n h v e over f may =
     let name : may.name ≡ n = f.named may.name may.named in
-    let D = may.name.data_regions in
+    let D = may.name in
     let mine = λ (x : Entry). in_region D may.region x in
     let over' : IsOver may.name h = subst (λ m. IsOver m h) (sym name) over in
     let f' : Fits may.name h v = subst (λ m. Fits m h v) (sym name) f in
-    let content : part (is_in D may.region) (store_after h) ≡ replayed (part (is_in D may.region) (store_in may.name)) may.log =
-    history_apart (is_in D may.region) h ∙ (λ i. replayed (part (is_in D may.region) (over'.base i)) (f'.regions may.region may.log may.licence i)) in
+    let content : part (is_in D.widths D.data_regions may.region) (store_after h) ≡ replayed (part (is_in D.widths D.data_regions may.region) (store_in may.name)) may.log =
+    history_apart (is_in D.widths D.data_regions may.region) h ∙ (λ i. replayed (part (is_in D.widths D.data_regions may.region) (over'.base i)) (f'.regions may.region may.log may.licence i)) in
     record {
       base = over.base;
       lawful = (
         over.lawful,
         record { opened = has_opened h e.caller e.step (e.caller, (f.callers e.caller may.own may.caller).opened); may = may.may h over' f' },
-        may.reply (len h + 1) ∙ ap (λ s. reply_of s (len h + 1) e.step) (sym content) ∙ reply-part (is_in D may.region) (store_after h) (len h + 1) e.step may.mine may.stays,
+        may.reply (len h + 1) ∙ ap (λ s. reply_of s (len h + 1) e.step) (sym content) ∙ reply-part (is_in D.widths D.data_regions may.region) (store_after h) (len h + 1) e.step may.mine may.stays,
       );
     }

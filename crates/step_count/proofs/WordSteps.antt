@@ -96,12 +96,12 @@ adds_kept n s r id v e at may k is c =
     let f = r.fits id v at in
     let name : may.name ≡ n = f.named may.name may.named in
     let v_named : v.named ≡ Some n = may.named ∙ ap Some name in
-    let mine : in_region n.data_regions may.region e ≡ true = subst (λ (m : Named). in_region m.data_regions may.region e ≡ true) name may.mine in
+    let mine : in_region n may.region e ≡ true = subst (λ (m : Named). in_region m may.region e ≡ true) name may.mine in
     moved n s r id v w at (Then r.history e) (may_lawful n r.history v e r.over f may)
     (λ j u apart is_u. fits_others n r.history e u
     (λ c log a. bool_false (by_caller c e) (λ t. apart (r.one_caller c j id (record { view = u; log = log; at = is_u; has = a })
     (record { view = v; log = may.own; at = at; has = subst (λ m. Contains v.callers (m, may.own)) (nat_eq_is e.caller c t) may.caller }))))
-    (λ q log a. other_region n.data_regions q may.region e mine (λ same. apart (r.one_licence q j id (record { view = u; log = log; at = is_u; has = a })
+    (λ q log a. other_region n q may.region e mine (λ same. apart (r.one_licence q j id (record { view = u; log = log; at = is_u; has = a })
     (record { view = v; log = may.log; at = at; has = subst (λ m. Contains v.licences (m, may.log)) (sym same) may.licence }))))
     (r.fits j u is_u))
     (subst (λ m. Fits n (Then r.history e) (added v (m + 1) e)) (sym is) (fits_added n r.history e v v_named f))

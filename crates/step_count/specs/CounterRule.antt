@@ -1,5 +1,5 @@
 -- What a history has of a view, and the rule of the counter: one history, which all views tell together.
-use Rattle.std.specs.Prelude.{◌≡◌, ◌≢◌, ℕ, ◌+◌, ◌-◌, ◌<◌, ◌≤◌, Bool, nat_eq, List, [], ◌∷◌, ◌++◌, map, replicate, AllPairs, Contains, Some}
+use Rattle.std.specs.Prelude.{◌≡◌, ◌≢◌, ℕ, ◌+◌, ◌-◌, ◌<◌, ◌≤◌, Bool, nat_eq, List, ◌∷◌, ◌++◌, map, replicate, AllPairs, Contains, Some}
 use Rattle.std.specs.FinMap.{from_entries}
 use mathlib.Core.Option.{some}
 use lib.ListN.{get_elem?}
@@ -23,7 +23,7 @@ Log = ℕ × List Placed
 
 -- the store with which the history begins, and how many regions it has
 abbrev pub store_in : Named → Store
-store_in n = from_entries n.base
+store_in n = record { widths = n.widths; cells = from_entries n.base }
 
 abbrev pub region_count : Named → ℕ
 region_count n = NAME_REGIONS + n.data_regions
@@ -37,8 +37,8 @@ abbrev pub by_caller : ℕ → Entry → Bool
 by_caller caller e = nat_eq e.caller caller
 
 -- the entry looks at the region, where there are so many data regions
-abbrev pub in_region : ℕ → ℕ → Entry → Bool
-in_region data_regions region e = is_mine (is_in data_regions region) e.step
+abbrev pub in_region : Named → ℕ → Entry → Bool
+in_region n region e = is_mine (is_in n.widths n.data_regions region) e.step
 
 -- a lawful history over the named store
 pub record IsOver (n : Named) (h : History) : Type 0 where
@@ -58,7 +58,7 @@ pub record Fits (n : Named) (h : History) (v : View) : Type 0 where
   pub long : v.length ≤ len h
   pub seen : (p : Placed) → Contains v.seen p → entry_at h p.place ≡ Some p.entry
   pub callers : (caller : ℕ) (log : List Placed) → Contains v.callers (caller, log) → IsLog h v.seen caller log
-  pub regions : (region : ℕ) (log : List Placed) → Contains v.licences (region, log) → picked (in_region n.data_regions region) h ≡ log
+  pub regions : (region : ℕ) (log : List Placed) → Contains v.licences (region, log) → picked (in_region n region) h ≡ log
 
 -- the numbers of logs; no number stands twice
 abbrev pub numbers_in : List Log → List ℕ

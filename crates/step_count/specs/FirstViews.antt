@@ -1,20 +1,20 @@
 -- The store that a counter is over, and what the first seat and the first licences know.
 use Rattle.std.specs.Prelude.{ℕ, zero, suc, ◌+◌, List, [], ◌∷◌, Some, None}
 use Rattle.std.specs.declared.option.Option.{Option}
-use Rattle.std.specs.FinMap.{entries}
+use Rattle.row_key.specs.Made.{three}
 use Rattle.atomic_table.specs.declared.shared.Seat.{Seat}
-use Rattle.cell_model.specs.Store.{Store}
+use Rattle.cell_model.specs.Store.{Store, entries}
 use Rattle.step_count.specs.declared.view.Named.{Named}
 use Rattle.step_count.specs.declared.view.View.{View}
 use Rattle.step_count.specs.CounterRule.{Log, region_count}
 
 -- this store, with so many data regions
 abbrev pub named : Store → ℕ → Named
-named store data_regions = record { base = entries store; data_regions = data_regions }
+named store data_regions = record { widths = store.widths; base = entries store; data_regions = data_regions }
 
 -- the store that the origin was told; there is one wherever a counter is
 abbrev pub name_in : Option Named → Named
-name_in None = record { base = []; data_regions = 1 }
+name_in None = record { widths = three; base = []; data_regions = 1 }
 name_in (Some n) = n
 
 abbrev pub name_of : Seat (Unit {0}) (Option Named) → Named

@@ -2,6 +2,7 @@
 use Rattle.std.specs.Prelude.{◌≡◌, ◌≢◌, ℕ, ◌+◌, ◌≤◌, max, ◌==◌, cond, Bool, List, [], ◌∷◌, ◌++◌, Contains, Some, None, true}
 use Rattle.std.specs.declared.option.Option.{Option}
 use Rattle.atomic_table.specs.Table.{Me, Step}
+use Rattle.row_key.specs.Made.{three}
 use Rattle.cell_model.specs.declared.events.Entry.{Entry}
 use Rattle.cell_model.specs.declared.events.Placed.{Placed}
 use Rattle.cell_model.specs.Machine.{reply_of}
@@ -29,10 +30,10 @@ abbrev pub extended : (ℕ → Entry → Bool) → Placed → List Log → List 
 extended test p [] = []
 extended test p (l ∷ ls) = (l.0, l.1 ++ cond (test l.0 p.entry) (p ∷ []) []) ∷ extended test p ls
 
--- how many data regions the named store has
-abbrev pub regions_in : Option Named → ℕ
-regions_in None = 1
-regions_in (Some n) = n.data_regions
+-- the named store, whose regions they are
+abbrev pub regions_in : Option Named → Named
+regions_in None = record { widths = three; base = []; data_regions = 1 }
+regions_in (Some n) = n
 
 -- the entry was added at this place, which is the history's length now
 abbrev pub added : View → ℕ → Entry → View
@@ -112,9 +113,9 @@ pub record MayAdd (v : View) (e : Entry) : Type 0 where
   pub region : ℕ
   pub log : List Placed
   pub licence : Contains v.licences (region, log)
-  pub mine : in_region name.data_regions region e ≡ true
-  pub stays : StaysWithin (is_in name.data_regions region) e.step
-  pub reply : (place : ℕ) → e.reply ≡ reply_of (replayed (part (is_in name.data_regions region) (store_in name)) log) place e.step
+  pub mine : in_region name region e ≡ true
+  pub stays : StaysWithin (is_in name.widths name.data_regions region) e.step
+  pub reply : (place : ℕ) → e.reply ≡ reply_of (replayed (part (is_in name.widths name.data_regions region) (store_in name)) log) place e.step
   pub may : (h : History) → IsOver name h → Fits name h v → MayStep h e.caller e.step
 
 -- a seat: what it knows, and what it took, which is nothing here

@@ -13,9 +13,10 @@ pub trait Base {
 }
 
 impl Base for Brand {
-    ghost use Rattle.std.specs.FinMap.{empty};
+    ghost use Rattle.row_key.specs.Made.{three};
+    ghost use Rattle.cell_model.specs.Store.{no_cells};
 
-    ghost store = { empty };
+    ghost store = { no_cells three };
 }
 
 /// By it a caller names the entry that it adds. It has no method: contracts alone speak of it.

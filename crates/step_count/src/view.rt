@@ -1,10 +1,13 @@
 //! What a pass, a licence and a note know. No run makes a value of these types: contracts speak of them.
 
 use cell_model::{Content, Place, Placed};
+use row_key::Widths;
 use std::collections::LinkedList;
 
 /// The store with which a history begins, and how many regions its point rows have.
 pub struct Named {
+    /// How many bytes the ids of each kind have.
+    pub widths: Widths,
     /// The cells of the store, in order.
     pub base: LinkedList<(Place, Content)>,
     pub data_regions: u64,

@@ -7,3 +7,5 @@ mod TalkLemmas
 mod Talking
 mod Calls
 mod GivenMoments
+mod HeadlineLemmas
+pub mod CallerLemmas

@@ -3,22 +3,21 @@ use Rattle.std.proofs.Common.{◌≡◌, ℕ, List, [], ◌∷◌, refl, subst, 
 use Rattle.std.specs.Prelude.{None, Result, Ok, Err, IfOk}
 use Rattle.tsd_base.specs.Faults.{point_fault_text}
 use Rattle.tsd_base.specs.Points.{DataPoint, FailsPoint, point_of}
-use Rattle.tsd_base.specs.declared.kinds.Kind.{Kind}
 use Rattle.tsd_base.specs.declared.points.PointFault.{PointFault}
 use Rattle.tsd_base.specs.declared.points.PointFault.TheVariants as fault
 use Rattle.row_key.specs.declared.tables.Table.TheVariants.{Points}
 use Rattle.cell_model.specs.declared.answers.RowsFault.{RowsFault}
 use Rattle.cell_model.specs.declared.answers.Stored.{Stored}
 use Rattle.cell_model.specs.declared.events.Placed.{Placed}
-use Rattle.cell_model.specs.History.{History, first}
+use Rattle.cell_model.specs.History.{History, first, store_after}
 use Rattle.cell_model.specs.Layout.{names_of}
 use Rattle.cell_model.specs.Seen.{Seen, IsPossible}
 use Rattle.cell_model.specs.Deeds.{Made, deeds}
 use Rattle.compactor.specs.Queues.{HasRows}
 use Rattle.compactor.proofs.CallerLemmas.{added_row, rows_none}
 use Rattle.point_put.specs.Admissions.{Admission}
-use Rattle.point_put.specs.Entries.{ForName, ForNames}
-use Rattle.point_put.specs.Entries.ForNames.{nil, more}
+use Rattle.point_put.specs.Entries.{ForNames}
+use Rattle.point_put.proofs.CallerLemmas.{none_for}
 use Rattle.point_put.specs.declared.fault.TextFault.{TextFault}
 use Rattle.point_put.specs.declared.fault.TextFault.TheVariants.{Unread, Unput}
 use Rattle.point_put.specs.declared.fault.PutFault.{PutFault}
@@ -123,12 +122,8 @@ text_denied c text old new queue fault (Ok answer) says told how = λ counts.
     subst (λ (how : Counted). Replied c counts None (put_of text) old queue answer.reply.items how new queue) (sym how) (denial_replied c counts text old new queue fault answer.reply.items says told)
 
 -- whatever came of it, the put was begun
-none_for : (c : Admission) (names : List (Kind × List ℕ)) → ForNames c names []
-none_for c [] = nil
-none_for c (n ∷ names) = more ForName.none (none_for c names)
-
 begun_of : (c : Admission) (h : History) (own : List Placed) (read : Result DataPoint PointFault) → own ≡ [] → BegunBy c h own (point_asked (Put read))
-begun_of c h own (Ok point) none = (Err OutOfMemory, subst (ForNames c (names_of point)) (sym none) (none_for c (names_of point)))
+begun_of c h own (Ok point) none = (Err OutOfMemory, subst (ForNames (store_after h).widths c (names_of point)) (sym none) (none_for (store_after h).widths c (names_of point)))
 begun_of c h own (Err fault) none = none
 
 pub text_begun : (c : Admission) (text : List ℕ) (old new : Seen) (queue : List Stored) (outcome : Result StoredText TextFault) → TextSays c text old outcome new → WasBegun c None (put_of text) old queue new queue

@@ -4,11 +4,10 @@ use Rattle.std.specs.Prelude.{Option, None, Some, option_to_list, Err}
 use Rattle.std.specs.Io.KnownBytes.{Appends, Consumes}
 use Rattle.std.proofs.KnownBytes.{Appends-nil, Appends-trans, Consumes-nil, Consumes-trans}
 use Rattle.tsd_base.specs.Points.{DataPoint}
-use Rattle.tsd_base.specs.declared.kinds.Kind.{Kind}
 use Rattle.cell_laws.proofs.CallerLemmas.{nothing_made, since_joined}
 use Rattle.cell_model.specs.declared.answers.Stored.{Stored}
 use Rattle.cell_model.specs.declared.events.Placed.{Placed}
-use Rattle.cell_model.specs.History.{History, first}
+use Rattle.cell_model.specs.History.{History, first, store_after}
 use Rattle.cell_model.specs.Layout.{names_of}
 use Rattle.cell_model.specs.Seen.{Seen, InEach}
 use Rattle.cell_model.specs.Deeds.{deeds, Since}
@@ -16,8 +15,7 @@ use Rattle.compactor.specs.Queues.{HasRows}
 use Rattle.compactor.proofs.CallerLemmas.{rows_joined, rows_none}
 use Rattle.point_put.specs.Admissions.{Admission}
 use Rattle.point_put.specs.declared.fault.PutFault.TheVariants as put_fault
-use Rattle.point_put.specs.Entries.{ForName, ForNames}
-use Rattle.point_put.specs.Entries.ForNames.{nil, more}
+use Rattle.point_put.proofs.CallerLemmas.{none_for}
 use Rattle.queued_put.specs.PutRows.{MayHaveRows}
 use Rattle.queued_put.proofs.CallerLemmas.{may_follow, may_have}
 use Rattle.tsd_daemon.specs.declared.served.Served.{Served}
@@ -225,10 +223,6 @@ talk_momentless c from t old come come' request le k next asks none =
 
 -- ---- ends between two requests
 
-no_names : (c : Admission) (names : List (Kind × List ℕ)) → ForNames c names []
-no_names c [] = nil
-no_names c (n ∷ names) = more ForName.none (no_names c names)
-
 -- no entry and no moment is a request's that was begun
 nothing_begun : (c : Admission) (h : History) (caller n : ℕ) (rest : List ConnRequest) → deeds h caller n n ≡ [] → FirstBegun c h caller n n None rest
 nothing_begun c h caller n [] none = (refl, none)
@@ -237,7 +231,7 @@ nothing_begun c h caller n (Telnet request ∷ rest) none = (refl, subst (λ (ow
   where
     at : (point : Option DataPoint) → BegunBy c (first n h) [] point
     at None = refl
-    at (Some point) = (Err put_fault.OutOfMemory, no_names c (names_of point))
+    at (Some point) = (Err put_fault.OutOfMemory, none_for (store_after (first n h)).widths c (names_of point))
 
 -- there was no memory, where no reply waits
 pub talk_memory : (c : Admission) (from : Start) (t : Taken) (old : Stand) (come : Requests) → t.size ≤ 2 ^ 40 → Talks c from t old come → old.waiting ≡ []

@@ -6,3 +6,6 @@ pub mod ServedConns
 pub mod ConnPieces
 pub mod Talks
 pub mod PutAnswers
+pub mod TakenInTurn
+pub mod Headline
+pub mod HeadlineLaws

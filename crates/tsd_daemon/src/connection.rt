@@ -1,8 +1,10 @@
 //! Serving a connection.
 ghost use Rattle.std.specs.Prelude.{◌≡◌};
 ghost use Rattle.std.specs.Io.KnownBytes.{IsAtEnd};
+ghost use Rattle.cell_model.specs.Seen.{InEach};
 ghost use Rattle.point_put.specs.Admissions.{admission};
 ghost use Rattle.tsd_daemon.specs.ConnRequests.{begins_http};
+ghost use Rattle.tsd_daemon.specs.Headline.{Headline};
 ghost use Rattle.tsd_daemon.specs.ServedConns.{ConnCauses, Passes, QueuesBytes, ServesBytes};
 
 use crate::conn_input::ConnInput;
@@ -28,6 +30,33 @@ use uid_table::uids::Uids;
 /// while bytes are taken.
 /// The clock is asked once for each HTTP request to `/api/query` that isn't refused, before it is worked, and for no other request.
 pub fn serve_conn<R: Rows + Drop, S: Source, K: Sink, C: Clock>(
+    alloc: Global,
+    names: &mut Uids<R>,
+    rule: &UidRule,
+    config: &Config,
+    source: &mut S,
+    sink: &mut K,
+    clock: &mut C,
+    queue: &mut Queue,
+) -> Served
+    // In each lawful history that fits names keep their ids, and queries are answered plainly.
+    ensures headline { Passes (S.taken source.old) (S.taken source.new) (S.left source.old) (S.left source.new) (K.held sink.old) (K.held sink.new) (C.moments clock.old) (C.moments clock.new)
+        (λ input output times. InEach (R.seen names.new) (λ h. Headline h (R.seen names.old).length (R.seen names.new).length input output times result)) }
+
+    ensures served { Passes (S.taken source.old) (S.taken source.new) (S.left source.old) (S.left source.new) (K.held sink.old) (K.held sink.new) (C.moments clock.old) (C.moments clock.new)
+        (ServesBytes (admission config.now rule.now.patterns) (R.seen names.old) result (R.seen names.new)) }
+    ensures queue { Passes (S.taken source.old) (S.taken source.new) (S.left source.old) (S.left source.new) (K.held sink.old) (K.held sink.new) (C.moments clock.old) (C.moments clock.new)
+        (QueuesBytes (admission config.now rule.now.patterns) (R.seen names.old) queue.old result (R.seen names.new) queue.new) }
+    ensures end { result ≡ Served.End → IsAtEnd (S.left source.new) }
+    ensures causes { ConnCauses (S.faults source.old) (S.faults source.new) (K.faults sink.old) (K.faults sink.new) (R.stops names.old) (R.stops names.new) (C.faults clock.old) (C.faults clock.new) result }
+    ensures source { S.number source.new ≡ S.number source.old }
+    ensures sink { K.number sink.new ≡ K.number sink.old }
+{
+    serve_requests(alloc, names, rule, config, source, sink, clock, queue)
+}
+
+/// Serves one connection.
+fn serve_requests<R: Rows + Drop, S: Source, K: Sink, C: Clock>(
     alloc: Global,
     names: &mut Uids<R>,
     rule: &UidRule,

@@ -50,12 +50,14 @@ struct OpenDoors {
     port: u16,
 }
 
-/// Doors over a listener on all interfaces of the machine. `net` stands for the system.
+/// Doors over a listener of the system, for which `net` stands.
 #[derive(Drop)]
 pub struct TcpDoors<N> {
     net: N,
     alloc: Global,
+    address: Option<IpAddr>,
     bound: Option<OpenDoors>,
+    bind_error: Option<io::Error>,
     returned: u64,
     out: u64,
     faults: u64,
@@ -63,16 +65,23 @@ pub struct TcpDoors<N> {
 }
 
 impl<N> TcpDoors<N> {
-    /// Doors that aren't bound yet.
-    pub fn make(net: N, alloc: Global) -> TcpDoors<N> {
+    /// Doors that aren't bound yet. They will be at this address, or on all interfaces of the machine.
+    pub fn make(net: N, alloc: Global, address: Option<IpAddr>) -> TcpDoors<N> {
         TcpDoors {
             net,
             alloc,
+            address,
             bound: None,
+            bind_error: None,
             returned: 0,
             out: 0,
             faults: 0,
         }
+    }
+
+    /// Why the last `bind` failed, if it did.
+    pub fn bind_error(&self) -> Option<&io::Error> {
+        self.bind_error.as_ref()
     }
 }
 
@@ -99,13 +108,15 @@ impl<N: Net<Listener = TcpListener, Stream = TcpStream> + Clock + Send + Drop> D
     ghost shown = { λ k. record { number = k.number; source_faults = k.source_faults; sink_faults = k.sink_faults; taken = None; left = None; held = None } };
 
     fn bind(&mut self, port: u16) -> Result<u16, Failed> {
-        match open_at(&self.net, self.alloc, port) {
+        match open_at(&self.net, self.alloc, self.address, port) {
             Ok(doors) => {
                 let port = doors.port;
                 self.bound = Some(doors);
+                self.bind_error = None;
                 Ok(port)
             }
-            Err(_) => {
+            Err(error) => {
+                self.bind_error = Some(error);
                 self.faults = self.faults.saturating_add(1);
                 Err(Failed)
             }
@@ -151,11 +162,12 @@ impl<N: Net<Listener = TcpListener, Stream = TcpStream> + Clock + Send + Drop> D
     }
 }
 
-/// A listener at this port of all interfaces, IPv6 and IPv4, or IPv4 alone where the machine has no other.
+/// A listener at this port of an address, or of all interfaces, IPv6 and IPv4, or IPv4 alone where the machine has no other.
 /// Connections wait at it from here on.
 fn open_at<N: Net<Listener = TcpListener, Stream = TcpStream>>(
     net: &N,
     alloc: Global,
+    address: Option<IpAddr>,
     port: u16,
 ) -> io::Result<OpenDoors>
     ensures asked { IfOk result (λ doors. port ≢ 0 → doors.port ≡ port) }
@@ -164,7 +176,10 @@ fn open_at<N: Net<Listener = TcpListener, Stream = TcpStream>>(
         SocketAddr::new(IpAddr::V6(Ipv6Addr::UNSPECIFIED), port),
         SocketAddr::new(IpAddr::V4(Ipv4Addr::UNSPECIFIED), port),
     ];
-    let listener = TcpListener::bind(net, &all[..])?;
+    let listener = match address {
+        Some(address) => TcpListener::bind(net, SocketAddr::new(address, port))?,
+        None => TcpListener::bind(net, &all[..])?,
+    };
     let port = if port == 0 {
         listener.local_addr()?.port()
     } else {

@@ -12,6 +12,9 @@ use std::time::Duration;
 use tsd_io::ports::{Failed, Sink, Source};
 use tsd_io::standard::{ReadSource, WriteSink};
 
+/// How long a read may wait for the peer, in seconds. Agents send more often.
+const READ_SECONDS: u64 = 15 * 60;
+
 /// How long a write may wait for the peer, in seconds.
 const WRITE_SECONDS: u64 = 30;
 
@@ -39,7 +42,8 @@ impl Write for SharedStream {
     }
 }
 
-/// The end of a connection that bytes come from. A read waits as long as it takes.
+/// The end of a connection that bytes come from. A read of which nothing comes for 15 minutes fails, so a peer that is idle or gone
+/// holds nobody up for longer.
 ///
 /// Contracts see it as its number and its count of faults.
 #[derive(Drop)]
@@ -128,6 +132,7 @@ pub fn both_ends(alloc: Global, stream: TcpStream, number: u64) -> io::Result<(T
     ensures outlet { IfOk result (λ link. link.1 ≡ record { number = number; faults = 0 }) }
 {
     stream.set_nodelay(true)?;
+    stream.set_read_timeout(Some(Duration::from_secs(READ_SECONDS)))?;
     stream.set_write_timeout(Some(Duration::from_secs(WRITE_SECONDS)))?;
     let stream = Arc::new(alloc, stream)?;
     let other = Arc::try_clone(&stream)?;

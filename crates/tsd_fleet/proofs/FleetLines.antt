@@ -5,6 +5,7 @@ use Rattle.std.specs.Option.{option_map_or}
 use Rattle.std.specs.Int.{w64, from_be_bytes}
 use Rattle.std.specs.List.{list_any}
 use Rattle.std.specs.FinMap.{empty, entries, from_entries, keys, len-empty, len-entries}
+use Rattle.row_key.specs.Made.{three}
 use Rattle.std.specs.Io.KnownBytes.{Appends}
 use Rattle.std.proofs.KnownBytes.{Appends-nil}
 use Rattle.tsd_io.specs.Causes.{Rose}
@@ -19,7 +20,7 @@ use Rattle.cell_model.specs.declared.row.Row.{Row}
 use Rattle.cell_model.specs.PlaceOrder.{place_cmp}
 use Rattle.cell_model.specs.declared.events.Place.{Place}
 use Rattle.cell_model.specs.declared.events.Content.{Content}
-use Rattle.cell_model.specs.Store.{Store, row_cmp}
+use Rattle.cell_model.specs.Store.{Store, no_cells, row_cmp}
 use lib.ListN.{length-map}
 use Rattle.cell_model.specs.Machine.{counter_of, counter_row, kind_qual}
 use Rattle.cell_model.specs.Counts.{point_entries, point_rows}
@@ -154,19 +155,19 @@ no_elements : {X : Type 0} (xs : List X) → length xs ≡ 0 → xs ≡ []
 no_elements [] none = refl
 no_elements (x ∷ xs) none = absurd (omega (arith, none))
 
-no_counter : (kind : Kind) → counter_of empty kind ≡ 0
-no_counter kind = ap (λ (o : Option (List ℕ)). option_map_or (from_be_bytes w64) o 0) (no_cell counter_row (kind_qual kind))
+no_counter : (kind : Kind) → counter_of (no_cells three) kind ≡ 0
+no_counter kind = ap (λ (o : Option (List ℕ)). option_map_or (from_be_bytes w64) o 0) (no_cell three counter_row (kind_qual kind))
 
-no_point_cells : point_entries empty ≡ []
+no_point_cells : point_entries (no_cells three) ≡ []
 no_point_cells = ap (filter _) (no_elements (entries (empty {R = place_cmp})) (sym (len-entries (empty {R = place_cmp})) ∙ len-empty place_cmp _))
 
-no_point_rows : length (point_rows empty) ≡ 0
+no_point_rows : length (point_rows (no_cells three)) ≡ 0
 no_point_rows =
     ap (λ (es : List (Place × Content)). length (keys (from_entries {R = row_cmp} (map (λ (e : Place × Content). (e.0.row, e.0.qual)) es)))) no_point_cells
     ∙ length-map (entries (empty {K = Row} {X = List ℕ} {R = row_cmp})) (λ (e : Row × List ℕ). e.0) ∙ sym (len-entries (empty {R = row_cmp})) ∙ len-empty row_cmp _
 
 -- the numbers of the store without a cell
-pub empty_tally : (tally : Tally) → tally.ids ≡ 0 ∷ 0 ∷ 0 ∷ [] → tally.point_rows ≡ 0 → tally.point_cells ≡ 0 → IsTally empty tally
+pub empty_tally : (tally : Tally) → tally.ids ≡ 0 ∷ 0 ∷ 0 ∷ [] → tally.point_rows ≡ 0 → tally.point_cells ≡ 0 → IsTally (no_cells three) tally
 empty_tally tally ids rows cells = record {
   ids = ids ∙ sym (rw (no_counter Metric, no_counter TagKey, no_counter TagValue) refl);
   rows = rows ∙ sym no_point_rows;
@@ -182,21 +183,23 @@ fleet_serves T U c moments s numbers name given d back back' faults faults' ends
   tally_is = t;
 }
 
--- another name of the base
-pub fleet_over : (T U : Type 0) (c : Admission) (moments : Option (List ℕ)) (base other : Store) (back back' : Option (List Shut)) (faults faults' : ℕ) (ends : List Served) (tally : Tally)
-    → base ≡ other → FleetServes T U c moments base back back' faults faults' ends tally → FleetServes T U c moments other back back' faults faults' ends tally
-fleet_over T U c moments base other back back' faults faults' ends tally same f = subst (λ (b : Store). FleetServes T U c moments b back back' faults faults' ends tally) same f
+-- another name of the base, and of what was given back
+pub fleet_from : (T U : Type 0) (c : Admission) (moments : Option (List ℕ)) (base other : Store) (back back' back'' : Option (List Shut)) (faults faults' : ℕ) (ends : List Served) (tally : Tally)
+    → base ≡ other → back' ≡ back → FleetServes T U c moments base back' back'' faults faults' ends tally → FleetServes T U c moments other back back'' faults faults' ends tally
+fleet_from T U c moments base other back back' back'' faults faults' ends tally same still f =
+    subst (λ (b : Store). FleetServes T U c moments b back back'' faults faults' ends tally) same
+    (subst (λ (o : Option (List Shut)). FleetServes T U c moments base o back'' faults faults' ends tally) still f)
 
 pub fleet_over_ok : {D E : Type 0} (T U : Type 0) (c : Admission) (moments : Option (List ℕ)) (base other : Store) (back back' : Option (List Shut)) (faults faults' : ℕ) (ends : D → List Served) (tally : D → Tally) (r : Result D E)
     → base ≡ other → IfOk r (λ s. FleetServes T U c moments base back back' faults faults' (ends s) (tally s)) → IfOk r (λ s. FleetServes T U c moments other back back' faults faults' (ends s) (tally s))
 fleet_over_ok T U c moments base other back back' faults faults' ends tally r same f = subst (λ (b : Store). IfOk r (λ s. FleetServes T U c moments b back back' faults faults' (ends s) (tally s))) same f
 
 -- nothing was served
-pub fleet_none : (T U : Type 0) (c : Admission) (moments : Option (List ℕ)) (back back' : Option (List Shut)) (faults faults' : ℕ) (ends : List Served) (tally : Tally) → back' ≡ back → faults' ≡ faults → ends ≡ [] → IsTally empty tally
-    → FleetServes T U c moments empty back back' faults faults' ends tally
+pub fleet_none : (T U : Type 0) (c : Admission) (moments : Option (List ℕ)) (back back' : Option (List Shut)) (faults faults' : ℕ) (ends : List Served) (tally : Tally) → back' ≡ back → faults' ≡ faults → ends ≡ [] → IsTally (no_cells three) tally
+    → FleetServes T U c moments (no_cells three) back back' faults faults' ends tally
 fleet_none T U c moments back back' faults faults' ends tally same still none t = record {
-  store = empty;
-  stands = subst (λ (o : Option (List Shut)). FleetStands T U c moments empty empty back o faults faults' ends) (sym same) (subst (λ (n : ℕ). FleetStands T U c moments empty empty back back faults n ends) (sym still)
-      (none_back T U c moments (Base empty) empty back faults ends empty_base refl refl none));
+  store = no_cells three;
+  stands = subst (λ (o : Option (List Shut)). FleetStands T U c moments (no_cells three) (no_cells three) back o faults faults' ends) (sym same) (subst (λ (n : ℕ). FleetStands T U c moments (no_cells three) (no_cells three) back back faults n ends) (sym still)
+      (none_back T U c moments (Base (no_cells three)) (no_cells three) back faults ends (empty_base three) refl refl none));
   tally_is = t;
 }

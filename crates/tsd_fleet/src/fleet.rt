@@ -1,7 +1,8 @@
 //! A fleet: connections that come through doors, served by workers over one store in memory.
 ghost use Rattle.std.specs.Prelude.{◌≡◌, ◌≤◌, ℕ, length, IfOk, IfErr, OnErr};
-ghost use Rattle.std.specs.FinMap.{empty};
+ghost use Rattle.row_key.specs.Made.{three};
 ghost use Rattle.cell_model.specs.Sound.{IsBase};
+ghost use Rattle.cell_model.specs.Store.{no_cells};
 ghost use Rattle.step_count.specs.CounterRule.{store_in};
 ghost use Rattle.point_put.specs.Admissions.{admission};
 ghost use Rattle.conn_workers.specs.ServedLinks.{AllTell};
@@ -15,6 +16,7 @@ use cell_region::Regions;
 use cell_store::{Gate, SiteParts, StepNames};
 use conn_workers::conn_terms::ConnTerms;
 use point_put::Config;
+use row_key::Widths;
 use std::alloc::{AllocError, Global};
 use std::marker::{Brand, Model};
 use std::sync::Wait;
@@ -100,7 +102,7 @@ pub fn serve<
     requires regions { (1 ≤ fleet.now.regions) × (fleet.now.regions ≤ 16) }
 
     // Over the store's one history each connection that was given back was served, with its end.
-    ensures serves { FleetServes (AllTell D.Inlet.taken) (AllTell D.Outlet.held) (admission config.now rule.now.patterns) (C.moments clock.old) empty
+    ensures serves { FleetServes (AllTell D.Inlet.taken) (AllTell D.Outlet.held) (admission config.now rule.now.patterns) (C.moments clock.old) (no_cells three)
         (D.back doors.old) (D.back doors.new) (C.faults clock.old) (C.faults clock.new) result.ends.items result.tally }
     ensures counts { CountsLinks result.end result.links (length result.ends.items) (D.counts doors.old) (D.counts doors.new) }
 
@@ -138,7 +140,7 @@ pub fn serve<
 
 /// The numbers of the empty store.
 fn no_tally() -> Tally
-    ensures { IsTally empty result }
+    ensures { IsTally (no_cells three) result }
 {
     Tally {
         ids: [0, 0, 0],
@@ -170,7 +172,7 @@ fn serve_listening<
     requires daemons { (1 ≤ fleet.now.daemons) × (fleet.now.daemons ≤ 8) }
     requires workers { fleet.now.workers ≤ 16 }
     requires regions { (1 ≤ fleet.now.regions) × (fleet.now.regions ≤ 16) }
-    ensures serves { IfOk result (λ s. FleetServes (AllTell D.Inlet.taken) (AllTell D.Outlet.held) (admission config.now rule.now.patterns) (C.moments clock.old) empty
+    ensures serves { IfOk result (λ s. FleetServes (AllTell D.Inlet.taken) (AllTell D.Outlet.held) (admission config.now rule.now.patterns) (C.moments clock.old) (no_cells three)
         (D.back doors.old) (D.back doors.new) (C.faults clock.old) (C.faults clock.new) s.ends.items s.tally) }
     ensures counts { IfOk result (λ s. CountsLinks s.end s.links (length s.ends.items) (D.counts doors.old) (D.counts doors.new)) }
     ensures reason { IfOk result (λ s. HasFleetReason s.end s.ends.items (D.waiting doors.old) (D.waiting doors.new) (H.stops halt.old) (H.stops halt.new)
@@ -188,7 +190,8 @@ fn serve_listening<
     ensures clock { OnErr result (clock.new ≡ clock.old) }
     ensures halt { OnErr result (halt.new ≡ halt.old) }
 {
-    let Ok(regions) = Regions::of(alloc, Listing::none(alloc), fleet.regions) else {
+    let Ok(regions) = Regions::of(alloc, Listing::none(alloc, Widths::three()), fleet.regions)
+    else {
         return Err(FleetEnd::OutOfMemory);
     };
     match listen(alloc, fleet.port, doors, output) {

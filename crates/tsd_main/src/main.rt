@@ -1,6 +1,12 @@
-//! `tsd`, a time-series database. The program reads its words, does what they ask and ends with a status.
+//! `tsd`, a time-series database. The program reads its words, does what they ask and ends with a status, whose cause it tells.
 #![tactic(auto)]
 
+mod cause_lines;
+mod fleet_needs;
+mod thread_trial;
+
+use crate::cause_lines::{tell_bind_error, tell_cause};
+use crate::fleet_needs::{fleet_address, fleet_of};
 use std::alloc::{AllocError, Global};
 use std::env;
 use std::io::ErrorKind;
@@ -16,31 +22,49 @@ const BLOCK: usize = 16 * 1024 * 1024;
 
 fn main(rt: HostRuntime) -> ExitCode {
     let net: Result<_, _> = rt.clone();
-    let status = match (words(&rt), net) {
-        (Ok(words), Ok(net)) => {
-            if is_session(&words) {
-                keep_freed(rt.alloc());
-            }
-            let mut input = ReadSource::make(rt.stdin());
-            let mut output = WriteSink::make(rt.stdout());
-            let mut clock = SystemClock::make(&rt);
-            let mut doors = TcpDoors::make(net, rt.alloc());
-            let never = MemHalt::make(Vec::new(rt.alloc()));
-            run(
-                &rt,
-                rt.alloc(),
-                &words,
-                &mut input,
-                &mut output,
-                &mut clock,
-                never,
-                &mut doors,
-            )
-            .status
-        }
-        _ => Status::Memory,
+    let (Ok(words), Ok(net)) = (words(&rt), net) else {
+        return memory_end(&rt);
     };
+    let Ok(fleet) = fleet_of(rt.alloc(), &words) else {
+        return memory_end(&rt);
+    };
+    let address = match &fleet {
+        Some(fleet) => match fleet_address(&rt, fleet) {
+            Ok(address) => address,
+            Err(status) => return ExitCode::from(status.number()),
+        },
+        None => None,
+    };
+    if is_session(&words) {
+        keep_freed(rt.alloc());
+    }
+    let mut input = ReadSource::make(rt.stdin());
+    let mut output = WriteSink::make(rt.stdout());
+    let mut clock = SystemClock::make(&rt);
+    let mut doors = TcpDoors::make(net, rt.alloc(), address);
+    let never = MemHalt::make(Vec::new(rt.alloc()));
+    let status = run(
+        &rt,
+        rt.alloc(),
+        &words,
+        &mut input,
+        &mut output,
+        &mut clock,
+        never,
+        &mut doors,
+    )
+    .status;
+    match (&fleet, doors.bind_error()) {
+        (Some(fleet), Some(error)) => tell_bind_error(&rt, fleet.port, address, error),
+        _ => tell_cause(&rt, status),
+    }
     ExitCode::from(status.number())
+}
+
+/// How the program ends where there is no memory to begin.
+fn memory_end(rt: &HostRuntime) -> ExitCode {
+    tell_cause(rt, Status::Memory);
+    ExitCode::from(Status::Memory.number())
 }
 
 /// Whether the words may ask for more than the one query of `batch`.

@@ -30,5 +30,5 @@ pub unread : (inlets_tell outlets_tell : Type 0) (taken left held moments : Opti
     → RunsAny asked (Runs asked taken taken left left held held moments moments Memory) (λ (s : Serve). ServesFleet s inlets_tell outlets_tell moments back back counts counts faults faults held held Memory)
 unread inlets_tell outlets_tell taken left held moments back counts faults (Some (ServeAsked s)) = unserved s Memory refl
 unread inlets_tell outlets_tell taken left held moments back counts faults (Some (BatchAsked batch)) = runs_unread taken left held moments (Some (BatchAsked batch))
-unread inlets_tell outlets_tell taken left held moments back counts faults (Some (StdioAsked names)) = runs_unread taken left held moments (Some (StdioAsked names))
+unread inlets_tell outlets_tell taken left held moments back counts faults (Some (StdioAsked s)) = runs_unread taken left held moments (Some (StdioAsked s))
 unread inlets_tell outlets_tell taken left held moments back counts faults None = runs_unread taken left held moments None

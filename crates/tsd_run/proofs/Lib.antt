@@ -4,3 +4,5 @@ mod InputLemmas
 mod QueryLemmas
 mod RunLemmas
 mod StdioLemmas
+mod PlainBatches
+mod RunHeadlineLemmas

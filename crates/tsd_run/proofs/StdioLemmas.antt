@@ -2,7 +2,7 @@
 use Rattle.std.proofs.Common.{◌≡◌, ℕ, List, [], false, refl, subst, ap, ◌∙◌}
 use Rattle.std.specs.Prelude.{Option, None, Some}
 use Rattle.std.proofs.KnownBytes.{Appends-nil, Consumes-nil}
-use Rattle.command_words.specs.CommandWords.{Batch, NameOptions, Asked}
+use Rattle.command_words.specs.CommandWords.{Batch, NameOptions, Stdio, Asked}
 use Rattle.command_words.specs.CommandWords.Asked.{BatchAsked, StdioAsked, ServeAsked}
 use Rattle.tsd_hooks.specs.declared.name_patterns.Patterns.{Patterns}
 use Rattle.point_put.specs.declared.config.Config.{Config}
@@ -22,8 +22,8 @@ pub admitted : (s : NameOptions) (config : Config) (patterns : Patterns) → con
 admitted s config patterns is same = ap (λ (c : Config). admission c patterns) is ∙ ap (admission (admission_of s).config) same
 
 -- a connection was served as the words say
-pub served_by : (s : NameOptions) (c : Admission) (taken taken' left left' held held' moments moments' : Option (List ℕ)) (result : Served) (status : Status) → c ≡ admission_of s → HasStatus result status
-    → Passes taken taken' left left' held held' moments moments' (ServesAlone c result) → Passes taken taken' left left' held held' moments moments' (ServesStdio s status)
+pub served_by : (s : Stdio) (c : Admission) (taken taken' left left' held held' moments moments' : Option (List ℕ)) (result : Served) (status : Status) → c ≡ admission_of s.names → HasStatus result status
+    → Passes taken taken' left left' held held' moments moments' (ServesAlone s.widths c result) → Passes taken taken' left left' held held' moments moments' (ServesStdio s status)
 served_by s c taken taken' left left' held held' moments moments' result status is how p = record {
   input = p.input;
   output = p.output;
@@ -32,7 +32,7 @@ served_by s c taken taken' left left' held held' moments moments' result status 
   leaves = p.leaves;
   gives = p.gives;
   ticks = p.ticks;
-  so = (result, subst (λ (a : Admission). ServesAlone a result p.input p.output p.times) is p.so, how);
+  so = (result, subst (λ (a : Admission). ServesAlone s.widths a result p.input p.output p.times) is p.so, how);
 }
 
 module _ (taken left held moments : Option (List ℕ)) where
@@ -40,7 +40,7 @@ module _ (taken left held moments : Option (List ℕ)) where
   unread_printed batch = record { input = []; ended = false; output = []; bytes = nothing_taken taken left batch; gives = Appends-nil held; answers = refl }
 
   -- there was no memory to serve a connection
-  pub unserved : (s : NameOptions) (status : Status) → status ≡ Memory → Passes taken taken left left held held moments moments (ServesStdio s status)
+  pub unserved : (s : Stdio) (status : Status) → status ≡ Memory → Passes taken taken left left held held moments moments (ServesStdio s status)
   unserved s status is = record {
     input = [];
     output = [];
@@ -49,7 +49,7 @@ module _ (taken left held moments : Option (List ℕ)) where
     leaves = Consumes-nil left;
     gives = Appends-nil held;
     ticks = refl;
-    so = (served.OutOfMemory, (none_served (admission_of s), nothing_fills), is);
+    so = (served.OutOfMemory, (none_served s.widths (admission_of s.names), nothing_fills), is);
   }
 
   -- there was no memory for the words

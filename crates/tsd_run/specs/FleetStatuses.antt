@@ -30,7 +30,7 @@ ServesFleet s inlets_tell outlets_tell moments back back' counts counts' faults 
 abbrev pub RunsAny : Option Asked → Type 0 → (Serve → Type 0) → Type 0
 RunsAny (Some (ServeAsked s)) alone fleet = fleet s
 RunsAny (Some (BatchAsked batch)) alone fleet = alone
-RunsAny (Some (StdioAsked names)) alone fleet = alone
+RunsAny (Some (StdioAsked s)) alone fleet = alone
 RunsAny None alone fleet = alone
 
 -- the words ask for a fleet
@@ -41,5 +41,5 @@ is_serve asked = false
 -- the clock is asked by a connection, and by those of a fleet
 abbrev pub asks_clock : Option Asked → Bool
 asks_clock (Some (ServeAsked s)) = true
-asks_clock (Some (StdioAsked names)) = true
+asks_clock (Some (StdioAsked s)) = true
 asks_clock asked = false

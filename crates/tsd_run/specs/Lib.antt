@@ -6,3 +6,4 @@ pub mod BatchQueries
 pub mod Runs
 pub mod Statuses
 pub mod FleetStatuses
+pub mod RunHeadlines

@@ -11,7 +11,7 @@ use Rattle.tsd_daemon.specs.declared.served.Served.{Served}
 use Rattle.tsd_daemon.specs.declared.served.Served.TheVariants as served
 use Rattle.tsd_daemon.specs.ServedConns.{Passes}
 use Rattle.stdio_job.specs.LoneConnections.{ServesAlone}
-use Rattle.command_words.specs.CommandWords.{Batch, NameOptions, Asked}
+use Rattle.command_words.specs.CommandWords.{Batch, NameOptions, Stdio, Asked}
 use Rattle.command_words.specs.CommandWords.Asked.{BatchAsked, StdioAsked, ServeAsked}
 use Rattle.query_text.specs.Subs.{sub_of}
 use Rattle.query_text.specs.declared.queries.Sub.{Sub}
@@ -106,10 +106,10 @@ HasStatus served.OutOfMemory status = status ≡ Memory
 abbrev pub admission_of : NameOptions → Admission
 admission_of s = admission (record { auto_metric = s.auto_metric; auto_tag_key = s.auto_tag_key; auto_tag_value = s.auto_tag_value }) s.patterns
 
--- One connection was served over an empty store that nobody else steps: these bytes were taken and these given, the clock gave these moments, and the
+-- One connection was served over an empty store of the widths that are asked for, which nobody else steps: these bytes were taken and these given, the clock gave these moments, and the
 -- status is that of its end.
-abbrev pub ServesStdio : NameOptions → Status → List ℕ → List ℕ → List ℕ → Type 0
-ServesStdio s status input output times = (result : Served) × ServesAlone (admission_of s) result input output times × HasStatus result status
+abbrev pub ServesStdio : Stdio → Status → List ℕ → List ℕ → List ℕ → Type 0
+ServesStdio s status input output times = (result : Served) × ServesAlone s.widths (admission_of s.names) result input output times × HasStatus result status
 
 -- the words ask for a connection
 abbrev pub is_stdio : Option Asked → Bool

@@ -8,6 +8,7 @@ ghost use Rattle.serve_job.specs.FleetRuns.{has_no_more};
 ghost use Rattle.command_words.specs.CommandWords.{asked_of};
 ghost use Rattle.command_words.specs.PlainAsked.{InRange, IsFleet, plain_patterns, plain_serve, what_asked};
 ghost use Rattle.tsd_run.specs.FleetStatuses.{RunsAny, ServesFleet, asks_clock, is_serve, status_of};
+ghost use Rattle.tsd_run.specs.RunHeadlines.{FleetHeadline, RunHeadline};
 ghost use Rattle.tsd_run.specs.Runs.{Runs};
 
 use crate::new_names::{config_of, patterns_of};
@@ -29,8 +30,8 @@ use tsd_io::ports::{Sink, Source};
 
 /// Runs the command that the words ask for, over an input, an output and the doors of connections.
 ///
-/// `serve PORT [--daemons N] [--workers N] [--regions N]` and the options of `stdio` serves the connections of a port over an empty
-/// store. It prints `listening P`, and where no more connections come `links N`, `ids A B C`, `rows R` and `cells C`. Any other words
+/// `serve PORT [--daemons N] [--workers N] [--regions N]` and the options of `stdio` but `--widths` serves the connections of a port over
+/// an empty store. It prints `listening P`, and where no more connections come `links N`, `ids A B C`, `rows R` and `cells C`. Any other words
 /// are those of [`crate::run_alone::run_alone`].
 pub fn run<
     T: Threads + Wait + Sync,
@@ -49,6 +50,11 @@ pub fn run<
     halt: H,
     doors: &mut D,
 ) -> Ended<H>
+    // What a batch prints is the plain aggregation of its points. In the one history of a store names keep their ids, and each reply to a query is the plain aggregation of accepted points.
+    ensures headline { RunsAny (asked_of (map string_bytes words.now))
+        (RunHeadline (asked_of (map string_bytes words.now)) (S.taken input.old) (S.taken input.new) (S.left input.old) (S.left input.new) (K.held output.old) (K.held output.new) (C.moments clock.old) (C.moments clock.new) result.status)
+        (λ s. FleetHeadline (AllTell D.Inlet.taken) (AllTell D.Outlet.held) (C.moments clock.old) (D.back doors.old) (D.back doors.new) (K.held output.old) (K.held output.new) result.status) }
+
     // A command that waits for nobody, or a fleet.
     ensures runs { RunsAny (asked_of (map string_bytes words.now))
         (Runs (asked_of (map string_bytes words.now)) (S.taken input.old) (S.taken input.new) (S.left input.old) (S.left input.new) (K.held output.old) (K.held output.new) (C.moments clock.old) (C.moments clock.new) result.status)

@@ -10,12 +10,13 @@ ghost use Rattle.batch_job.specs.PendingIds.{no_names};
 ghost use Rattle.batch_job.specs.Storing.{IsNaming};
 ghost use Rattle.command_words.specs.CommandWords as plain;
 ghost use Rattle.command_words.specs.CommandWords.{asked_of};
-ghost use Rattle.command_words.specs.PlainAsked.{InRange, batch_of, plain_batch, plain_names, plain_patterns, what_asked};
+ghost use Rattle.command_words.specs.PlainAsked.{InRange, batch_of, plain_batch, plain_patterns, plain_stdio, what_asked};
 ghost use Rattle.tsd_daemon.specs.ServedConns.{Passes};
 ghost use Rattle.tsd_run.specs.Outcomes.{refused_line, refused_query as plain_refusal, usage_line};
 ghost use Rattle.tsd_run.specs.OutputText.{outcome_of};
 ghost use Rattle.tsd_run.specs.BatchQueries.{IsQueryOf};
 ghost use Rattle.tsd_run.specs.RunFaults.{RunCause};
+ghost use Rattle.tsd_run.specs.RunHeadlines.{RunHeadline};
 ghost use Rattle.tsd_run.specs.Runs.{HasStatus, Runs, RunsPrinted, ServesStdio, Works, is_stdio};
 
 use crate::input::{BadLine, read_points};
@@ -29,9 +30,10 @@ use crate::status::Status;
 use batch_job::answer::answer;
 use batch_job::pending::Gathered;
 use cell_model::Rows;
-use command_words::{Asked, Batch, NameOptions, read_words};
+use command_words::{Asked, Batch, Stdio, read_words};
 use lone_store::{empty, halt_of};
 use query_text::queries::{Query, QueryFault};
+use row_key::Widths;
 use std::alloc::{AllocError, Global};
 use stdio_job::{Finished, serve_alone};
 use tsd_base::decimals::write_number;
@@ -71,9 +73,10 @@ struct Decided<H> {
 /// then the first line that is refused, then too many buckets, a name that no point has, two values of one series at one
 /// time, or a sum outside `i64`.
 ///
-/// `stdio [--auto-metric] [--no-auto-tagk] [--no-auto-tagv] [--allow-metric P] [--allow-tagk P] [--allow-tagv P]` serves one
-/// connection over an empty store, whose requests come from the input and whose replies go to the output. A name that has no id
-/// is given one only where it begins with the P of its kind, if there is one.
+/// `stdio [--auto-metric] [--no-auto-tagk] [--no-auto-tagv] [--allow-metric P] [--allow-tagk P] [--allow-tagv P] [--widths M,K,V]`
+/// serves one connection over an empty store, whose requests come from the input and whose replies go to the output. A name that has
+/// no id is given one only where it begins with the P of its kind, if there is one. The ids of metrics have M bytes, those of tag keys
+/// K and those of tag values V, each 2 to 4, and three where nothing is said.
 ///
 /// Words that are no command print the usage line, and so does `serve`, which waits for connections. No command but `stdio` asks the clock.
 pub fn run_alone<S: Source, K: Sink, C: Clock, H: Halt + Drop>(
@@ -84,6 +87,9 @@ pub fn run_alone<S: Source, K: Sink, C: Clock, H: Halt + Drop>(
     clock: &mut C,
     halt: H,
 ) -> Ended<H>
+    // What a batch prints is the plain aggregation of its points, and so is each reply to a query of a connection.
+    ensures headline { RunHeadline (asked_of (map string_bytes words.now)) (S.taken input.old) (S.taken input.new) (S.left input.old) (S.left input.new) (K.held output.old) (K.held output.new) (C.moments clock.old) (C.moments clock.new) result.status }
+
     // The status, the bytes taken and given, and the moments of the clock.
     ensures runs { Runs (asked_of (map string_bytes words.now)) (S.taken input.old) (S.taken input.new) (S.left input.old) (S.left input.new) (K.held output.old) (K.held output.new) (C.moments clock.old) (C.moments clock.new) result.status }
 
@@ -139,7 +145,7 @@ pub(crate) fn act<S: Source, K: Sink, C: Clock, H: Halt + Drop>(
     ensures clock { is_stdio (what_asked asked.entry) ≡ false → clock.new ≡ clock.old }
 {
     match asked {
-        Some(Asked::Stdio { names }) => serve(alloc, &names, input, output, clock, halt),
+        Some(Asked::Stdio { stdio }) => serve(alloc, &stdio, input, output, clock, halt),
         Some(Asked::Batch { batch }) => print(alloc, Some(batch), input, output, halt),
         Some(Asked::Serve { .. }) | None => print(alloc, None, input, output, halt),
     }
@@ -148,13 +154,13 @@ pub(crate) fn act<S: Source, K: Sink, C: Clock, H: Halt + Drop>(
 /// Serves one connection over the input and the output.
 fn serve<S: Source, K: Sink, C: Clock, H: Halt + Drop>(
     alloc: Global,
-    names: &NameOptions<'_>,
+    stdio: &Stdio<'_>,
     input: &mut S,
     output: &mut K,
     clock: &mut C,
     halt: H,
 ) -> Ended<H>
-    ensures serves { Passes (S.taken input.old) (S.taken input.new) (S.left input.old) (S.left input.new) (K.held output.old) (K.held output.new) (C.moments clock.old) (C.moments clock.new) (ServesStdio (plain_names names.now) result.status) }
+    ensures serves { Passes (S.taken input.old) (S.taken input.new) (S.left input.old) (S.left input.new) (K.held output.old) (K.held output.new) (C.moments clock.old) (C.moments clock.new) (ServesStdio (plain_stdio stdio.now) result.status) }
     ensures reads_later { S.faults input.old ≤ S.faults input.new }
     ensures writes_later { K.faults output.old ≤ K.faults output.new }
     ensures clock_later { C.faults clock.old ≤ C.faults clock.new }
@@ -164,7 +170,7 @@ fn serve<S: Source, K: Sink, C: Clock, H: Halt + Drop>(
     ensures clock_fault { result.status ≡ Status.ClockFault → Rose (C.faults clock.old) (C.faults clock.new) }
     ensures stopped { result.status ≡ Status.Stopped → Rose (H.stops halt) (H.stops result.halt) }
 {
-    let Ok(patterns) = patterns_of(alloc, &names.patterns) else {
+    let Ok(patterns) = patterns_of(alloc, &stdio.names.patterns) else {
         return no_memory(halt);
     };
     let Ok(kept) = patterns.again(alloc) else {
@@ -179,21 +185,21 @@ fn serve<S: Source, K: Sink, C: Clock, H: Halt + Drop>(
         return no_memory(halt);
     };
     let rule = UidRule::keep(kept, test);
-    serve_by(alloc, &rule, names, input, output, clock, halt)
+    serve_by(alloc, &rule, stdio, input, output, clock, halt)
 }
 
 /// Serves one connection over the input and the output, with the rule for new names.
 fn serve_by<S: Source, K: Sink, C: Clock, H: Halt + Drop>(
     alloc: Global,
     rule: &UidRule,
-    names: &NameOptions<'_>,
+    stdio: &Stdio<'_>,
     input: &mut S,
     output: &mut K,
     clock: &mut C,
     halt: H,
 ) -> Ended<H>
-    requires rule { rule.now.patterns ≡ plain_patterns names.now.patterns }
-    ensures serves { Passes (S.taken input.old) (S.taken input.new) (S.left input.old) (S.left input.new) (K.held output.old) (K.held output.new) (C.moments clock.old) (C.moments clock.new) (ServesStdio (plain_names names.now) result.status) }
+    requires rule { rule.now.patterns ≡ plain_patterns stdio.now.names.patterns }
+    ensures serves { Passes (S.taken input.old) (S.taken input.new) (S.left input.old) (S.left input.new) (K.held output.old) (K.held output.new) (C.moments clock.old) (C.moments clock.new) (ServesStdio (plain_stdio stdio.now) result.status) }
     ensures reads_later { S.faults input.old ≤ S.faults input.new }
     ensures writes_later { K.faults output.old ≤ K.faults output.new }
     ensures clock_later { C.faults clock.old ≤ C.faults clock.new }
@@ -203,8 +209,17 @@ fn serve_by<S: Source, K: Sink, C: Clock, H: Halt + Drop>(
     ensures clock_fault { result.status ≡ Status.ClockFault → Rose (C.faults clock.old) (C.faults clock.new) }
     ensures stopped { result.status ≡ Status.Stopped → Rose (H.stops halt) (H.stops result.halt) }
 {
-    let config = config_of(names);
-    let Finished { served, halt } = serve_alone(alloc, rule, &config, input, output, clock, halt);
+    let config = config_of(&stdio.names);
+    let Finished { served, halt } = serve_alone(
+        alloc,
+        stdio.widths,
+        rule,
+        &config,
+        input,
+        output,
+        clock,
+        halt,
+    );
     let status = status_of(served);
     Ended { status, halt }
 }
@@ -381,7 +396,7 @@ fn run_open<S: Source, H: Halt + Drop>(
     ensures grows { H.stops halt ≤ H.stops result.halt }
     ensures cause { IfErr result.printed (RunCause (S.faults input.old) (S.faults input.new) (H.stops halt) (H.stops result.halt)) }
 {
-    match empty(alloc, halt) {
+    match empty(alloc, Widths::three(), halt) {
         Ok(store) => {
             let mut store = store;
             let printed = over_store(alloc, query, input, &mut store, rule);

@@ -19,7 +19,10 @@ use Rattle.uid_table.specs.contracts.cache.IdKeyPartialEq.TheImpl as ids
 use Rattle.cell_model.specs.declared.events.Step.{Step}
 use Rattle.cell_model.specs.declared.events.Reply.{Reply}
 use Rattle.cell_model.specs.declared.events.Placed.{Placed}
-use Rattle.cell_model.specs.Seen.{Seen, Waited, Stepped, IsPossible}
+use Rattle.cell_model.specs.IdRows.{id_row}
+use Rattle.cell_model.specs.Machine.{kind_qual}
+use Rattle.cell_model.specs.Readings.{point_row}
+use Rattle.cell_model.specs.Seen.{Seen, Waited, Stepped, IsPossible, KnowsCell}
 use Rattle.cell_model.specs.Deeds.{Extends}
 use Rattle.uid_table.specs.Shown.{HasShown, HasShownName}
 use Rattle.uid_table.specs.IdSteps.{MadeSo}
@@ -28,6 +31,7 @@ use Rattle.tsd_base.specs.declared.kinds.Kind.TheVariants.{Metric, TagKey, TagVa
 use Rattle.tsd_base.specs.TagList.{Pair}
 use Rattle.tsd_base.specs.Points.{DataPoint, data_point}
 use Rattle.row_key.specs.declared.keys.RowKey.{RowKey}
+use Rattle.row_key.specs.Key.{IsKey, key_bytes}
 use Rattle.cell_model.specs.Layout.{names_of}
 use Rattle.uid_table.specs.declared.known_series.KnownSeries.{KnownSeries}
 use Rattle.uid_table.specs.declared.placed_point.PlacedPoint.{PlacedPoint}
@@ -36,7 +40,7 @@ use Rattle.uid_table.specs.PlacedPoints.{IsPlaced}
 use Rattle.uid_table.specs.KnownSeries.{IsShownSeries, IsShownSlot, KeepsSeries, KeepsNone}
 use Rattle.uid_table.specs.Cache.{AreAmong, IsShownId, KeepsIds, KeepsNames}
 use Rattle.cell_laws.proofs.CallerLemmas.{wait_made, step_extends, extends_joined}
-use Rattle.uid_table.proofs.Shows.{shown_kept}
+use Rattle.uid_table.proofs.Shows.{shown_kept, with_base}
 
 same_kind : (k j : Kind) → (kinds.eq-value).it k j ≡ true → k ≡ j
 same_kind k j e = search rules
@@ -90,7 +94,7 @@ IsLater old new = Extends old new × (IsPossible old → IsPossible new)
 pub name_shown_kept : (s t : Seen) (kind : Kind) (id : ℕ) (name : List ℕ) → Extends s t → HasShownName s kind id name → HasShownName t kind id name
 name_shown_kept s t kind id name e h = record {
   is_name = h.is_name;
-  known = let k = h.known in (k.0, k.1, e.kept k.0 k.1 k.2, k.3);
+  known = let k = with_base s t (λ w. KnowsCell s (id_row w kind id) (kind_qual kind) name) e.base h.known in (k.0, k.1, e.kept k.0 k.1 k.2, k.3);
   stands = λ later more. h.stands later (extends_joined s t later e more);
 }
 
@@ -128,7 +132,7 @@ pairs_shown_kept s t tags pairs e p = record {
 key_shown_kept : (s t : Seen) (p : DataPoint) (key : RowKey) → Extends s t → KeyShown s p key → KeyShown t p key
 key_shown_kept s t p key e k = record {
   is_point = k.is_point;
-  is_key = k.is_key;
+  is_key = with_base s t (λ w. IsKey w key) e.base k.is_key;
   metric = shown_kept s t Metric p.metric key.metric e k.metric;
   base = k.base;
   pairs = pairs_shown_kept s t p.tags key.pairs.items e k.pairs;
@@ -139,8 +143,9 @@ pub placed_kept : (s t : Seen) (p : PlacedPoint) → IsLater s t → IsPlaced s 
 placed_kept s t p on h = record {
   key = h.key;
   shown = key_shown_kept s t (data_point p.point) h.key on.0 h.shown;
-  row = h.row;
+  row = with_base s t (λ w. p.row ≡ point_row (key_bytes w h.key)) on.0.base h.row;
   base = h.base;
+  width = with_base s t (λ w. w.metric ≡ p.metric_width) on.0.base h.width;
   names = all_shown_kept s t (names_of (data_point p.point)) on.0 h.names;
   possible = on.1 h.possible;
 }

@@ -2,7 +2,7 @@
 use Rattle.std.proofs.Common.{◌≡◌, inl, inr, ℕ, Bool, true, false, cond, T, List, [], ◌∷◌, refl, sym, ap, subst, ◌∙◌, Less, Equal, Greater}
 use Rattle.std.specs.Prelude.{Option, Some, None, Contains, option_map, find}
 use Rattle.std.specs.Ordering.{is_eq, eq_by_cmp, ordering_then, ordering_reverse}
-use Rattle.std.specs.FinMap.{entries, entries_sorted, get-entries}
+use Rattle.std.specs.FinMap.{entries_sorted, get-entries}
 use Rattle.std.specs.FinMap as map
 use Rattle.std.specs.FinMap.Entries.{is_sorted, below_all}
 use Rattle.std.proofs.lemmas.Cmp.{tied_itself}
@@ -14,7 +14,7 @@ use Rattle.cell_model.specs.declared.events.Place.{Place}
 use Rattle.cell_model.specs.declared.events.Content.{Content}
 use Rattle.list_lemmas.specs.BytesOrder.{bytes_cmp}
 use Rattle.cell_model.specs.PlaceOrder.{row_cmp, place_cmp}
-use Rattle.cell_model.specs.Store.{Store, place_of, content_at, value_at, cells_of, is_between, next_row_of}
+use Rattle.cell_model.specs.Store.{Store, entries, place_of, content_at, value_at, cells_of, is_between, next_row_of}
 use Rattle.list_lemmas.proofs.ListMembers.{here, there as behind, split, not_in}
 use Rattle.cell_model.proofs.CallerLemmas.{places_total, rows_total, exact_places}
 
@@ -107,7 +107,7 @@ some_mapped None v e = cc
 some_mapped (Some c) v e = (c, refl)
 
 pub value_among_entries : (s : Store) (row : Row) (qual v : List ℕ) → value_at s row qual ≡ Some v → (c : Content) × Contains (entries s) (place_of row qual, c)
-value_among_entries s row qual v e = let w = some_mapped (content_at s row qual) v e in (w.0, found_among (entries s) (place_of row qual) w.0 (sym (get-entries s (place_of row qual)) ∙ w.1))
+value_among_entries s row qual v e = let w = some_mapped (content_at s row qual) v e in (w.0, found_among (entries s) (place_of row qual) w.0 (sym (get-entries s.cells (place_of row qual)) ∙ w.1))
 
 -- the row that was found: it is in the range and has a cell, and no row of the range below it has one
 pub record FoundRow (s : Store) (from to : List ℕ) (found : Found) : Type 0 where
@@ -128,13 +128,13 @@ found_some s (Some e) found is = (e, refl, same_found _ _ is)
 pub found_row : (s : Store) (from to : List ℕ) (found : Found) → next_row_of s Ids from to ≡ Some found → FoundRow s from to found
 found_row s from to found is =
     let w = found_some s (find (λ (e : Line). is_between Ids from to e.0.row) (entries s)) found is in
-    let f = find_first (is_between Ids from to) (entries s) w.0 (entries_sorted s) w.1 in
+    let f = find_first (is_between Ids from to) (entries s) w.0 (entries_sorted s.cells) w.1 in
     subst (FoundRow s from to) w.2 (record {
       between = f.passes;
       cells = refl;
       qual = w.0.0.qual;
       value = w.0.1.value;
-      stands = ap (option_map (λ (c : Content). c.value)) (get-entries s w.0.0 ∙ among_found (entries s) w.0 (entries_sorted s) f.among);
+      stands = ap (option_map (λ (c : Content). c.value)) (get-entries s.cells w.0.0 ∙ among_found (entries s) w.0 (entries_sorted s.cells) f.among);
       least = λ row q v at inside lt. let c = value_among_entries s row q v at in f.least (place_of row q, c.0) c.1 inside lt;
     })
 

@@ -8,6 +8,7 @@ use Rattle.list_lemmas.proofs.BoolTests.{both_true}
 use Rattle.tsd_base.specs.Alphabet.{is_name_byte}
 use Rattle.row_key.specs.declared.tables.Table.TheVariants.{Ids}
 use Rattle.list_lemmas.specs.BytesOrder.{bytes_cmp}
+use Rattle.cell_model.specs.KindWidths.{Widths}
 use Rattle.cell_model.specs.Ranges.{InOneRange, IsWithin}
 use Rattle.uid_table.specs.Suggest.{CanSearch, IsBehind, IsNameRange}
 use Rattle.uid_table.proofs.ByteOrder.{by_order, decides, greater_less, nothing_below, at_least, not_below, not_both, less_or_not, behind_above, behind_in, behind_is_above, below_first, first_above, tied}
@@ -89,17 +90,17 @@ range_edges low high (inr (inr (inr e))) = (let a = e.0 in omega (arith, a), let
 within : (prefix : List ℕ) (low high : ℕ) (from : List ℕ) → low < high → CanSearch prefix low high from → IsWithin low high from (high ∷ [])
 within prefix low high from lt s = record { from_on = s.on; from_at = s.at; to_on = first_above high low [] (omega (arith, lt)); to_at = ap is_lt (tied (high ∷ [])) }
 
-pub in_one_range : (prefix : List ℕ) (low high : ℕ) (from : List ℕ) → IsNameRange low high → CanSearch prefix low high from → InOneRange Ids from (high ∷ [])
-in_one_range prefix low high from r s = at r (within prefix low high from (range_edges low high r).1 s)
+pub in_one_range : (w : Widths) (prefix : List ℕ) (low high : ℕ) (from : List ℕ) → IsNameRange low high → CanSearch prefix low high from → InOneRange w Ids from (high ∷ [])
+in_one_range w prefix low high from r s = at r (within prefix low high from (range_edges low high r).1 s)
   where
     moved : (a b : ℕ) → low ≡ a → high ≡ b → IsWithin low high from (high ∷ []) → IsWithin a b from (high ∷ [])
     moved a b x y w = subst (λ (e : ℕ × ℕ). IsWithin e.0 e.1 from (high ∷ [])) (λ i. (x i, y i)) w
 
-    at : IsNameRange low high → IsWithin low high from (high ∷ []) → InOneRange Ids from (high ∷ [])
-    at (inl e) w = inl (moved 1 65 e.0 e.1 w)
-    at (inr (inl e)) w = inr (inl (moved 65 97 e.0 e.1 w))
-    at (inr (inr (inl e))) w = inr (inr (inl (moved 97 110 e.0 e.1 w)))
-    at (inr (inr (inr e))) w = inr (inr (inr (moved 110 123 e.0 e.1 w)))
+    at : IsNameRange low high → IsWithin low high from (high ∷ []) → InOneRange w Ids from (high ∷ [])
+    at (inl e) within_it = inl (moved 1 65 e.0 e.1 within_it)
+    at (inr (inl e)) within_it = inr (inl (moved 65 97 e.0 e.1 within_it))
+    at (inr (inr (inl e))) within_it = inr (inr (inl (moved 97 110 e.0 e.1 within_it)))
+    at (inr (inr (inr e))) within_it = inr (inr (inr (moved 110 123 e.0 e.1 within_it)))
 
 -- the row of the counters is before all of them
 pub above_zero : (prefix : List ℕ) (low high : ℕ) (from : List ℕ) → 1 ≤ low → CanSearch prefix low high from → bytes_cmp (0 ∷ []) from ≡ Less

@@ -32,7 +32,7 @@ pub record PairsShown (s : Seen) (tags : List Pair) (pairs : List (ℕ × ℕ)) 
 -- the key is that of the point, with ids that were seen
 pub record KeyShown (s : Seen) (p : DataPoint) (key : RowKey) : Type 0 where
   pub is_point : IsPoint p
-  pub is_key : IsKey key
+  pub is_key : IsKey s.base.widths key
   pub metric : HasShown s Metric p.metric key.metric
   pub base : key.base ≡ base_time p.time
   pub pairs : PairsShown s p.tags key.pairs.items

@@ -1,7 +1,7 @@
 //! Giving an id to a name that has none.
 ghost use Rattle.std.specs.Prelude.{◌≡◌, ◌≤◌, IfOk, OnOk};
 ghost use Rattle.tsd_base.specs.Alphabet.{IsName};
-ghost use Rattle.row_key.specs.Key.{IsId};
+ghost use Rattle.cell_model.specs.KindWidths.{IsKindId};
 ghost use Rattle.cell_model.specs.declared.events.Step.TheVariants.{Bump};
 ghost use Rattle.cell_model.specs.declared.events.Reply.TheVariants.{BumpReply};
 ghost use Rattle.cell_model.specs.declared.answers.Bumped.TheVariants.{Given};
@@ -33,12 +33,12 @@ fn claim_reverse<R: Rows>(
 ) -> Result<(), RowsFault>
     requires named { IsName name.now.bytes }
     requires given { (before : Seen) × Stepped before (Bump kind) (BumpReply (Given id)) (R.seen rows.old) }
-    ensures made { MadeSo (R.seen rows.old) (ReverseMade kind name.now.bytes id result) (R.seen rows.new) }
+    ensures made { MadeSo (R.seen rows.old) (ReverseMade (R.seen rows.old).base.widths kind name.now.bytes id result) (R.seen rows.new) }
     ensures reversed { OnOk result (HasReversed (R.seen rows.new) kind name.now.bytes id) }
-    ensures id { OnOk result (IsId id) }
+    ensures id { OnOk result (IsKindId (R.seen rows.new).base.widths kind id) }
     ensures stops { CountsStops is_stop result (R.stops rows.old) (R.stops rows.new) }
 {
-    let row = row_of_id(id);
+    let row = row_of_id(kind, id, rows.widths());
     let qual = qualifier(kind);
     let claimed = rows.claim(alloc, &row, &qual, &name.bytes)?;
     match claimed {
@@ -58,13 +58,13 @@ fn claim_forward<R: Rows>(
     requires row { name.now ≡ name_row name.now.bytes }
     requires named { IsName name.now.bytes }
     requires reversed { HasReversed (R.seen rows.old) kind name.now.bytes id }
-    requires id { IsId id }
-    ensures made { MadeSo (R.seen rows.old) (ForwardMade kind name.now.bytes id result) (R.seen rows.new) }
+    requires id { IsKindId (R.seen rows.old).base.widths kind id }
+    ensures made { MadeSo (R.seen rows.old) (ForwardMade (R.seen rows.old).base.widths kind name.now.bytes id result) (R.seen rows.new) }
     ensures id { IfOk result (λ a. HasShown (R.seen rows.new) kind name.now.bytes (answered_id a)) }
     ensures leaves { Leaves is_stop result (R.seen rows.new) (R.stops rows.old) (R.stops rows.new) }
 {
     let qual = qualifier(kind);
-    let value = bytes_of_id(id);
+    let value = bytes_of_id(kind, id, rows.widths());
     let claimed = rows.claim(alloc, name, &qual, &value)?;
     match claimed {
         Claimed::Done => Ok(Assigned::Fresh { id }),
@@ -89,7 +89,7 @@ fn bind<R: Rows>(
     requires row { name.now ≡ name_row name.now.bytes }
     requires named { IsName name.now.bytes }
     requires given { (before : Seen) × Stepped before (Bump kind) (BumpReply (Given id)) (R.seen rows.old) }
-    ensures made { MadeSo (R.seen rows.old) (BindMade kind name.now.bytes id result) (R.seen rows.new) }
+    ensures made { MadeSo (R.seen rows.old) (BindMade (R.seen rows.old).base.widths kind name.now.bytes id result) (R.seen rows.new) }
     ensures id { IfOk result (λ a. HasShown (R.seen rows.new) kind name.now.bytes (answered_id a)) }
     ensures leaves { Leaves is_stop result (R.seen rows.new) (R.stops rows.old) (R.stops rows.new) }
 {
@@ -107,7 +107,7 @@ fn give<R: Rows>(
     requires row { name.now ≡ name_row name.now.bytes }
     requires named { IsName name.now.bytes }
     requires spare { 1 ≤ R.spare rows.old }
-    ensures made { MadeSo (R.seen rows.old) (GiveMade kind name.now.bytes result) (R.seen rows.new) }
+    ensures made { MadeSo (R.seen rows.old) (GiveMade (R.seen rows.old).base.widths kind name.now.bytes result) (R.seen rows.new) }
     ensures id { IfOk result (λ a. HasShown (R.seen rows.new) kind name.now.bytes (answered_id a)) }
     ensures leaves { Leaves is_assign_stop result (R.seen rows.new) (R.stops rows.old) (R.stops rows.new) }
 {
@@ -134,7 +134,7 @@ fn give_allowed<R: Rows>(
     requires named { IsName row.now.bytes }
     requires same { row.now.bytes ≡ name.now }
     requires spare { 1 ≤ R.spare rows.old }
-    ensures made { MadeSo (R.seen rows.old) (GiveAllowedMade rule.now.patterns kind row.now.bytes result) (R.seen rows.new) }
+    ensures made { MadeSo (R.seen rows.old) (GiveAllowedMade (R.seen rows.old).base.widths rule.now.patterns kind row.now.bytes result) (R.seen rows.new) }
     ensures id { IfOk result (λ a. HasShown (R.seen rows.new) kind row.now.bytes (answered_id a)) }
     ensures leaves { Leaves is_assign_stop result (R.seen rows.new) (R.stops rows.old) (R.stops rows.new) }
 {
@@ -157,7 +157,7 @@ pub fn look_or_give<R: Rows>(
     requires row { row.now ≡ name_row row.now.bytes }
     requires named { IsName row.now.bytes }
     requires same { row.now.bytes ≡ name.now }
-    ensures made { MadeSo (R.seen rows.old) (AssignMade rule.now.patterns kind row.now.bytes result) (R.seen rows.new) }
+    ensures made { MadeSo (R.seen rows.old) (AssignMade (R.seen rows.old).base.widths rule.now.patterns kind row.now.bytes result) (R.seen rows.new) }
     ensures id { IfOk result (λ a. HasShown (R.seen rows.new) kind row.now.bytes (answered_id a)) }
     ensures leaves { Leaves is_assign_stop result (R.seen rows.new) (R.stops rows.old) (R.stops rows.new) }
 {

@@ -43,7 +43,7 @@ pub enum ResolveFault {
 pub enum AssignFault {
     /// The name has no id, and the rule for new names doesn't allow it. No id was spent.
     Filtered { kind: Kind },
-    /// All 16,777,215 ids of this kind were given.
+    /// All ids of this kind were given.
     Exhausted { kind: Kind },
     /// There was no memory for one of the steps. The steps before it stay done.
     OutOfMemory,

@@ -27,11 +27,12 @@ pub fn name_from(alloc: Global, bytes: &[u8]) -> Result<Name, RowsFault>
 /// The name of an id that a name is known to have, by one read.
 pub fn name_in<R: Rows>(rows: &mut R, alloc: Global, kind: Kind, id: u32) -> Result<Name, RowsFault>
     requires { KnowsName (R.seen rows.old) kind id }
-    ensures made { MadeSo (R.seen rows.old) (NameMade kind id result) (R.seen rows.new) }
+    ensures made { MadeSo (R.seen rows.old) (NameMade (R.seen rows.old).base.widths kind id result) (R.seen rows.new) }
     ensures name { IfOk result (HasShownName (R.seen rows.new) kind id) }
     ensures leaves { Leaves is_stop result (R.seen rows.new) (R.stops rows.old) (R.stops rows.new) }
 {
-    let cells = rows.read(alloc, &row_of_id(id))?;
+    let row = row_of_id(kind, id, rows.widths());
+    let cells = rows.read(alloc, &row)?;
     match cells.value_at(qualifier_bytes(kind)) {
         Some(bytes) => name_from(alloc, bytes),
         None => unreachable!(),

@@ -20,6 +20,8 @@ pub struct PlacedPoint {
     pub row: Row,
     /// The second at which the row's hour begins.
     pub base: u32,
+    /// How many bytes the ids of metrics have, with which the row begins.
+    pub metric_width: u8,
 }
 
 impl PlacedPoint {
@@ -36,13 +38,13 @@ impl PlacedPoint {
         value: i64,
     ) -> Result<(), AllocError>
         requires timed { IsTime time fine }
-        requires row { IsSomeRow self.old.row self.old.base }
+        requires row { IsSomeRow self.old.metric_width self.old.row self.old.base }
         ensures ok { OnOk result (IsRefilled self.old time fine value self.new) }
         ensures err { OnErr result (self.new ≡ self.old) }
     {
         let base = base_of(time);
         if base != self.base {
-            move_row(alloc, &mut self.row, base)?;
+            move_row(alloc, &mut self.row, base, self.metric_width)?;
             self.base = base;
         }
         set_point(&mut self.point, time, fine, value);
@@ -66,32 +68,33 @@ fn set_point(point: &mut Point, time: u64, fine: bool, value: i64)
 }
 
 /// Makes a row that of the same series at another hour.
-fn move_row(alloc: Global, row: &mut Row, base: u32) -> Result<(), AllocError>
-    requires { (before : ℕ) × IsSomeRow row.old before }
-    ensures ok { OnOk result (IsMoved row.old base row.new) }
+fn move_row(alloc: Global, row: &mut Row, base: u32, metric_width: u8) -> Result<(), AllocError>
+    requires { (before : ℕ) × IsSomeRow metric_width row.old before }
+    ensures ok { OnOk result (IsMoved metric_width row.old base row.new) }
     ensures err { OnErr result (row.new ≡ row.old) }
 {
-    row.bytes = bytes_at(alloc, row.bytes.list(), base)?;
+    row.bytes = bytes_at(alloc, row.bytes.list(), base, metric_width)?;
     Ok(())
 }
 
-/// The bytes of a row with another hour.
-fn bytes_at(alloc: Global, bytes: &[u8], base: u32) -> Result<Bytes, AllocError>
-    requires least { 7 ≤ length bytes.now }
-    requires most { length bytes.now ≤ 64 }
-    ensures { IfOk result (λ made. made ≡ (take 3 bytes.now ++ to_be_bytes w32 base) ++ drop 7 bytes.now) }
+/// The bytes of a row with another hour, where the ids of metrics have so many bytes.
+fn bytes_at(alloc: Global, bytes: &[u8], base: u32, metric_width: u8) -> Result<Bytes, AllocError>
+    requires least { metric_width + 4 ≤ length bytes.now }
+    requires most { length bytes.now ≤ 72 }
+    ensures { IfOk result (λ made. made ≡ (take metric_width bytes.now ++ to_be_bytes w32 base) ++ drop (metric_width + 4) bytes.now) }
 {
+    let at = metric_width as usize;
     let mut made = ArrayVec::new();
-    add_bytes(&mut made, &bytes[..3]);
+    add_bytes(&mut made, &bytes[..at]);
     add_bytes(&mut made, &base.to_be_bytes());
-    add_bytes(&mut made, &bytes[7..]);
+    add_bytes(&mut made, &bytes[at + 4..]);
     Bytes::of(alloc, made.as_slice())
 }
 
 /// Adds bytes, for which there is room.
 #[inline]
-fn add_bytes(made: &mut ArrayVec<u8, 64>, bytes: &[u8])
-    requires { array_vec_len made.old + length bytes.now ≤ 64 }
+fn add_bytes(made: &mut ArrayVec<u8, 72>, bytes: &[u8])
+    requires { array_vec_len made.old + length bytes.now ≤ 72 }
     ensures items { made.new.items ≡ made.old.items ++ bytes.now }
     ensures len { array_vec_len made.new ≡ array_vec_len made.old + length bytes.now }
 {

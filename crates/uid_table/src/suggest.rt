@@ -96,7 +96,7 @@ fn turn<R: Rows>(
     high: u8,
     names: &mut Vec<Name>,
 ) -> Result<Option<Bytes>, RowsFault>
-    requires range { InOneRange Ids from.now (high ∷ []) }
+    requires range { InOneRange (R.seen rows.old).base.widths Ids from.now (high ∷ []) }
     requires on { bytes_cmp (0 ∷ []) from.now ≡ Less }
     requires at { is_lt (bytes_cmp (high ∷ []) from.now) ≡ false }
     requires above { is_lt (bytes_cmp from.now prefix.now) ≡ false }

@@ -24,7 +24,7 @@ use cell_model::answers::{Bumped, Claimed, RowsFault, Stopped};
 use cell_model::row::{Cells, Drops, Found, Row};
 use cell_model::rows::Rows;
 use qual_codec::Bytes;
-use row_key::Table;
+use row_key::{Table, Widths};
 use std::alloc::{AllocError, Global};
 use std::marker::Model;
 use tsd_base::kinds::Kind;
@@ -141,7 +141,7 @@ impl<R: Rows + Drop> Uids<R> {
     ///
     /// `Unknown` exactly where that read found no cell of this kind for the name, which is not kept. What it found is kept.
     pub fn resolve(&mut self, alloc: Global, kind: Kind, name: &Name) -> Result<u32, ResolveFault>
-        ensures made { MadeSo (R.seen self.old) (ResolveMade kind name.now result) (R.seen self.new) }
+        ensures made { MadeSo (R.seen self.old) (ResolveMade (R.seen self.old).base.widths kind name.now result) (R.seen self.new) }
         ensures id { IfOk result (HasShown (R.seen self.new) kind name.now) }
         ensures leaves { Leaves is_resolve_stop result (R.seen self.new) (R.stops self.old) (R.stops self.new) }
     {
@@ -165,7 +165,7 @@ impl<R: Rows + Drop> Uids<R> {
         kind: Kind,
         name: &Name,
     ) -> Result<Assigned, AssignFault>
-        ensures made { MadeSo (R.seen self.old) (AssignMade rule.now.patterns kind name.now result) (R.seen self.new) }
+        ensures made { MadeSo (R.seen self.old) (AssignMade (R.seen self.old).base.widths rule.now.patterns kind name.now result) (R.seen self.new) }
         ensures id { IfOk result (λ a. HasShown (R.seen self.new) kind name.now (answered_id a)) }
         ensures leaves { Leaves is_assign_stop result (R.seen self.new) (R.stops self.old) (R.stops self.new) }
     {
@@ -180,7 +180,7 @@ impl<R: Rows + Drop> Uids<R> {
     /// What it found is kept. Where there was no memory for the name, that read may have been made.
     pub fn name_of(&mut self, alloc: Global, kind: Kind, id: u32) -> Result<Name, RowsFault>
         requires { KnowsName (R.seen self.old) kind id }
-        ensures made { MadeSo (R.seen self.old) (NameMade kind id result) (R.seen self.new) }
+        ensures made { MadeSo (R.seen self.old) (NameMade (R.seen self.old).base.widths kind id result) (R.seen self.new) }
         ensures name { IfOk result (HasShownName (R.seen self.new) kind id) }
         ensures leaves { Leaves is_stop result (R.seen self.new) (R.stops self.old) (R.stops self.new) }
     {
@@ -217,7 +217,7 @@ fn resolve_in<R: Rows>(
     requires row { key.row ≡ name_row key.row.bytes }
     requires named { IsName key.row.bytes }
     requires kept { KeepsIds (R.seen rows.old) ids.old.entries }
-    ensures made { MadeSo (R.seen rows.old) (ResolveMade key.kind key.row.bytes result) (R.seen rows.new) }
+    ensures made { MadeSo (R.seen rows.old) (ResolveMade (R.seen rows.old).base.widths key.kind key.row.bytes result) (R.seen rows.new) }
     ensures id { IfOk result (HasShown (R.seen rows.new) key.kind key.row.bytes) }
     ensures leaves { Leaves is_resolve_stop result (R.seen rows.new) (R.stops rows.old) (R.stops rows.new) }
     ensures kept { KeepsIds (R.seen rows.new) ids.new.entries }
@@ -238,7 +238,7 @@ fn resolve_anew<R: Rows>(
     requires row { key.row ≡ name_row key.row.bytes }
     requires named { IsName key.row.bytes }
     requires kept { KeepsIds (R.seen rows.old) ids.old.entries }
-    ensures made { MadeSo (R.seen rows.old) (ResolveMade key.kind key.row.bytes result) (R.seen rows.new) }
+    ensures made { MadeSo (R.seen rows.old) (ResolveMade (R.seen rows.old).base.widths key.kind key.row.bytes result) (R.seen rows.new) }
     ensures id { IfOk result (HasShown (R.seen rows.new) key.kind key.row.bytes) }
     ensures leaves { Leaves is_resolve_stop result (R.seen rows.new) (R.stops rows.old) (R.stops rows.new) }
     ensures kept { KeepsIds (R.seen rows.new) ids.new.entries }
@@ -267,7 +267,7 @@ fn assign_in<R: Rows>(
     requires named { IsName key.row.bytes }
     requires same { key.row.bytes ≡ name.now }
     requires kept { KeepsIds (R.seen rows.old) ids.old.entries }
-    ensures made { MadeSo (R.seen rows.old) (AssignMade rule.now.patterns key.kind key.row.bytes result) (R.seen rows.new) }
+    ensures made { MadeSo (R.seen rows.old) (AssignMade (R.seen rows.old).base.widths rule.now.patterns key.kind key.row.bytes result) (R.seen rows.new) }
     ensures id { IfOk result (λ a. HasShown (R.seen rows.new) key.kind key.row.bytes (answered_id a)) }
     ensures leaves { Leaves is_assign_stop result (R.seen rows.new) (R.stops rows.old) (R.stops rows.new) }
     ensures kept { KeepsIds (R.seen rows.new) ids.new.entries }
@@ -291,7 +291,7 @@ fn assign_anew<R: Rows>(
     requires named { IsName key.row.bytes }
     requires same { key.row.bytes ≡ name.now }
     requires kept { KeepsIds (R.seen rows.old) ids.old.entries }
-    ensures made { MadeSo (R.seen rows.old) (AssignMade rule.now.patterns key.kind key.row.bytes result) (R.seen rows.new) }
+    ensures made { MadeSo (R.seen rows.old) (AssignMade (R.seen rows.old).base.widths rule.now.patterns key.kind key.row.bytes result) (R.seen rows.new) }
     ensures id { IfOk result (λ a. HasShown (R.seen rows.new) key.kind key.row.bytes (answered_id a)) }
     ensures leaves { Leaves is_assign_stop result (R.seen rows.new) (R.stops rows.old) (R.stops rows.new) }
     ensures kept { KeepsIds (R.seen rows.new) ids.new.entries }
@@ -310,7 +310,7 @@ fn name_of_in<R: Rows>(
 ) -> Result<Name, RowsFault>
     requires known { KnowsName (R.seen rows.old) key.kind key.id }
     requires kept { KeepsNames (R.seen rows.old) names.old.entries }
-    ensures made { MadeSo (R.seen rows.old) (NameMade key.kind key.id result) (R.seen rows.new) }
+    ensures made { MadeSo (R.seen rows.old) (NameMade (R.seen rows.old).base.widths key.kind key.id result) (R.seen rows.new) }
     ensures name { IfOk result (HasShownName (R.seen rows.new) key.kind key.id) }
     ensures leaves { Leaves is_stop result (R.seen rows.new) (R.stops rows.old) (R.stops rows.new) }
     ensures kept { KeepsNames (R.seen rows.new) names.new.entries }
@@ -331,7 +331,7 @@ fn name_anew<R: Rows>(
 ) -> Result<Name, RowsFault>
     requires known { KnowsName (R.seen rows.old) key.kind key.id }
     requires kept { KeepsNames (R.seen rows.old) names.old.entries }
-    ensures made { MadeSo (R.seen rows.old) (NameMade key.kind key.id result) (R.seen rows.new) }
+    ensures made { MadeSo (R.seen rows.old) (NameMade (R.seen rows.old).base.widths key.kind key.id result) (R.seen rows.new) }
     ensures name { IfOk result (HasShownName (R.seen rows.new) key.kind key.id) }
     ensures leaves { Leaves is_stop result (R.seen rows.new) (R.stops rows.old) (R.stops rows.new) }
     ensures kept { KeepsNames (R.seen rows.new) names.new.entries }
@@ -347,6 +347,10 @@ impl<R: Rows + Drop> Rows for Uids<R> {
     ghost stops = { λ rows. R.stops rows };
 
     ghost spare = { λ rows. R.spare rows };
+
+    fn widths(&self) -> Widths {
+        self.rows.widths()
+    }
 
     fn read(&mut self, alloc: Global, row: &Row) -> Result<Cells, RowsFault> {
         self.rows.read(alloc, row)

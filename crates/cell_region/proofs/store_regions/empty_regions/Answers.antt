@@ -1,6 +1,6 @@
 use Rattle.std.proofs.Common.{◌≡◌, ◌+◌, List, [], ap, ◌∙◌, subst, sym, length, map, arith, length-append, ◌∷◌}
 use Rattle.std.specs.List.{flat_map}
-use Rattle.std.specs.FinMap.{entries}
+use Rattle.cell_model.specs.Store.{Store, entries}
 use Rattle.cell_parts.specs.StoreParts.{is_in}
 use Rattle.cell_region.specs.declared.region.Region.{Region}
 use Rattle.cell_region.specs.RegionLists.{cells_in, InOrder}
@@ -15,7 +15,7 @@ loop-number-preserved c =
     let same = ap length longer in
     let count = c.loop-number.invariant.count in
     record {
-      order = subst (InOrder c.args.data_regions 0) (sym longer) (order_push c.args.data_regions 0 c.loop-number.regions.items c.empty.result c.loop-number.invariant.order (c.empty.ensures.rows ∙ ap (is_in c.args.data_regions) place));
+      order = subst (InOrder c.args.widths c.args.data_regions 0) (sym longer) (order_push c.args.widths c.args.data_regions 0 c.loop-number.regions.items c.empty.result c.loop-number.invariant.order (c.empty.ensures.rows ∙ ap (is_in c.args.widths c.args.data_regions) place) (ap (λ (s : Store). s.widths) c.empty.ensures.cells));
       count = omega (arith, same, more, count);
-      none = ap (λ (rs : List Region). flat_map entries (map cells_in rs)) longer ∙ none_push c.loop-number.regions.items c.empty.result c.loop-number.invariant.none c.empty.ensures.cells;
+      none = ap (λ (rs : List Region). flat_map entries (map cells_in rs)) longer ∙ none_push c.args.widths c.loop-number.regions.items c.empty.result c.loop-number.invariant.none c.empty.ensures.cells;
     }

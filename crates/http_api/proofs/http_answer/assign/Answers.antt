@@ -20,12 +20,12 @@ returns-in_err-ids-clause-err g c = in_error ((config : Config) (queue : List St
 
 pub returns-in-Ok-clause-ok : goal.returns-in-Ok-clause-ok
 returns-in-Ok-clause-ok g c =
-    let bytes = reply_bytes (assign_status c.in-Ok.answers) c.args.closing (assign_body c.in-Ok.answers) in
+    let bytes = reply_bytes (assign_status c.in-Ok.answers) c.args.closing (assign_body c.widths.result c.in-Ok.answers) in
     let old = g.R.Rows.seen c.args.names.now in
     let new = g.R.Rows.seen c.assign_lists.new.names in
     with_bytes (λ (b : List ℕ). (config : Config) (queue : List Stored) → WorkReplied (admission config c.args.rule.now.patterns) (Assigns (assign_lists c.args.request.now)) c.args.closing (g.R.Rows.seen c.args.names.now) queue b (g.R.Rows.seen c.assign_lists.new.names) queue)
     bytes c.told.result (c.told.ensures.ok bytes c.assign_reply.ensures)
-    (λ config queue. names_replied (admission config c.args.rule.now.patterns) (assign_lists c.args.request.now) c.args.closing old new queue c.in-Ok.answers c.in_ok-ids.ensures.since c.in-Ok.ensures.texts
+    (λ config queue. names_replied (admission config c.args.rule.now.patterns) (assign_lists c.args.request.now) c.args.closing old new queue c.in-Ok.answers c.widths.result c.widths.ensures c.in_ok-ids.ensures.since c.in-Ok.ensures.texts
     (subst (λ (outs : List IdTold). InEach new (λ h. AssignRan c.args.rule.now.patterns h old.caller old.length (named_in (assign_lists c.args.request.now)) outs new.length)) (sym c.in-Ok.ensures.answers)
     (as_named (λ (names : List NameOf). InEach new (λ h. AssignRan c.args.rule.now.patterns h old.caller old.length names (outcomes_in c.in_ok-ids.ids) new.length)) c.args.request.now c.in_ok-ids.ensures.ok)))
 

@@ -1,4 +1,6 @@
-use Rattle.std.proofs.Common.{Ok, Err, subst}
+use Rattle.std.proofs.Common.{Ok, Err, sym, subst}
+use Rattle.row_key.specs.declared.widths.Widths.{Widths}
+use Rattle.row_key.specs.Key.{IsKey}
 use Rattle.tsd_base.specs.declared.points.Point.{Point}
 use Rattle.tsd_base.specs.Points.{data_point}
 use Rattle.point_put.specs.Admissions.{admission}
@@ -6,7 +8,7 @@ use Rattle.point_put.specs.PutPoint.{PutSays, StoreMade}
 use Rattle.point_put.specs.StoredTexts.{place_of, put_answer}
 use Rattle.uid_table.proofs.CallerLemmas.{placed_kept}
 use Rattle.point_put.proofs.Asking.{passed_on}
-use Rattle.point_put.proofs.Outcomes.{put_failed, put_done, few_failed, few_done}
+use Rattle.point_put.proofs.Outcomes.{put_failed, put_done, put_unplaced, few_failed, few_done}
 use Rattle.point_put.proofs.PlacedPuts.{placed, stored_later}
 use Rattle.point_put.proofs.placed_put.put_first.Goals as goal
 
@@ -17,6 +19,12 @@ returns-in_err-key-clause-says g c =
 
 pub returns-in_err-key-clause-few : goal.returns-in_err-key-clause-few
 returns-in_err-key-clause-few g c = few_failed (admission c.args.config.now c.args.rule.now.patterns) (data_point c.args.point) _ _ _ c.in_err-key.ensures.asked
+
+pub place-requires : goal.place-requires
+place-requires g c = subst (λ (w : Widths). IsKey w c.in_ok-key.key) (sym c.widths.ensures) c.in_ok-key.ensures.key.is_key
+
+pub returns-in_default-clause-says : goal.returns-in_default-clause-says
+returns-in_default-clause-says g c = put_unplaced (admission c.args.config.now c.args.rule.now.patterns) (data_point c.args.point) _ _ c.in_ok-key.key c.in_ok-key.ensures.asked
 
 pub returns-in_default-clause-few : goal.returns-in_default-clause-few
 returns-in_default-clause-few g c = few_failed (admission c.args.config.now c.args.rule.now.patterns) (data_point c.args.point) _ _ _ c.in_ok-key.ensures.asked
@@ -29,7 +37,7 @@ returns-in-Ok-store_placed-clause-says g c =
 pub returns-in-Ok-store_placed-clause-placed : goal.returns-in-Ok-store_placed-clause-placed
 returns-in-Ok-store_placed-clause-placed g c = (
   placed_kept _ _ c.in-Ok.placed (stored_later (data_point c.in-Ok.placed.point) _ _ (Ok (place_of c.in-Ok.placed)) c.in-Ok-store_placed.ensures.made)
-      (placed (g.R.Rows.seen c.key_for.new.names) c.args.point c.in_ok-key.key c.in-Ok.placed c.in-Ok.ensures.point c.in-Ok.ensures.row c.in_ok-key.ensures.key c.in_ok-key.ensures.asked.answered c.in_ok-key.ensures.leaves.possible),
+      (placed (g.R.Rows.seen c.key_for.new.names) c.widths.result c.args.point c.in_ok-key.key c.in-Ok.placed c.widths.ensures c.in-Ok.ensures.point c.in-Ok.ensures.row c.in_ok-key.ensures.key c.in_ok-key.ensures.asked.answered c.in_ok-key.ensures.leaves.possible),
   c.in-Ok.ensures.point,
 )
 

@@ -1,21 +1,28 @@
-use Rattle.std.proofs.Common.{◌≡◌, ℕ, refl, ap, ◌∙◌, subst, arith}
-use Rattle.std.specs.Prelude.{Ok, Some}
+use Rattle.std.proofs.Common.{◌≡◌, ℕ, refl, sym, ap, ◌∙◌, subst, arith}
+use Rattle.std.specs.Prelude.{Ok, Err, Some}
+use Rattle.row_key.specs.declared.widths.Widths.{Widths}
 use Rattle.row_scan.specs.Scans.{Left, IsStart, after_turn}
 use Rattle.query_run.specs.AskFaults.{ask_fault}
 use Rattle.query_run.specs.IdFilters.{passes}
 use Rattle.query_run.specs.RowNames.{known}
-use Rattle.query_run.specs.Collection.{CollectSays}
+use Rattle.query_run.specs.Collection.{CollectSays, FoundRow, StandsBehind}
 use Rattle.query_run.proofs.NameReads.{passed_on}
 use Rattle.query_run.proofs.Contents.{gathered_none}
-use Rattle.query_run.proofs.ScanLoop.{scan_starts, turned, row_found, row_behind, turn_goes, turn_fails, no_turn, scan_ends, goes_on}
+use Rattle.query_run.proofs.ScanLoop.{scan_starts, scan_widths, starts_there, turn_widths, asked_there, turned, row_found, row_behind, turn_goes, turn_fails, no_turn, scan_ends, goes_on}
 use Rattle.query_run.proofs.collection.collect.Goals as goal
 
 pub loop-init : goal.loop-init
 loop-init g c = record {
-  far = scan_starts (passes c.args.filters.now) c.args.metric c.args.start c.args.end c.start-scan.result _ c.make.result (known c.none.result) (subst (λ (x : ℕ × ℕ). IsStart c.args.metric x.0 x.1 c.start-scan.result) (λ i. (c.base_of.ensures i, c.base_of-2.ensures i)) (c.start-scan.ensures c.requires.metric)) (gathered_none (passes c.args.filters.now) c.args.metric c.args.start c.args.end c.make.result (known c.none.result) c.make.ensures) c.none.ensures;
+  far = scan_starts (passes c.args.filters.now) c.args.metric c.args.start c.args.end c.start-scan.result _ c.make.result (known c.none.result)
+      (subst (λ (x : ℕ × ℕ). IsStart (g.R.Rows.seen c.args.names.now).base.widths c.args.metric x.0 x.1 c.start-scan.result) (λ i. (c.base_of.ensures i, c.base_of-2.ensures i))
+      (starts_there c.widths.result _ c.args.metric c.base_of.result c.base_of-2.result c.start-scan.result c.widths.ensures c.requires.metric c.start-scan.ensures.starts))
+      (gathered_none (passes c.args.filters.now) _ c.args.metric c.args.start c.args.end c.make.result (known c.none.result) c.make.ensures) c.none.ensures;
   possible = c.requires.possible;
   grows = omega arith;
 }
+
+pub turn-requires : goal.turn-requires
+turn-requires g c = turn_widths (passes c.args.filters.now) c.args.metric c.args.start c.args.end c.loop.scan _ _ c.loop.collected.spans (known c.loop.collected.names) c.loop.invariant.far
 
 pub returns-in_err-found-clause-says : goal.returns-in_err-found-clause-says
 returns-in_err-found-clause-says g c =
@@ -29,19 +36,28 @@ returns-in_default-clause-says g c =
 pub take_row-requires-clause-row : goal.take_row-requires-clause-row
 take_row-requires-clause-row g c =
     let t = turned (passes c.args.filters.now) _ _ _ c.args.metric c.args.start c.args.end c.loop.scan c.loop.collected.spans (known c.loop.collected.names) c.in_ok-found.field-0 c.in-Some.found c.loop.invariant.far c.in-Some.is c.in_ok-found.ensures.made c.in_ok-found.ensures.leaves.possible in
-    (c.args.metric, (row_found (passes c.args.filters.now) _ _ _ c.args.metric c.args.start c.args.end c.loop.scan c.loop.collected.spans (known c.loop.collected.names) c.in-Some.found t).row)
+    let row = (row_found (passes c.args.filters.now) _ _ _ c.args.metric c.args.start c.args.end c.loop.scan c.loop.collected.spans (known c.loop.collected.names) c.in-Some.found t).row in
+    let left : c.turn.new.self ≡ after_turn c.loop.scan (Ok (Some c.in-Some.found)) = c.in_ok-found.ensures.left ∙ ap (λ o. after_turn c.loop.scan (Ok o)) c.in-Some.is in
+    let widths : c.turn.new.self.widths ≡ (g.R.Rows.seen c.args.names.now).base.widths = ap (λ (l : Left). l.widths) left ∙ scan_widths (passes c.args.filters.now) c.args.metric c.args.start c.args.end c.loop.scan _ _ c.loop.collected.spans (known c.loop.collected.names) c.loop.invariant.far in
+    (c.args.metric, subst (λ (w : Widths). FoundRow (g.R.Rows.seen c.turn.new.rows) w c.args.metric c.args.start c.args.end c.in-Some.found) (sym widths) row)
 
 pub take_row-requires-clause-behind : goal.take_row-requires-clause-behind
 take_row-requires-clause-behind g c =
     let t = turned (passes c.args.filters.now) _ _ _ c.args.metric c.args.start c.args.end c.loop.scan c.loop.collected.spans (known c.loop.collected.names) c.in_ok-found.field-0 c.in-Some.found c.loop.invariant.far c.in-Some.is c.in_ok-found.ensures.made c.in_ok-found.ensures.leaves.possible in
-    row_behind (passes c.args.filters.now) _ _ _ c.args.metric c.args.start c.args.end c.loop.scan c.loop.collected.spans (known c.loop.collected.names) c.in-Some.found t
+    let left : c.turn.new.self ≡ after_turn c.loop.scan (Ok (Some c.in-Some.found)) = c.in_ok-found.ensures.left ∙ ap (λ o. after_turn c.loop.scan (Ok o)) c.in-Some.is in
+    let widths : c.turn.new.self.widths ≡ (g.R.Rows.seen c.args.names.now).base.widths = ap (λ (l : Left). l.widths) left ∙ scan_widths (passes c.args.filters.now) c.args.metric c.args.start c.args.end c.loop.scan _ _ c.loop.collected.spans (known c.loop.collected.names) c.loop.invariant.far in
+    subst (λ (w : Widths). StandsBehind w c.loop.collected.spans c.in-Some.found) (sym widths)
+    (row_behind (passes c.args.filters.now) _ _ _ c.args.metric c.args.start c.args.end c.loop.scan c.loop.collected.spans (known c.loop.collected.names) c.in-Some.found t)
 
 pub returns-in_err-take_row-clause-says : goal.returns-in_err-take_row-clause-says
 returns-in_err-take_row-clause-says g c =
     let t = turned (passes c.args.filters.now) _ _ _ c.args.metric c.args.start c.args.end c.loop.scan c.loop.collected.spans (known c.loop.collected.names) c.in_ok-found.field-0 c.in-Some.found c.loop.invariant.far c.in-Some.is c.in_ok-found.ensures.made c.in_ok-found.ensures.leaves.possible in
     let row = (row_found (passes c.args.filters.now) _ _ _ c.args.metric c.args.start c.args.end c.loop.scan c.loop.collected.spans (known c.loop.collected.names) c.in-Some.found t).row in
+    let left : c.turn.new.self ≡ after_turn c.loop.scan (Ok (Some c.in-Some.found)) = c.in_ok-found.ensures.left ∙ ap (λ o. after_turn c.loop.scan (Ok o)) c.in-Some.is in
+    let widths : c.turn.new.self.widths ≡ (g.R.Rows.seen c.args.names.now).base.widths = ap (λ (l : Left). l.widths) left ∙ scan_widths (passes c.args.filters.now) c.args.metric c.args.start c.args.end c.loop.scan _ _ c.loop.collected.spans (known c.loop.collected.names) c.loop.invariant.far in
+    let asked = asked_there (passes c.args.filters.now) _ _ c.args.metric c.args.start c.args.end c.in-Some.found (g.R.Rows.seen c.turn.new.rows) (g.R.Rows.seen c.take_row.new.names) c.loop.collected c.take_row.new.collected (Err c.in_err-take_row.field-0.0) widths row c.in_err-take_row.ensures.asked in
     passed_on (λ r. CollectSays (passes c.args.filters.now) c.args.metric c.args.start c.args.end (g.R.Rows.seen c.args.names.now) r (g.R.Rows.seen c.take_row.new.names)) c.in_err-take_row.field-0.0 c.from_residual-in_err-take_row.result c.from_residual-in_err-take_row.ensures.1
-    (turn_fails (passes c.args.filters.now) _ _ _ c.args.metric c.args.start c.args.end c.loop.scan c.loop.collected.spans (known c.loop.collected.names) c.in-Some.found t _ c.loop.collected c.take_row.new.collected c.in_err-take_row.field-0.0 refl (c.in_err-take_row.ensures.asked c.args.metric row))
+    (turn_fails (passes c.args.filters.now) _ _ _ c.args.metric c.args.start c.args.end c.loop.scan c.loop.collected.spans (known c.loop.collected.names) c.in-Some.found t _ c.loop.collected c.take_row.new.collected c.in_err-take_row.field-0.0 refl asked)
 
 pub take_row-requires-clause-scan : goal.take_row-requires-clause-scan
 take_row-requires-clause-scan g c = ap (λ (l : Left). l.from) (c.in_ok-found.ensures.left ∙ ap (λ o. after_turn c.loop.scan (Ok o)) c.in-Some.is)
@@ -51,9 +67,11 @@ loop-preserved g c =
     let t = turned (passes c.args.filters.now) _ _ _ c.args.metric c.args.start c.args.end c.loop.scan c.loop.collected.spans (known c.loop.collected.names) c.in_ok-found.field-0 c.in-Some.found c.loop.invariant.far c.in-Some.is c.in_ok-found.ensures.made c.in_ok-found.ensures.leaves.possible in
     let row = (row_found (passes c.args.filters.now) _ _ _ c.args.metric c.args.start c.args.end c.loop.scan c.loop.collected.spans (known c.loop.collected.names) c.in-Some.found t).row in
     let left : c.turn.new.self ≡ after_turn c.loop.scan (Ok (Some c.in-Some.found)) = c.in_ok-found.ensures.left ∙ ap (λ o. after_turn c.loop.scan (Ok o)) c.in-Some.is in
+    let widths : c.turn.new.self.widths ≡ (g.R.Rows.seen c.args.names.now).base.widths = ap (λ (l : Left). l.widths) left ∙ scan_widths (passes c.args.filters.now) c.args.metric c.args.start c.args.end c.loop.scan _ _ c.loop.collected.spans (known c.loop.collected.names) c.loop.invariant.far in
+    let asked = asked_there (passes c.args.filters.now) _ _ c.args.metric c.args.start c.args.end c.in-Some.found (g.R.Rows.seen c.turn.new.rows) (g.R.Rows.seen c.take_row.new.names) c.loop.collected c.take_row.new.collected (Ok tt) widths row c.in_ok-take_row.ensures.asked in
     record {
       far = goes_on (passes c.args.filters.now) _ _ c.args.metric c.args.start c.args.end (after_turn c.loop.scan (Ok (Some c.in-Some.found))) c.turn.new.self c.take_row.new.scan c.take_row.new.collected.spans (known c.take_row.new.collected.names) left
-          (turn_goes (passes c.args.filters.now) _ _ _ c.args.metric c.args.start c.args.end c.loop.scan c.loop.collected.spans (known c.loop.collected.names) c.in-Some.found t _ c.take_row.new.collected.spans (known c.take_row.new.collected.names) (c.in_ok-take_row.ensures.asked c.args.metric row))
+          (turn_goes (passes c.args.filters.now) _ _ _ c.args.metric c.args.start c.args.end c.loop.scan c.loop.collected.spans (known c.loop.collected.names) c.in-Some.found t _ c.take_row.new.collected.spans (known c.take_row.new.collected.names) asked)
           c.in_ok-take_row.ensures.goes_on;
       possible = c.in_ok-take_row.ensures.leaves.possible;
       grows = let a = c.loop.invariant.grows in let b = c.in_ok-found.ensures.leaves.grows in let d = c.in_ok-take_row.ensures.leaves.grows in omega (arith, a, b, d);

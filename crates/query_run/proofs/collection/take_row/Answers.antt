@@ -1,4 +1,4 @@
-use Rattle.std.proofs.Common.{inl, inr, sym, ◌∙◌}
+use Rattle.std.proofs.Common.{inl, inr, sym, ◌∙◌, arith}
 use Rattle.query_run.specs.declared.fault.AskFault.TheVariants.{OutOfMemory}
 use Rattle.query_run.specs.declared.collection.Collected.{Collected}
 use Rattle.query_run.specs.AskFaults.{ask_fault}
@@ -12,43 +12,55 @@ use Rattle.query_run.proofs.collection.take_row.Goals as goal
 
 pub returns-then-not-passes-clause-asked : goal.returns-then-not-passes-clause-asked
 returns-then-not-passes-clause-asked g c = λ id found.
-    let of = key_of_row _ id c.args.start c.args.end c.args.found.now c.key_of-key.result found c.key_of-key.ensures.is_key (sym c.list.ensures ∙ c.key_of-key.ensures.row) in
-    inl (row_left (passes c.args.filters.now) _ id c.args.start c.args.end c.args.found.now c.key_of-key.result c.args.collected.now.spans (known c.args.collected.now.names) of (let e = c.passes.ensures in let v = c.as_slice.ensures.value in let t = c.if-not-passes.true in cc))
+    let of = key_of_row _ c.args.scan.now.widths id c.args.start c.args.end c.args.found.now c.key_of-key.result found c.key_of-key.ensures.is_key (sym c.list.ensures ∙ c.key_of-key.ensures.row) in
+    inl (row_left (passes c.args.filters.now) _ c.args.scan.now.widths id c.args.start c.args.end c.args.found.now c.key_of-key.result c.args.collected.now.spans (known c.args.collected.now.names) of (let e = c.passes.ensures in let v = c.as_slice.ensures.value in let t = c.if-not-passes.true in cc))
+
+pub row_dots-requires-clause-from_on : goal.row_dots-requires-clause-from_on
+row_dots-requires-clause-from_on g c =
+    let of = key_of_row _ c.args.scan.now.widths c.requires.row.0 c.args.start c.args.end c.args.found.now c.key_of-key.result c.requires.row.1 c.key_of-key.ensures.is_key (sym c.list.ensures ∙ c.key_of-key.ensures.row) in
+    let low = of.from_on in
+    omega (arith, low)
+
+pub row_dots-requires-clause-up_to : goal.row_dots-requires-clause-up_to
+row_dots-requires-clause-up_to g c =
+    let of = key_of_row _ c.args.scan.now.widths c.requires.row.0 c.args.start c.args.end c.args.found.now c.key_of-key.result c.requires.row.1 c.key_of-key.ensures.is_key (sym c.list.ensures ∙ c.key_of-key.ensures.row) in
+    let high = of.up_to in
+    omega (arith, high)
 
 pub returns-in_err-dots-clause-asked : goal.returns-in_err-dots-clause-asked
 returns-in_err-dots-clause-asked g c = λ id found.
-    let of = key_of_row _ id c.args.start c.args.end c.args.found.now c.key_of-key.result found c.key_of-key.ensures.is_key (sym c.list.ensures ∙ c.key_of-key.ensures.row) in
-    passed_on (λ r. RowAsked (passes c.args.filters.now) id c.args.start c.args.end c.args.found.now (g.R.Rows.seen c.args.names.now) c.args.collected.now r (g.R.Rows.seen c.args.names.now) c.args.collected.now) c.in_err-dots.field-0.0 c.from_residual.result c.from_residual.ensures.1
-    (dots_failed (passes c.args.filters.now) _ id c.args.start c.args.end c.args.found.now c.key_of-key.result c.args.collected.now c.args.collected.now c.in_err-dots.field-0.0 of (let e = c.passes.ensures in let v = c.as_slice.ensures.value in let t = c.if-not-passes.false in cc) c.in_err-dots.ensures)
+    let of = key_of_row _ c.args.scan.now.widths id c.args.start c.args.end c.args.found.now c.key_of-key.result found c.key_of-key.ensures.is_key (sym c.list.ensures ∙ c.key_of-key.ensures.row) in
+    passed_on (λ r. RowAsked (passes c.args.filters.now) c.args.scan.now.widths id c.args.start c.args.end c.args.found.now (g.R.Rows.seen c.args.names.now) c.args.collected.now r (g.R.Rows.seen c.args.names.now) c.args.collected.now) c.in_err-dots.field-0.0 c.from_residual.result c.from_residual.ensures.1
+    (dots_failed (passes c.args.filters.now) _ c.args.scan.now.widths id c.args.start c.args.end c.args.found.now c.key_of-key.result c.args.collected.now c.args.collected.now c.in_err-dots.field-0.0 of (let e = c.passes.ensures in let v = c.as_slice.ensures.value in let t = c.if-not-passes.false in cc) c.in_err-dots.ensures)
 
 pub name_pairs-requires-clause-knows : goal.name_pairs-requires-clause-knows
-name_pairs-requires-clause-knows g c = row_knows _ c.requires.row.0 c.args.start c.args.end c.args.found.now c.key_of-key.result c.as_slice-2.result.now c.requires.row.1 c.key_of-key.ensures.is_key (sym c.list.ensures ∙ c.key_of-key.ensures.row) c.as_slice-2.ensures.value
+name_pairs-requires-clause-knows g c = row_knows _ c.args.scan.now.widths c.requires.row.0 c.args.start c.args.end c.args.found.now c.key_of-key.result c.as_slice-2.result.now c.requires.row.1 c.key_of-key.ensures.is_key (sym c.list.ensures ∙ c.key_of-key.ensures.row) c.as_slice-2.ensures.value
 
 pub returns-in_err-name_pairs-clause-asked : goal.returns-in_err-name_pairs-clause-asked
 returns-in_err-name_pairs-clause-asked g c = λ id found.
-    let of = key_of_row _ id c.args.start c.args.end c.args.found.now c.key_of-key.result found c.key_of-key.ensures.is_key (sym c.list.ensures ∙ c.key_of-key.ensures.row) in
+    let of = key_of_row _ c.args.scan.now.widths id c.args.start c.args.end c.args.found.now c.key_of-key.result found c.key_of-key.ensures.is_key (sym c.list.ensures ∙ c.key_of-key.ensures.row) in
     let after : Collected = record { spans = c.args.collected.now.spans; names = c.name_pairs.new.list } in
-    passed_on (λ r. RowAsked (passes c.args.filters.now) id c.args.start c.args.end c.args.found.now (g.R.Rows.seen c.args.names.now) c.args.collected.now r (g.R.Rows.seen c.name_pairs.new.names) after) (ask_fault c.in_err-name_pairs.field-0.0) c.from_residual-in_err-name_pairs.result
+    passed_on (λ r. RowAsked (passes c.args.filters.now) c.args.scan.now.widths id c.args.start c.args.end c.args.found.now (g.R.Rows.seen c.args.names.now) c.args.collected.now r (g.R.Rows.seen c.name_pairs.new.names) after) (ask_fault c.in_err-name_pairs.field-0.0) c.from_residual-in_err-name_pairs.result
     c.from_residual-in_err-name_pairs.ensures.1
-    (names_failed (passes c.args.filters.now) _ _ id c.args.start c.args.end c.args.found.now c.key_of-key.result c.as_slice-2.result.now c.args.collected.now after c.in_err-name_pairs.field-0.0 of c.as_slice-2.ensures.value c.in_err-name_pairs.ensures.asked)
+    (names_failed (passes c.args.filters.now) _ _ c.args.scan.now.widths id c.args.start c.args.end c.args.found.now c.key_of-key.result c.as_slice-2.result.now c.args.collected.now after c.in_err-name_pairs.field-0.0 of c.as_slice-2.ensures.value c.in_err-name_pairs.ensures.asked)
 
 pub add_dots-requires : goal.add_dots-requires
 add_dots-requires g c =
     let found = c.requires.row.1 in
-    let of = key_of_row _ c.requires.row.0 c.args.start c.args.end c.args.found.now c.key_of-key.result found c.key_of-key.ensures.is_key (sym c.list.ensures ∙ c.key_of-key.ensures.row) in
-    may_add c.args.found.now c.key_of-key.result c.args.start c.args.end c.as_slice-3.result.now c.args.collected.now.spans c.in_ok-dots.dots c.requires.behind of.is_key of.row_is c.as_slice-3.ensures.value c.in_ok-dots.ensures
+    let of = key_of_row _ c.args.scan.now.widths c.requires.row.0 c.args.start c.args.end c.args.found.now c.key_of-key.result found c.key_of-key.ensures.is_key (sym c.list.ensures ∙ c.key_of-key.ensures.row) in
+    may_add c.args.scan.now.widths c.args.found.now c.key_of-key.result c.args.start c.args.end c.as_slice-3.result.now c.args.collected.now.spans c.in_ok-dots.dots c.requires.behind of.is_key of.row_is c.as_slice-3.ensures.value c.in_ok-dots.ensures
 
 pub returns-in_err-add_dots-clause-asked : goal.returns-in_err-add_dots-clause-asked
 returns-in_err-add_dots-clause-asked g c = λ id found.
-    let of = key_of_row _ id c.args.start c.args.end c.args.found.now c.key_of-key.result found c.key_of-key.ensures.is_key (sym c.list.ensures ∙ c.key_of-key.ensures.row) in
+    let of = key_of_row _ c.args.scan.now.widths id c.args.start c.args.end c.args.found.now c.key_of-key.result found c.key_of-key.ensures.is_key (sym c.list.ensures ∙ c.key_of-key.ensures.row) in
     let after : Collected = record { spans = c.add_dots.new.spans; names = c.name_pairs.new.list } in
-    passed_on (λ r. RowAsked (passes c.args.filters.now) id c.args.start c.args.end c.args.found.now (g.R.Rows.seen c.args.names.now) c.args.collected.now r (g.R.Rows.seen c.name_pairs.new.names) after) OutOfMemory c.from_residual-in_err-add_dots.result c.from_residual-in_err-add_dots.ensures.1
-    (add_failed (passes c.args.filters.now) _ _ id c.args.start c.args.end c.args.found.now c.key_of-key.result c.as_slice-2.result.now c.args.collected.now after (known c.name_pairs.new.list) of c.as_slice-2.ensures.value c.in_ok-name_pairs.ensures.asked)
+    passed_on (λ r. RowAsked (passes c.args.filters.now) c.args.scan.now.widths id c.args.start c.args.end c.args.found.now (g.R.Rows.seen c.args.names.now) c.args.collected.now r (g.R.Rows.seen c.name_pairs.new.names) after) OutOfMemory c.from_residual-in_err-add_dots.result c.from_residual-in_err-add_dots.ensures.1
+    (add_failed (passes c.args.filters.now) _ _ c.args.scan.now.widths id c.args.start c.args.end c.args.found.now c.key_of-key.result c.as_slice-2.result.now c.args.collected.now after (known c.name_pairs.new.list) of c.as_slice-2.ensures.value c.in_ok-name_pairs.ensures.asked)
 
 pub returns-clause-asked : goal.returns-clause-asked
 returns-clause-asked g c = λ id found.
-    let of = key_of_row _ id c.args.start c.args.end c.args.found.now c.key_of-key.result found c.key_of-key.ensures.is_key (sym c.list.ensures ∙ c.key_of-key.ensures.row) in
-    inr (row_taken (passes c.args.filters.now) _ _ id c.args.start c.args.end c.args.found.now c.key_of-key.result c.as_slice-2.result.now c.as_slice-3.result.now c.in_ok-dots.dots c.args.collected.now.spans c.add_dots.new.spans (known c.args.collected.now.names) (known c.name_pairs.new.list) of (let e = c.passes.ensures in let v = c.as_slice.ensures.value in let t = c.if-not-passes.false in cc) c.as_slice-2.ensures.value
+    let of = key_of_row _ c.args.scan.now.widths id c.args.start c.args.end c.args.found.now c.key_of-key.result found c.key_of-key.ensures.is_key (sym c.list.ensures ∙ c.key_of-key.ensures.row) in
+    inr (row_taken (passes c.args.filters.now) _ _ c.args.scan.now.widths id c.args.start c.args.end c.args.found.now c.key_of-key.result c.as_slice-2.result.now c.as_slice-3.result.now c.in_ok-dots.dots c.args.collected.now.spans c.add_dots.new.spans (known c.args.collected.now.names) (known c.name_pairs.new.list) of (let e = c.passes.ensures in let v = c.as_slice.ensures.value in let t = c.if-not-passes.false in cc) c.as_slice-2.ensures.value
     c.as_slice-3.ensures.value c.in_ok-name_pairs.ensures.asked c.in_ok-dots.ensures c.in_ok-add_dots.ensures)
 
 pub returns-clause-goes_on : goal.returns-clause-goes_on

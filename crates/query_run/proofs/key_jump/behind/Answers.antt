@@ -1,7 +1,10 @@
-use Rattle.query_run.proofs.Jumps.{value_more}
+use Rattle.std.proofs.Common.{◌-◌, get_or}
+use Rattle.query_run.proofs.Jumps.{id_named, value_more}
 use Rattle.query_run.proofs.key_jump.behind.Goals as goal
 
 pub returns : goal.returns
 returns c =
     let k = c.key_at.ensures in
-    value_more c.args.key.now c.as_slice.result.now c.args.place c.key_at.result c.requires.key c.as_slice.ensures.value c.requires.inside c.if-place-eq0.false c.if-value-eq-MOST_IDS.false k.metric k.base k.pairs
+    let value = (get_or c.as_slice.result.now (c.args.place - 1) (0, 0)).1 in
+    value_more c.args.widths c.args.key.now c.as_slice.result.now c.args.place c.in_ok-next.next c.key_at.result c.requires.key c.as_slice.ensures.value c.requires.inside c.if-place-eq0.false
+    (id_named _ _ value c.in_ok-next.next c.most_ids.ensures c.in_ok-next.ensures) k.metric k.base k.pairs

@@ -7,4 +7,4 @@ returns c =
     let added = c.in_ok-base.ensures in
     let fits = added.0 in
     let is = added.1 in
-    hour_behind c.args.key.now _ c.requires refl is (omega (arith, fits, is)) (c.push.ensures.items ∙ ap (λ l. l ++ (1, 1) ∷ []) c.new-pairs.ensures)
+    hour_behind c.args.widths c.args.key.now _ c.requires refl is (omega (arith, fits, is)) (c.push.ensures.items ∙ ap (λ l. l ++ (1, 1) ∷ []) c.new-pairs.ensures)

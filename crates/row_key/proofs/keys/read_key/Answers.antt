@@ -1,26 +1,23 @@
-use Rattle.std.proofs.Common.{◌/◌, ◌-◌, length, Err, Ok, arith, rules}
+use Rattle.std.proofs.Common.{Err, Ok, rules}
 use Rattle.row_key.specs.declared.keys.KeyFault.TheVariants.{Length, NoPairs, ZeroId, BaseNotHour, PairsNotRising}
 use Rattle.row_key.specs.Key.{ReadsAs}
 use Rattle.row_key.proofs.Once.{alone}
 use Rattle.row_key.proofs.keys.read_key.Goals as goal
 
-pub returns-then-len-eq7-clause-alone : goal.returns-then-len-eq7-clause-alone
-returns-then-len-eq7-clause-alone c = let r : ReadsAs c.args.row.now (Err NoPairs) = search rules in alone _ _ r
+pub returns-in_default-clause-alone : goal.returns-in_default-clause-alone
+returns-in_default-clause-alone c = let r : ReadsAs c.args.widths c.args.row.now (Err Length) = search rules in alone _ _ _ r
 
-pub returns-then-len-lt7-clause-alone : goal.returns-then-len-lt7-clause-alone
-returns-then-len-lt7-clause-alone c = let r : ReadsAs c.args.row.now (Err Length) = search rules in alone _ _ r
-
-pub parts_of-key-requires : goal.parts_of-key-requires
-parts_of-key-requires c = let len = length c.args.row.now in ((len - 7) / 6, omega arith, omega arith, omega arith)
+pub returns-then-count-eq0-clause-alone : goal.returns-then-count-eq0-clause-alone
+returns-then-count-eq0-clause-alone c = let r : ReadsAs c.args.widths c.args.row.now (Err NoPairs) = search rules in alone _ _ _ r
 
 pub returns-then-has_zero_id-clause-alone : goal.returns-then-has_zero_id-clause-alone
-returns-then-has_zero_id-clause-alone c = let r : ReadsAs c.args.row.now (Err ZeroId) = search rules in alone _ _ r
+returns-then-has_zero_id-clause-alone c = let r : ReadsAs c.args.widths c.args.row.now (Err ZeroId) = search rules in alone _ _ _ r
 
 pub returns-then-key-ne0-clause-alone : goal.returns-then-key-ne0-clause-alone
-returns-then-key-ne0-clause-alone c = let r : ReadsAs c.args.row.now (Err BaseNotHour) = search rules in alone _ _ r
+returns-then-key-ne0-clause-alone c = let r : ReadsAs c.args.widths c.args.row.now (Err BaseNotHour) = search rules in alone _ _ _ r
 
 pub returns-then-not-rises-clause-alone : goal.returns-then-not-rises-clause-alone
-returns-then-not-rises-clause-alone c = let r : ReadsAs c.args.row.now (Err PairsNotRising) = search rules in alone _ _ r
+returns-then-not-rises-clause-alone c = let r : ReadsAs c.args.widths c.args.row.now (Err PairsNotRising) = search rules in alone _ _ _ r
 
 pub returns-clause-alone : goal.returns-clause-alone
-returns-clause-alone c = let r : ReadsAs c.args.row.now (Ok c.parts_of-key.result) = search rules in alone _ _ r
+returns-clause-alone c = let r : ReadsAs c.args.widths c.args.row.now (Ok c.parts_of-key.result) = search rules in alone _ _ _ r

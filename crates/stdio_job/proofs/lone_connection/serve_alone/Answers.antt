@@ -15,7 +15,7 @@ returns-in-Ok-clause-served g c =
       leaves = s.leaves;
       gives = s.gives;
       ticks = s.ticks;
-      so = (served_alone (admission c.args.config.now c.args.rule.now.patterns) _ _ s.input s.output s.times c.serve_conn-served.result c.in-Ok.ensures.fresh s.so.0, s.so.1);
+      so = (served_alone c.args.widths (admission c.args.config.now c.args.rule.now.patterns) _ _ s.input s.output s.times c.serve_conn-served.result c.in-Ok.ensures.fresh s.so.0, s.so.1);
     }
 
 pub returns-in-Err-clause-served : goal.returns-in-Err-clause-served
@@ -29,5 +29,5 @@ returns-in-Err-clause-served g c =
       leaves = Consumes-nil (s.left c.args.source.now);
       gives = Appends-nil (g.K.Sink.held c.args.sink.now);
       ticks = refl;
-      so = (none_served (admission c.args.config.now c.args.rule.now.patterns), nothing_fills);
+      so = (none_served c.args.widths (admission c.args.config.now c.args.rule.now.patterns), nothing_fills);
     }

@@ -1,12 +1,16 @@
 use Rattle.std.proofs.Common.{sym, ap, subst, arith}
 use Rattle.std.specs.Prelude.{IfErr, Some}
+use Rattle.row_key.proofs.CallerLemmas.{has_three}
+use Rattle.row_key.specs.declared.widths.Widths.{Widths}
+use Rattle.cell_solo.specs.Turns.{sight}
+use Rattle.lone_store.specs.LoneStores.{IsFresh}
 use Rattle.tsd_run.specs.RunFaults.{RunCause}
 use Rattle.batch_job.proofs.CallerLemmas.{naming_begins}
 use Rattle.tsd_run.proofs.RunLemmas.{halt_cause, no_memory}
 use Rattle.tsd_run.proofs.run_alone.run_open.Goals as goal
 
 pub over_store-printed-requires-clause-naming : goal.over_store-printed-requires-clause-naming
-over_store-printed-requires-clause-naming g c = naming_begins _ c.in-Ok.ensures.fresh
+over_store-printed-requires-clause-naming g c = naming_begins _ (subst (λ (w : Widths). IsFresh w (sight c.in-Ok.store.rows)) (has_three c.three.result c.three.ensures) c.in-Ok.ensures.fresh)
 
 pub returns-in-Ok-clause-grows : goal.returns-in-Ok-clause-grows
 returns-in-Ok-clause-grows g c =

@@ -15,7 +15,7 @@ pub returns-in_err-bound-in-Ok-Given-clause-made : goal.returns-in_err-bound-in-
 returns-in_err-bound-in-Ok-Given-clause-made g c =
     let bumped = subst (λ (b : Bumped). Stepped (g.R.Rows.seen c.args.rows.now) (Bump c.args.kind) (BumpReply b) (g.R.Rows.seen c.bump.new.self)) c.in-Ok-Given.field-0-is c.in-Ok-Given.ensures.ok in
     let made = give_made _ _ _ c.args.kind c.args.name.now.bytes _ (Err c.in_err-bound-in-Ok-Given.field-0.0) bumped c.in-Ok-Given.ensures.possible c.in_err-bound-in-Ok-Given.ensures.made in
-    passed_on (λ r. MadeSo (g.R.Rows.seen c.args.rows.now) (GiveMade c.args.kind c.args.name.now.bytes r) (g.R.Rows.seen c.bind.new.rows)) c.in_err-bound-in-Ok-Given.field-0.0 c.from_residual.result c.from_residual.ensures.1 made
+    passed_on (λ r. MadeSo (g.R.Rows.seen c.args.rows.now) (GiveMade (g.R.Rows.seen c.args.rows.now).base.widths c.args.kind c.args.name.now.bytes r) (g.R.Rows.seen c.bind.new.rows)) c.in_err-bound-in-Ok-Given.field-0.0 c.from_residual.result c.from_residual.ensures.1 made
 
 pub returns-in_ok-bound-in-Ok-Given-clause-made : goal.returns-in_ok-bound-in-Ok-Given-clause-made
 returns-in_ok-bound-in-Ok-Given-clause-made g c =

@@ -9,7 +9,7 @@ pub search-init : goal.search-init
 search-init g c = record { search = c.requires.search; gathers = λ start x. x; made = looks_none _; grows = omega arith }
 
 pub turn-requires-clause-range : goal.turn-requires-clause-range
-turn-requires-clause-range g c = in_one_range c.args.prefix.now c.args.low c.args.high c.search.from c.requires.range c.search.invariant.search
+turn-requires-clause-range g c = in_one_range (g.R.Rows.seen c.search.rows).base.widths c.args.prefix.now c.args.low c.args.high c.search.from c.requires.range c.search.invariant.search
 
 pub returns-in_err-next-clause-made : goal.returns-in_err-next-clause-made
 returns-in_err-next-clause-made g c = looks_joined _ _ _ c.search.invariant.made c.in_err-next.ensures.made

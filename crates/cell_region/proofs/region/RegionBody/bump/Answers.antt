@@ -1,9 +1,13 @@
-use Rattle.std.proofs.Common.{subst, sym}
+use Rattle.std.proofs.Common.{ap, subst, sym}
+use Rattle.cell_model.specs.Store.{Store}
 use Rattle.cell_parts.specs.StoreParts.{is_in}
 use Rattle.cell_region.proofs.OwnRows.{Fits, bump_fits}
 use Rattle.cell_region.proofs.region.RegionBody.bump.Goals as goal
 
 pub invariant_of-self : goal.invariant_of-self
 invariant_of-self c =
-    let f = subst (Fits (is_in c.args.self.now.data_regions c.args.self.now.number)) (sym c.bump.ensures.content) (bump_fits (is_in c.args.self.now.data_regions c.args.self.now.number) c.args.self.now.body (record { own = c.args.self.now.own; few = c.args.self.now.few }) c.args.kind c.requires.covered) in
+    let f = subst (Fits c.args.self.now.data_regions c.args.self.now.number) (sym c.bump.ensures.content) (bump_fits c.args.self.now.data_regions c.args.self.now.number c.args.self.now.body (record { own = c.args.self.now.own; few = c.args.self.now.few }) c.args.kind c.requires.covered) in
     record { own = f.own; few = f.few }
+
+pub returns-clause-covers : goal.returns-clause-covers
+returns-clause-covers c = ap (λ (s : Store). is_in s.widths c.args.self.now.data_regions c.args.self.now.number) c.bump.ensures.content

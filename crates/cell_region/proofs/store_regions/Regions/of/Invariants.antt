@@ -5,6 +5,6 @@ use Rattle.cell_region.proofs.store_regions.Regions.of.Given as goal
 
 abbrev pub invariant-loop-line : goal.invariant-loop-line
 invariant-loop-line l = record {
-  content : l.regions.content ≡ store_of (take l.line-index l.line-items);
+  content : l.regions.content ≡ store_of (record { widths = l.fn.listing.widths; lines = take l.line-index l.line-items });
   data_regions : l.regions.data_regions ≡ l.fn.data_regions;
 }

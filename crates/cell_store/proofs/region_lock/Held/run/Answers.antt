@@ -1,19 +1,26 @@
-use Rattle.std.proofs.Common.{◌∙◌, sym, subst, Bool, IsTrue}
+use Rattle.std.proofs.Common.{◌∙◌, ap, sym, subst, Bool, IsTrue}
+use Rattle.row_key.specs.declared.widths.Widths.{Widths}
 use Rattle.cell_model.specs.declared.row.Row.{Row}
+use Rattle.cell_model.specs.Store.{Store}
 use Rattle.step_count.specs.Tokens.{view_of_pass}
 use Rattle.cell_region.specs.RegionLists.{cells_in, rows_of}
-use Rattle.cell_store.specs.StepOrders.{step_of}
+use Rattle.cell_store.specs.StepOrders.{step_of, Covered}
 use Rattle.cell_store.specs.CallerViews.{seen_of}
 use Rattle.cell_store.proofs.RegionEntries.{covered}
 use Rattle.cell_store.proofs.RegionRuns.{may_enter, may_give, held_again, has_run}
 use Rattle.cell_store.proofs.SeenViews.{possible}
-use Rattle.cell_store.proofs.UnopenedRegions.{held_has, held_rows}
+use Rattle.cell_store.proofs.UnopenedRegions.{held_has, held_rows, held_widths}
 use Rattle.cell_store.proofs.region_lock.Held.run.Goals as goal
 
 pub apply-requires : goal.apply-requires
 apply-requires g c =
     let name = g.J.StepNames.name in let m = c.requires.may in
-    record { covered = covered name.data_regions g.row.N _ (seen_of (view_of_pass c.args.pass.now)) (step_of c.args.order.now) (held_rows g.J.StepNames.counter name g.row.N _ _ c.self.inside.licence m.among c.self.invariant) m.mine m.range (possible name _ m.caller) m.knows }
+    let widths = held_widths g.J.StepNames.counter name g.row.N (cells_in c.self.inside.region) (rows_of c.self.inside.region) c.self.inside.licence m.among c.self.invariant in
+    record {
+      covered =
+          subst (λ (w : Widths). Covered w (rows_of c.self.inside.region) (step_of c.args.order.now)) (sym widths)
+          (covered name.widths name.data_regions g.row.N _ (seen_of (view_of_pass c.args.pass.now)) (step_of c.args.order.now) (held_rows g.J.StepNames.counter name g.row.N _ _ c.self.inside.licence m.among c.self.invariant) m.mine m.range (possible name _ m.caller) m.knows);
+    }
 
 pub entered-place-requires-clause-may : goal.entered-place-requires-clause-may
 entered-place-requires-clause-may g c =
@@ -23,9 +30,12 @@ entered-place-requires-clause-may g c =
 pub stamp-requires-clause-covered : goal.stamp-requires-clause-covered
 stamp-requires-clause-covered g c =
     let name = g.J.StepNames.name in let m = c.requires.may in
-    covered name.data_regions g.row.N _ (seen_of (view_of_pass c.args.pass.now)) (step_of c.args.order.now)
+    let widths =
+    ap (λ (s : Store). s.widths) c.in_ok-reply.ensures.ok ∙ held_widths g.J.StepNames.counter name g.row.N (cells_in c.self.inside.region) (rows_of c.self.inside.region) c.self.inside.licence m.among c.self.invariant in
+    subst (λ (w : Widths). Covered w (rows_of c.apply.new.body) (step_of c.args.order.now)) (sym widths)
+    (covered name.widths name.data_regions g.row.N (rows_of c.apply.new.body) (seen_of (view_of_pass c.args.pass.now)) (step_of c.args.order.now)
     (λ row i. subst (λ (f : Row → Bool). IsTrue (f row)) (sym c.apply.ensures.covers) (held_rows g.J.StepNames.counter name g.row.N _ _ c.self.inside.licence m.among c.self.invariant row i))
-    m.mine m.range (possible name _ m.caller) m.knows
+    m.mine m.range (possible name _ m.caller) m.knows)
 
 pub stamp-requires-clause-applied : goal.stamp-requires-clause-applied
 stamp-requires-clause-applied g c = (cells_in c.self.inside.region, record { content_is = c.in_ok-reply.ensures.ok; reply_is = c.in_ok-reply.ensures.reply 0 })

@@ -6,4 +6,4 @@ pub invariant_of-result : goal.invariant_of-result
 invariant_of-result g c =
     let s = c.split-regions.ensures in let m = c.in_ok-steps.ensures in
     let a = all_unopened _ _ _ _ _ _ _ _ s.complete s.parts c.requires.store (search rules) m.name m.counter m.views in
-    (a.0, a.1, a.2, a.3, search rules, search rules)
+    (a.0, a.1, a.2, a.3, search rules, search rules, search rules)

@@ -12,4 +12,4 @@ returns c =
     rw (← c.self.view_is)
     (c.value.ensures
     ∙ (λ i. option_map (λ (p : List ℕ × ℕ). p.0) (get (row_in (at_table c.self.inside.tables c.args.row.now.table c.number.result (slice_index_or c.self.inside.tables c.number.result c.index-self-number.result) c.self.invariant.1 c.number.ensures (ap (slice_index_or c.self.inside.tables c.number.result) c.index-self-number.is) i) c.args.row.now.bytes) (c.list.ensures i)))
-    ∙ sym (value_is c.self.inside.tables c.self.inside.counters c.args.row.now c.requires c.args.qual.now))
+    ∙ sym (value_is c.self.inside.widths c.self.inside.tables c.self.inside.counters c.args.row.now c.requires c.args.qual.now))

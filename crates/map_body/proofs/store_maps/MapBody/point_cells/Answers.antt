@@ -10,4 +10,4 @@ use Rattle.row_key.specs.declared.tables.Table.TheVariants.{Points}
 pub returns : goal.returns
 returns c =
     rw (← c.self.view_is)
-    (c.count.ensures ∙ ap (λ (r : Rows). cells_among (entries r)) (at_table c.self.inside.tables Points c.number.result (slice_index_or c.self.inside.tables c.number.result c.index-self-number.result) c.self.invariant.1 c.number.ensures (ap (slice_index_or c.self.inside.tables c.number.result) c.index-self-number.is)) ∙ cells_counted c.self.inside.tables c.self.inside.counters)
+    (c.count.ensures ∙ ap (λ (r : Rows). cells_among (entries r)) (at_table c.self.inside.tables Points c.number.result (slice_index_or c.self.inside.tables c.number.result c.index-self-number.result) c.self.invariant.1 c.number.ensures (ap (slice_index_or c.self.inside.tables c.number.result) c.index-self-number.is)) ∙ cells_counted c.self.inside.widths c.self.inside.tables c.self.inside.counters)

@@ -1,5 +1,0 @@
-use Rattle.scripted_rows.proofs.Holding.{holds_noted}
-use Rattle.scripted_rows.proofs.fact.note.Goals as goal
-
-pub returns : goal.returns
-returns c = λ s all one. holds_noted s c.args.facts.now.items c.push.new.self.items c.args.fact _ c.push.ensures.items all one

@@ -1,5 +1,0 @@
-use Rattle.scripted_rows.proofs.Passing.{passes_join}
-use Rattle.scripted_rows.proofs.script.Script.finish.Goals as goal
-
-pub returns : goal.returns
-returns c = passes_join _ _ _ c.finish_order.ensures c.finish_parts.ensures

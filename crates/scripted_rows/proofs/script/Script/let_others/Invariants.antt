@@ -1,6 +1,0 @@
-use Rattle.scripted_rows.specs.Sharing.{Passes}
-use Rattle.scripted_rows.proofs.script.Script.let_others.Given as goal
-
--- caller 1 only waited
-abbrev pub invariant-loop : goal.invariant-loop
-invariant-loop l = Passes l.fn.shared.solo l.shared.solo

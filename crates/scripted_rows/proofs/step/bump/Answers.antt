@@ -1,5 +1,0 @@
-use Rattle.scripted_rows.specs.Sharing.IsOneStep.{one}
-use Rattle.scripted_rows.proofs.step.bump.Goals as goal
-
-pub returns-in-Ok : goal.returns-in-Ok
-returns-in-Ok c = one c.in-Ok.ensures.steps

@@ -1,0 +1,5 @@
+//! Tests of fleets that no case of `test_cases` makes.
+#![tactic(auto)]
+
+#[cfg(test)]
+mod fleet_tests;

@@ -1,0 +1,158 @@
+//! What other callers do, in words.
+
+use cell_model::{Bumped, Cells, Claimed, Found, Row};
+use qual_codec::Bytes;
+use row_key::{Table, Widths};
+use std::alloc::Global;
+use test_readers::cell_cases::tell_hex;
+use test_readers::text::{Bad, bytes, first_word, hex, kind, small};
+use test_rows::act::{Act, Acted};
+use test_rows::claim::{bytes_of_id, qualifier};
+use tsd_base::point_text::read_point;
+
+/// Bytes of hexadecimal digits.
+fn hex_bytes(alloc: Global, word: &str) -> Result<Bytes, Bad> {
+    Ok(Bytes::of(alloc, hex(alloc, word)?.as_slice())?)
+}
+
+/// The row of words: `ids NAME`, or `names HEX` or `points HEX`.
+fn row(alloc: Global, table: &str, word: &str) -> Result<Row, Bad> {
+    match table {
+        "ids" => Ok(Row {
+            table: Table::Ids,
+            bytes: Bytes::of(alloc, word.as_bytes())?,
+        }),
+        "names" => Ok(Row {
+            table: Table::Names,
+            bytes: hex_bytes(alloc, word)?,
+        }),
+        "points" => Ok(Row {
+            table: Table::Points,
+            bytes: hex_bytes(alloc, word)?,
+        }),
+        _ => Err(Bad::Line("no table")),
+    }
+}
+
+/// `claims names ID KIND NAME`, `claims ids NAME KIND ID`.
+fn claim(alloc: Global, text: &str, widths: Widths) -> Result<Act, Bad> {
+    let (table, text) = first_word(text);
+    let (word, text) = first_word(text);
+    let (kind_word, value) = first_word(text);
+    let kind = kind(kind_word)?;
+    let (table, row, value) = match table {
+        "names" => (
+            Table::Names,
+            bytes_of_id(kind, small(word)?, widths),
+            Bytes::of(alloc, value.as_bytes())?,
+        ),
+        "ids" => (
+            Table::Ids,
+            Bytes::of(alloc, word.as_bytes())?,
+            bytes_of_id(kind, small(value)?, widths),
+        ),
+        _ => return Err(Bad::Line("no table of names and ids")),
+    };
+    Ok(Act::Claim {
+        row: Row { table, bytes: row },
+        qual: qualifier(kind),
+        value,
+    })
+}
+
+/// `merges ROW QUALIFIER VALUE`.
+fn merge(alloc: Global, text: &str) -> Result<Act, Bad> {
+    let (word, text) = first_word(text);
+    let (qual, value) = first_word(text);
+    Ok(Act::Merge {
+        row: row(alloc, "points", word)?,
+        qual: hex_bytes(alloc, qual)?,
+        value: hex_bytes(alloc, value)?,
+    })
+}
+
+/// `drops ROW QUALIFIER ..`.
+fn drops(alloc: Global, text: &str) -> Result<Act, Bad> {
+    let (word, text) = first_word(text);
+    let mut quals = Vec::new(alloc);
+    for qual in text.split_ascii_whitespace() {
+        quals.push(hex_bytes(alloc, qual)?)?;
+    }
+    Ok(Act::Drop {
+        row: row(alloc, "points", word)?,
+        quals,
+    })
+}
+
+/// What another caller does, by these words, where ids have these widths.
+pub fn act(alloc: Global, text: &str, widths: Widths) -> Result<Act, Bad> {
+    let (verb, text) = first_word(text);
+    let (word, rest) = first_word(text);
+    Ok(match verb {
+        "reads" => Act::Read {
+            row: row(alloc, word, rest)?,
+        },
+        "finds" => Act::Find {
+            from: hex_bytes(alloc, word)?,
+            to: hex_bytes(alloc, rest)?,
+        },
+        "bumps" => Act::Bump { kind: kind(word)? },
+        "claims" => claim(alloc, text, widths)?,
+        "puts" => {
+            let line = bytes(alloc, text)?;
+            let point = read_point(alloc, line.as_slice()).map_err(|_| Bad::Line("no point"))?;
+            Act::Put { point }
+        }
+        "merges" => merge(alloc, text)?,
+        "drops" => drops(alloc, text)?,
+        _ => return Err(Bad::Line("no verb of another caller")),
+    })
+}
+
+/// Adds cells, each as `QUALIFIER=VALUE`.
+pub fn tell_cells(out: &mut String, cells: &Cells) -> Result<(), Bad> {
+    for at in 0..cells.len() {
+        if at > 0 {
+            out.push(' ')?;
+        }
+        let cell = cells.cell(at);
+        tell_hex(out, cell.qual)?;
+        out.push('=')?;
+        tell_hex(out, cell.value)?;
+    }
+    Ok(())
+}
+
+/// Adds a line with a row of points and its cells.
+pub fn tell_found(out: &mut String, found: &Found) -> Result<(), Bad> {
+    tell_hex(out, found.row.bytes.list())?;
+    out.push(' ')?;
+    tell_cells(out, &found.cells)?;
+    Ok(out.push('\n')?)
+}
+
+/// Adds what an act was answered.
+pub fn tell_acted(out: &mut String, acted: &Acted) -> Result<(), Bad> {
+    match acted {
+        Acted::Cells { cells } if cells.len() == 0 => out.push_str("(none)")?,
+        Acted::Cells { cells } => tell_cells(out, cells)?,
+        Acted::Found { found: None } => out.push_str("(none)")?,
+        Acted::Found { found: Some(found) } => tell_found(out, found)?,
+        Acted::Bumped { bumped } => match bumped {
+            Bumped::Given { id } => write!(out, "{id}")?,
+            Bumped::Full => out.push_str("full")?,
+        },
+        Acted::Claimed { claimed } => match claimed {
+            Claimed::Done => out.push_str("done")?,
+            Claimed::Held { value } => {
+                out.push_str("held ")?;
+                tell_hex(out, value.list())?;
+            }
+        },
+        Acted::Written => out.push_str("written")?,
+        Acted::Dropped { count } => write!(out, "{count}")?,
+        Acted::NotAllowed => out.push_str("not allowed")?,
+        Acted::NoRoom => out.push_str("no room")?,
+    }
+    Ok(())
+}

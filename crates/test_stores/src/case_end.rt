@@ -1,0 +1,197 @@
+//! What is left at the end of a case, and what differs in it.
+
+use crate::acts::tell_acted;
+use crate::case_base::table;
+use crate::case_roles::{Role, role_of};
+use cell_model::{Body, ListLine, Listing, Tally};
+use cell_region::Regions;
+use row_key::Table;
+use std::alloc::{AllocError, Global};
+use test_readers::case_lines::Line;
+use test_readers::cell_cases::tell_hex;
+use test_readers::report::Report;
+use test_readers::text::{Bad, first_word, hex};
+use test_rows::act::Acted;
+use test_rows::script::Part;
+use test_rows::scripted::Scripted;
+use test_rows::sharing::Shared;
+
+/// How many entries each of four callers made.
+pub type Steps = [u64; 4];
+
+/// What is left of a store.
+#[derive(Drop)]
+struct Left {
+    steps: Steps,
+    tally: Tally,
+    listing: Listing,
+}
+
+/// How many entries each caller made.
+pub fn entries(shared: &Shared) -> Steps {
+    [
+        shared.entries(1),
+        shared.entries(2),
+        shared.entries(3),
+        shared.entries(4),
+    ]
+}
+
+/// How many of the last entries came behind the first ones.
+fn made(first: Steps, last: Steps) -> Steps {
+    let mut made = last;
+    for at in 0..4 {
+        made[at] = last[at].saturating_sub(first[at]);
+    }
+    made
+}
+
+/// What callers leave, at the start of which each had made so many entries. The store is split and joined again before.
+fn left_of(alloc: Global, shared: Shared, first: Steps) -> Result<Left, AllocError> {
+    let steps = made(first, entries(&shared));
+    let body = Regions::joined(shared.part().split());
+    let tally = body.tally();
+    let listing = body.listing(alloc)?;
+    Ok(Left {
+        steps,
+        tally,
+        listing,
+    })
+}
+
+/// Reports what another caller was answered, where that isn't what is wanted. A step for which nothing is wanted is to be made.
+fn report_act(alloc: Global, line: &Line, part: &Part, report: &mut Report) -> Result<(), Bad> {
+    match part.acted() {
+        None => report.refuse(line, "not done"),
+        Some(Acted::NotAllowed) if line.wanted.is_empty() => report.refuse(line, "not allowed"),
+        Some(Acted::NoRoom) if line.wanted.is_empty() => report.refuse(line, "no room"),
+        Some(_) if line.wanted.is_empty() => Ok(()),
+        Some(acted) => {
+            let mut out = String::new(alloc);
+            tell_acted(&mut out, acted)?;
+            report.compare(line, out.as_str())
+        }
+    }
+}
+
+/// The same of all.
+fn report_acts(
+    alloc: Global,
+    lines: &[Line],
+    parts: &[Part],
+    report: &mut Report,
+) -> Result<(), Bad> {
+    let mut at = 0;
+    for line in lines {
+        if let Role::Act(_) = role_of(line.verb.as_str()) {
+            if at < parts.len() {
+                report_act(alloc, line, &parts[at], report)?;
+                at += 1;
+            }
+        }
+    }
+    Ok(())
+}
+
+/// Adds a line of a listing.
+fn tell_line(out: &mut String, line: &ListLine) -> Result<(), Bad> {
+    out.push_str(match line.table {
+        Table::Ids => "ids ",
+        Table::Names => "names ",
+        Table::Points => "points ",
+    })?;
+    tell_hex(out, line.row.list())?;
+    out.push(' ')?;
+    tell_hex(out, line.qual.list())?;
+    out.push(' ')?;
+    tell_hex(out, line.value.list())?;
+    Ok(out.push('\n')?)
+}
+
+/// `list [TABLE [ROW]]`: the cells of the store, of the table or of the row.
+fn list(alloc: Global, listing: &Listing, text: &str, out: &mut String) -> Result<(), Bad> {
+    let (word, digits) = first_word(text);
+    let row = hex(alloc, digits)?;
+    for line in listing.lines() {
+        let in_table = word.is_empty() || line.table == table(word)?;
+        if in_table && (row.is_empty() || line.row.list() == row.as_slice()) {
+            tell_line(out, line)?;
+        }
+    }
+    Ok(())
+}
+
+/// Adds the counters, and the numbers of point rows and of their cells.
+fn tell_tally(out: &mut String, tally: &Tally) -> Result<(), Bad> {
+    let [metrics, keys, values] = tally.ids;
+    let rows = tally.point_rows;
+    let cells = tally.point_cells;
+    Ok(write!(
+        out,
+        "ids {metrics} {keys} {values} rows {rows} cells {cells}"
+    )?)
+}
+
+/// `steps N`: how many entries this caller made.
+fn tell_steps(out: &mut String, steps: &Steps, caller: &str) -> Result<(), Bad> {
+    let steps = match caller {
+        "1" => steps[0],
+        "2" => steps[1],
+        "3" => steps[2],
+        "4" => steps[3],
+        _ => return Err(Bad::Line("no caller")),
+    };
+    Ok(write!(out, "{steps}")?)
+}
+
+/// Adds what a line asks for at the end.
+fn tell_end(alloc: Global, left: &Left, line: &Line, out: &mut String) -> Result<(), Bad> {
+    let rest = line.rest.as_str();
+    match line.verb.as_str() {
+        "steps" => tell_steps(out, &left.steps, rest),
+        "tally" => tell_tally(out, &left.tally),
+        _ => list(alloc, &left.listing, rest, out),
+    }
+}
+
+/// Reports what differs in what is left.
+fn report_left(alloc: Global, lines: &[Line], left: &Left, report: &mut Report) -> Result<(), Bad> {
+    for line in lines {
+        if role_of(line.verb.as_str()) == Role::End {
+            let mut out = String::new(alloc);
+            let done = tell_end(alloc, left, line, &mut out);
+            report.settle(line, done, out.as_str())?;
+        }
+    }
+    Ok(())
+}
+
+/// The same of callers, at the start of which each had made so many entries.
+fn report_store(
+    alloc: Global,
+    lines: &[Line],
+    shared: Shared,
+    first: Steps,
+    report: &mut Report,
+) -> Result<(), Bad> {
+    match left_of(alloc, shared, first) {
+        Ok(left) => report_left(alloc, lines, &left, report),
+        Err(AllocError) => Err(Bad::OutOfMemory),
+    }
+}
+
+/// Lets the others make the steps that are left of them, and reports what differs.
+pub fn end(
+    alloc: Global,
+    rows: Scripted,
+    first: Steps,
+    lines: &[Line],
+    report: &mut Report,
+) -> Result<(), Bad> {
+    let (shared, script, finished) = rows.end();
+    let acted = report_acts(alloc, lines, script.parts(), report);
+    let ended = report_store(alloc, lines, shared, first, report);
+    finished?;
+    acted?;
+    ended
+}

@@ -1,0 +1,104 @@
+-- The headline of a run, by its command.
+use Rattle.std.specs.Prelude.{◌≡◌, ◌↔◌, ℕ, All, Contains, List, ◌++◌, map, Option, None, Some, Result, Ok, Err}
+use Rattle.std.specs.Io.KnownBytes.{Appends}
+use Rattle.tsd_base.specs.Points.{DataPoint}
+use Rattle.tsd_doors.specs.Links.{Shut}
+use Rattle.link_workers.specs.Returns.{AllEnd}
+use Rattle.cell_model.specs.declared.answers.Tally.{Tally}
+use Rattle.cell_model.specs.History.{History, first, len, store_after}
+use Rattle.cell_model.specs.IdRows.{NameOf, IsResolved}
+use Rattle.cell_model.specs.Lawful.{IsLawful}
+use Rattle.cell_model.specs.Readings.{Reading, Accepted, OneValued, reading_of}
+use Rattle.query_text.specs.Subs.{sub_of}
+use Rattle.query_text.specs.declared.queries.Query.{Query}
+use Rattle.query_text.specs.declared.queries.Sub.{Sub}
+use Rattle.json_reply.specs.Replies.{Group}
+use Rattle.row_scan.specs.RowReadings.{Chosen}
+use Rattle.query_run.specs.AskedQueries.{wanted}
+use Rattle.query_run.specs.QueryAnswers.{answer}
+use Rattle.query_run.specs.declared.fault.AskFault.{AskFault}
+use Rattle.query_run.specs.declared.fault.AskFault.TheVariants.{Duplicate}
+use Rattle.command_words.specs.CommandWords.{Batch, Asked}
+use Rattle.command_words.specs.CommandWords.Asked.{BatchAsked, StdioAsked, ServeAsked}
+use Rattle.batch_job.specs.PointLines.{points_of}
+use Rattle.tsd_daemon.specs.declared.served.Served.{Served}
+use Rattle.tsd_daemon.specs.ServedConns.{Passes}
+use Rattle.tsd_daemon.specs.TakenInTurn.{InTurn}
+use Rattle.tsd_daemon.specs.Headline.{Headline, OneIdEach}
+use Rattle.conn_workers.specs.ServedLinks.{GaveSome, ServedLink}
+use Rattle.site_workers.specs.GatheredLinks.{CallerLinks, links_of}
+use Rattle.tsd_fleet.specs.FleetServes.{IsTally}
+use Rattle.serve_job.specs.FleetRuns.{summary_lines}
+use Rattle.tsd_run.specs.declared.status.Status.{Status}
+use Rattle.tsd_run.specs.declared.status.Status.TheVariants.{Done, Refused}
+use Rattle.tsd_run.specs.BatchQueries.{query_of}
+use Rattle.tsd_run.specs.Outcomes.{replied}
+use Rattle.tsd_run.specs.Runs.{HasStatus}
+
+-- ---- a batch
+
+-- the readings of points
+abbrev pub reads_in : List DataPoint → Reading → Type 0
+reads_in points r = Contains (map reading_of points) r
+
+-- The groups are the plain aggregation of points whose readings are those of the lines that the sub query wants, or there are none for another cause than two values at one time.
+abbrev pub IsPlainOver : Query → Sub → List DataPoint → Result (List Group) AskFault → Type 0
+IsPlainOver q s lines (Ok groups) = (points : List DataPoint) × ((r : Reading) → reads_in points r ↔ Chosen (wanted q s) (reads_in lines) r) × (answer q s points ≡ Ok groups)
+IsPlainOver q s lines (Err (Duplicate time a b)) = ⊥
+IsPlainOver q s lines (Err refusal) = Unit {0}
+
+-- a run that ends so prints the text of this
+abbrev pub PrintsPlainly : Status → List ℕ → (Result (List Group) AskFault → Type 0) → Type 0
+PrintsPlainly Done output P = (result : Result (List Group) AskFault) × P result × (replied result ≡ record { status = Done; text = output })
+PrintsPlainly Refused output P = (result : Result (List Group) AskFault) × P result × (replied result ≡ record { status = Refused; text = output })
+PrintsPlainly other output P = Unit {0}
+
+-- where the input's lines are points, and no series that the sub query wants has two values at one time, the output is the plain aggregation of these
+abbrev pub BatchHeadline : Batch → Status → List ℕ → List ℕ → List ℕ → Type 0
+BatchHeadline batch status input output times =
+    (s : Sub) (lines : List DataPoint) → sub_of batch.ms batch.query ≡ Ok s → points_of input ≡ Ok lines → OneValued (Chosen (wanted (query_of batch s) s) (reads_in lines)) → PrintsPlainly status output (IsPlainOver (query_of batch s) s lines)
+
+-- ---- a store of the run's own
+
+-- a lawful history that begins without a name and without a point
+pub record IsOwnHistory (h : History) : Type 0 where
+  pub lawful : IsLawful h
+  pub no_name : (n : NameOf) → IsResolved (first 0 h) n → ⊥
+  pub no_point : (r : Reading) → Accepted (first 0 h) r → ⊥
+
+-- the connection has the headline in such a history, behind its caller's opening
+pub record StdioHeadline (status : Status) (input output times : List ℕ) : Type 0 where
+  pub history : History
+  pub own : IsOwnHistory history
+  pub result : Served
+  pub status_is : HasStatus result status
+  pub headline : Headline history 1 (len history) input output times result
+
+-- a connection that was given back has it between two lengths, with the bytes that its ends tell
+pub record LinkHeadline (inlets_tell outlets_tell : Type 0) (moments : Option (List ℕ)) (h : History) (from to : ℕ) (link : ServedLink) : Type 0 where
+  pub input : List ℕ
+  pub output : List ℕ
+  pub times : List ℕ
+  pub taken : inlets_tell → link.0.taken ≡ Some input
+  pub given : outlets_tell → link.0.held ≡ Some output
+  pub clock : GaveSome moments times
+  pub headline : Headline h from to input output times link.1
+
+-- In one such history each connection that was given back has the headline, each caller's one after the other, and the last lines tell the numbers of the store after it.
+pub record FleetHeadline (inlets_tell outlets_tell : Type 0) (moments : Option (List ℕ)) (back back' : Option (List Shut)) (held held' : Option (List ℕ)) (status : Status) : Type 0 where
+  pub history : History
+  pub own : IsOwnHistory history
+  pub ids : OneIdEach history
+  pub callers : List CallerLinks
+  pub given_back : AllEnd back back' (map (λ (l : ServedLink). l.0) (links_of callers))
+  pub each : All (λ (k : CallerLinks). InTurn (LinkHeadline inlets_tell outlets_tell moments history) 0 k.links k.last) callers
+  pub printed : status ≡ Done → (tally : Tally) × IsTally (store_after history) tally × ((links : ℕ) × (front : List ℕ) × Appends held held' (front ++ summary_lines links tally))
+
+-- ---- a run
+
+-- of the commands that wait for nobody
+abbrev pub RunHeadline : Option Asked → (taken taken' left left' held held' moments moments' : Option (List ℕ)) → Status → Type 0
+RunHeadline (Some (BatchAsked batch)) taken taken' left left' held held' moments moments' status = Passes taken taken' left left' held held' moments moments' (BatchHeadline batch status)
+RunHeadline (Some (StdioAsked s)) taken taken' left left' held held' moments moments' status = Passes taken taken' left left' held held' moments moments' (StdioHeadline status)
+RunHeadline (Some (ServeAsked s)) taken taken' left left' held held' moments moments' status = Unit {0}
+RunHeadline None taken taken' left left' held held' moments moments' status = Unit {0}
