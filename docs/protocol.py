@@ -1,5 +1,5 @@
 #!/usr/bin/env python3
-"""Writes docs/PROTOCOL.md from the cases of crates/scenarios/data/protocol.txt, so that what the page tells is what the gate runs.
+"""Writes docs/PROTOCOL.md from the cases of crates/test_cases/data/protocol.txt, so that what the page tells is what the gate runs.
 
     docs/protocol.py            writes the page
     docs/protocol.py --check    tells whether the page is the one that would be written
@@ -11,7 +11,7 @@ import re
 import sys
 
 DOCS = pathlib.Path(__file__).resolve().parent
-CASES = DOCS.parent / "crates/scenarios/data/protocol.txt"
+CASES = DOCS.parent / "crates/test_cases/data/protocol.txt"
 PAGE = DOCS / "PROTOCOL.md"
 HOST = "localhost:4242"
 ESCAPES = {"n": "\n", "r": "\r", "t": "\t", "\\": "\\", '"': '"'}
