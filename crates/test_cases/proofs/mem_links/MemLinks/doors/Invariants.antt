@@ -1,6 +1,6 @@
 use Rattle.std.specs.Prelude.{All}
 use Rattle.tsd_doors.specs.MemLinks.{IsFresh}
-use Rattle.scenarios.proofs.mem_links.MemLinks.doors.Given as goal
+use Rattle.test_cases.proofs.mem_links.MemLinks.doors.Given as goal
 
 abbrev pub invariant-loop-text : goal.invariant-loop-text
 invariant-loop-text l = record {
