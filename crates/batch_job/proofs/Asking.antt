@@ -9,7 +9,7 @@ use Rattle.tsd_base.specs.declared.kinds.Kind.{Kind}
 use Rattle.cell_model.specs.declared.events.Entry.{Entry}
 use Rattle.cell_model.specs.declared.events.Placed.{Placed}
 use Rattle.cell_model.specs.declared.events.Step.{Step}
-use Rattle.cell_model.specs.declared.events.Step.TheVariants.{Open, Read, NextRow, Bump, Claim, PutPoint, PutMerged, DropCells}
+use Rattle.cell_model.specs.declared.events.Step.TheVariants.{Open, Read, NextRow, Bump, Claim, PutPoint, AppendPoint, PutMerged, DropCells}
 use Rattle.cell_model.specs.Deeds.{Made, before_first}
 use Rattle.cell_model.specs.History.{History, Had, base_of, entry_at, first, len, store_after}
 use Rattle.cell_model.specs.History.History.{Base, Then}
@@ -26,9 +26,9 @@ use Rattle.query_text.specs.declared.queries.Query.{Query}
 use Rattle.query_text.specs.declared.queries.Sub.{Sub}
 use Rattle.row_scan.specs.RowReadings.{Chosen, Covers}
 use Rattle.batch_job.specs.NotedIds.{id_in, list_of}
-use Rattle.batch_job.specs.Storing.{IsStored, IsUnmerged, Puts, WasPut}
+use Rattle.batch_job.specs.Storing.{HasOnlyPuts, IsOtherWrite, IsStored, Puts, WasPut}
 use Rattle.cell_laws.proofs.CallerLemmas.{base_widths, nothing}
-use Rattle.batch_job.proofs.Entering.{IsQuiet, PutNothing, put_nothing, unmerged_follow}
+use Rattle.batch_job.proofs.Entering.{IsQuiet, PutNothing, put_nothing, only_puts_follow}
 use Rattle.batch_job.proofs.Follows.{Went, follow, went}
 use Rattle.batch_job.proofs.Lower.{deeds_each, entry_at-more, here, in_filter, in_map, map_in, there, to_filter}
 
@@ -40,6 +40,7 @@ query_step (NextRow table from to) q = tt
 query_step (Bump kind) q = tt
 query_step (Claim row qual value) q = tt
 query_step (PutPoint point row qual value) q = q
+query_step (AppendPoint point row piece) q = q
 query_step (PutMerged row qual value) q = q
 query_step (DropCells row which) q = q
 
@@ -50,6 +51,7 @@ step_keeps s place (NextRow table from to) q = refl
 step_keeps s place (Bump kind) q = absurd q
 step_keeps s place (Claim row qual value) q = absurd q
 step_keeps s place (PutPoint point row qual value) q = absurd q
+step_keeps s place (AppendPoint point row piece) q = absurd q
 step_keeps s place (PutMerged row qual value) q = absurd q
 step_keeps s place (DropCells row which) q = absurd q
 
@@ -92,19 +94,20 @@ base_of_first (Then h x) n = at (nat_le (len h + 1) n) (base_of_first h n)
     at false rest = rest
 
 -- ---- points and their readings
--- a point of this reading was put
+-- a point of this reading was put or appended
 abbrev pub ReadingWasPut : History → Reading → Type 0
 ReadingWasPut h r = (e : Entry) × Had h e × IsPut e.step r
 
-point_of_put : (s : Step) (r : Reading) → IsPut s r → (p : DataPoint) × Puts s p × (reading_of p ≡ r)
-point_of_put Open r is = absurd is
-point_of_put (Read row) r is = absurd is
-point_of_put (NextRow table from to) r is = absurd is
-point_of_put (Bump kind) r is = absurd is
-point_of_put (Claim row qual value) r is = absurd is
-point_of_put (PutPoint point row qual value) r is = (point, refl, is)
-point_of_put (PutMerged row qual value) r is = absurd is
-point_of_put (DropCells row which) r is = absurd is
+point_of_put : (s : Step) (r : Reading) → (IsOtherWrite s → ⊥) → IsPut s r → (p : DataPoint) × Puts s p × (reading_of p ≡ r)
+point_of_put Open r other is = absurd is
+point_of_put (Read row) r other is = absurd is
+point_of_put (NextRow table from to) r other is = absurd is
+point_of_put (Bump kind) r other is = absurd is
+point_of_put (Claim row qual value) r other is = absurd is
+point_of_put (PutPoint point row qual value) r other is = (point, refl, is)
+point_of_put (AppendPoint point row piece) r other is = absurd (other tt)
+point_of_put (PutMerged row qual value) r other is = absurd is
+point_of_put (DropCells row which) r other is = absurd is
 
 put_of_point : (s : Step) (p : DataPoint) → Puts s p → IsPut s (reading_of p)
 put_of_point Open p is = absurd is
@@ -113,16 +116,17 @@ put_of_point (NextRow table from to) p is = absurd is
 put_of_point (Bump kind) p is = absurd is
 put_of_point (Claim row qual value) p is = absurd is
 put_of_point (PutPoint point row qual value) p is = ap reading_of is
+put_of_point (AppendPoint point row piece) p is = absurd is
 put_of_point (PutMerged row qual value) p is = absurd is
 put_of_point (DropCells row which) p is = absurd is
 
-point_put : (h : History) (r : Reading) → ReadingWasPut h r → (p : DataPoint) × WasPut h p × (reading_of p ≡ r)
-point_put h r put = let p = point_of_put put.0.step r put.2 in (p.0, (put.0, put.1, p.1), p.2)
+point_put : (h : History) (r : Reading) → HasOnlyPuts h → ReadingWasPut h r → (p : DataPoint) × WasPut h p × (reading_of p ≡ r)
+point_put h r only put = let p = point_of_put put.0.step r (only put.0 put.1) put.2 in (p.0, (put.0, put.1, p.1), p.2)
 
 reading_put : (h : History) (p : DataPoint) → WasPut h p → ReadingWasPut h (reading_of p)
 reading_put h p put = (put.0, put.1, put_of_point put.0.step p put.2)
 
--- over an empty base what was accepted was put
+-- over an empty base what was accepted was put or appended
 accepted_put : (h : History) (n : ℕ) (r : Reading) → base_of h ≡ no_cells three → Accepted (first n h) r → ReadingWasPut (first n h) r
 accepted_put h n r base either = ⊎_elim
     (λ (has : HasReading (name_of (first n h)) (base_of (first n h)) r).
@@ -169,9 +173,9 @@ module _ (points : List DataPoint) (old new : Seen) (list : List Placed) (stored
   put_before_it : (r : DataPoint) → WasPut (first new.length h) r → WasPut (first old.length h) r
   put_before_it r p = put_nothing (first old.length h) list (query_puts_nothing list steps) r (subst (λ x. WasPut x r) w.after_is p)
 
-  -- nor merged or dropped
-  pub unmerged_after : IsUnmerged (first new.length h)
-  unmerged_after = subst IsUnmerged (sym w.after_is) (unmerged_follow (first old.length h) list (query_puts_nothing list steps) (stored.unmerged h lawful w.fitted))
+  -- nor appended, merged or dropped
+  pub only_puts_after : HasOnlyPuts (first new.length h)
+  only_puts_after = subst HasOnlyPuts (sym w.after_is) (only_puts_follow (first old.length h) list (query_puts_nothing list steps) (stored.only_puts h lawful w.fitted))
 
   -- what was put is one of the last points, and each of them was put before the query
   pub put_is_last : (p : DataPoint) → WasPut (first new.length h) p → Contains (last_points points) p
@@ -183,7 +187,7 @@ module _ (points : List DataPoint) (old new : Seen) (list : List Placed) (stored
   -- so a reading that was accepted is one of the last points
   pub accepted_last : (r : Reading) → Accepted (first new.length h) r → Contains (map reading_of (last_points points)) r
   accepted_last r accepted =
-      let p = point_put (first new.length h) r (accepted_put h new.length r base_is accepted) in
+      let p = point_put (first new.length h) r only_puts_after (accepted_put h new.length r base_is accepted) in
       subst (Contains (map reading_of (last_points points))) p.2 (in_map reading_of (last_points points) p.0 (put_is_last p.0 p.1))
 
   -- and each of them was put before the query

@@ -18,8 +18,8 @@ use Rattle.cell_solo.specs.Turns.{opened, opening, whole_seen}
 use Rattle.lone_store.specs.LoneStores.{IsFresh}
 use Rattle.batch_job.specs.PendingIds.{id_in, no_names}
 use Rattle.batch_job.specs.NotedIds.{list_of}
-use Rattle.batch_job.specs.Storing.{IsNaming, IsNumbered, IsUnmerged, WasPut}
-use Rattle.batch_job.proofs.Entering.{put_before, unmerged_then}
+use Rattle.batch_job.specs.Storing.{IsNaming, IsNumbered, HasOnlyPuts, WasPut}
+use Rattle.batch_job.proofs.Entering.{put_before, only_puts_then}
 use Rattle.cell_laws.proofs.CallerLemmas.{no_cell}
 use Rattle.batch_job.proofs.Lower.{here, nat_eq_is, not_Some}
 
@@ -78,6 +78,6 @@ naming_begins s fresh =
     record {
       by = record { base = ap (λ (x : Seen). x.base) same; alone = ap (λ (x : Seen). x.alone) same; possible = fresh.possible };
       numbered = λ h lawful fits. subst (IsNumbered no_names) (sym (begins s h same fits)) none_numbered;
-      unmerged = λ h lawful fits. subst IsUnmerged (sym (begins s h same fits)) (unmerged_then (Base (no_cells three)) (opening 1) (λ c. c) (λ e had. absurd (not_Some e (sym had.1))));
+      only_puts = λ h lawful fits. subst HasOnlyPuts (sym (begins s h same fits)) (only_puts_then (Base (no_cells three)) (opening 1) (λ c. c) (λ e had. absurd (not_Some e (sym had.1))));
       unput = λ h lawful fits r put. none_put r (subst (λ x. WasPut x r) (begins s h same fits) put);
     }

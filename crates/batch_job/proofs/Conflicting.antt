@@ -16,7 +16,7 @@ use Rattle.row_key.specs.declared.tables.Table.TheVariants.{Points}
 use Rattle.qual_codec.specs.declared.cells.Cell.{Cell}
 use Rattle.qual_codec.specs.declared.cells.Dot.{Dot}
 use Rattle.qual_codec.specs.declared.cells.Item.{Item}
-use Rattle.qual_codec.specs.CellDots.{IsDots}
+use Rattle.qual_codec.specs.CellDots.{HoldsDots, column_qual}
 use Rattle.tsd_base.specs.Points.{DataPoint}
 use Rattle.tsd_base.specs.Alphabet.{IsName}
 use Rattle.tsd_base.specs.LastPoints.{last_points}
@@ -35,13 +35,12 @@ use Rattle.cell_model.specs.declared.events.Entry.{Entry}
 use Rattle.cell_model.specs.declared.events.Placed.{Placed}
 use Rattle.cell_model.specs.declared.events.Reply.TheVariants.{Next}
 use Rattle.cell_model.specs.declared.events.Step.{Step}
-use Rattle.cell_model.specs.declared.events.Step.TheVariants.{Open, Read, NextRow, Bump, Claim, PutPoint, PutMerged, DropCells}
+use Rattle.cell_model.specs.declared.events.Step.TheVariants.{Open, Read, NextRow, Bump, Claim, PutPoint, AppendPoint, PutMerged, DropCells}
 use Rattle.cell_model.specs.Deeds.{Made, before_first}
 use Rattle.cell_model.specs.History.{History, Had, base_of, first, store_after}
 use Rattle.cell_model.specs.IdRows.{id_of, name_of}
 use Rattle.cell_model.specs.Layout.{IsPoint, base_time}
 use Rattle.cell_model.specs.Lawful.{IsLawful, Wrote}
-use Rattle.cell_laws.specs.Laws.{IsCompaction}
 use Rattle.cell_model.specs.Readings.{Reading, CellReads, IsNamed, IsStanding, Meets, point_row, reading_of}
 use Rattle.cell_model.specs.Seen.{Seen, Fits}
 use Rattle.cell_model.specs.Store.{Store, no_cells, value_at}
@@ -52,8 +51,8 @@ use Rattle.row_scan.specs.RowReadings.{RowReads}
 use Rattle.batch_job.specs.Conflicts.{Conflict, are_conflict, conflict_cmp, conflict_of, conflicts, first_conflict, ids_of_tag, pairs_of}
 use Rattle.batch_job.specs.PendingIds.{Names, id_in}
 use Rattle.batch_job.specs.JobAnswers.{names_after}
-use Rattle.batch_job.specs.Storing.{IsStored, Puts, WasPut}
-use Rattle.batch_job.proofs.Asking.{after_old, base_is, base_of_first, before_now, ids_are, last_of_wanted, last_point_put, last_put, put_is_last, unmerged_after, wanted_points, wanted_reading}
+use Rattle.batch_job.specs.Storing.{IsOtherWrite, IsStored, Puts, WasPut}
+use Rattle.batch_job.proofs.Asking.{after_old, base_is, base_of_first, before_now, ids_are, last_of_wanted, last_point_put, last_put, put_is_last, only_puts_after, wanted_points, wanted_reading}
 use Rattle.cell_laws.proofs.CallerLemmas.{nothing}
 use Rattle.batch_job.proofs.FoundCells.{cell_of_dot, cells_row, cells_stand, differ, found_table, not_true, same_store}
 use Rattle.batch_job.proofs.LastPoints.{last_hold, same_bytes}
@@ -61,7 +60,7 @@ use Rattle.batch_job.proofs.Lower.{PutReads, StoodRow, cell_in, dot_offset, firs
 use Rattle.batch_job.proofs.FirstConflicts.{AtOnce, both_equal, first_found, pair_exact}
 use Rattle.batch_job.proofs.PairsOfTags.{pairs_are}
 use Rattle.batch_job.proofs.OneValue.{among_conflicts, are_two, one_place}
-use Rattle.batch_job.proofs.PutsStand.{had_reads, put_stays_there}
+use Rattle.batch_job.proofs.PutsStand.{had_reads, no_column_there, put_stays_there}
 use Rattle.batch_job.proofs.RowCells.{Rise, cells_rise, first_coarse, only}
 
 -- ---- lists
@@ -124,6 +123,7 @@ put_step (NextRow table from to) p is = absurd is
 put_step (Bump kind) p is = absurd is
 put_step (Claim row qual value) p is = absurd is
 put_step (PutPoint point row qual value) p is = record { row = row; qual = qual; value = value; is = ap (λ (x : DataPoint). PutPoint x row qual value) is }
+put_step (AppendPoint point row piece) p is = absurd is
 put_step (PutMerged row qual value) p is = absurd is
 put_step (DropCells row which) p is = absurd is
 
@@ -146,11 +146,11 @@ is_le-from_le : (m n : ℕ) → m ≤ n → is_le (nat_cmp m n) ≡ true
 is_le-from_le m n le = grind (arith, nat_tests, le)
 
 -- a data point of a cell is one of all
-dot_in : (cells : List Cell) (all : List Dot) (c : Cell) (ds : List Dot) (x : Dot) → AreDots cells all → Contains cells c → IsDots c.qual c.value ds → Contains ds x → Contains all x
+dot_in : (cells : List Cell) (all : List Dot) (c : Cell) (ds : List Dot) (x : Dot) → AreDots cells all → Contains cells c → HoldsDots c.qual c.value ds → Contains ds x → Contains all x
 dot_in [] all c ds x are has reads among = absurd (not_in c has)
 dot_in (y ∷ cells) all c ds x (dots, rest, first_reads, are, is) has reads among =
     subst (λ (es : List Dot). Contains es x) (sym is) (⊎_elim
-    (λ (same : y ≡ c). Contains-append_left dots rest x (subst (λ (es : List Dot). Contains es x) (one_dots c.qual c.value ds dots reads (subst (λ (z : Cell). IsDots z.qual z.value dots) same first_reads)) among))
+    (λ (same : y ≡ c). Contains-append_left dots rest x (subst (λ (es : List Dot). Contains es x) (one_dots c.qual c.value ds dots reads (subst (λ (z : Cell). HoldsDots z.qual z.value dots) same first_reads)) among))
     (λ (later : Contains cells c). Contains-append_right dots rest x (dot_in cells rest c ds x are later reads among))
     (split y c cells has))
 
@@ -217,7 +217,7 @@ module _ (points : List DataPoint) (old new : Seen) (list : List Placed) (stored
       let put = last_point_put points old new list stored made steps h lawful fits new.length p (made.since.extends.length) has in
       let st = put_step put.0.step p put.2 in
       let reads = had_reads now put.0 p st.row st.qual st.value lawful_now put.1 st.is in
-      let stay = put_stays_there now put.0 p st.row st.qual st.value lawful_now (unmerged_after points old new list stored made steps h lawful fits) reads.in_points put.1 st.is in
+      let stay = put_stays_there now put.0 p st.row st.qual st.value lawful_now (only_puts_after points old new list stored made steps h lawful fits) reads.in_points put.1 st.is in
       let other = had_reads now stay.entry stay.point st.row st.qual stay.value lawful_now stay.had stay.step_is in
       let among : Contains (last_points points) stay.point = put_is_last points old new list stored made steps h lawful fits stay.point (stay.entry, stay.had, subst (λ s. Puts s stay.point) (sym stay.step_is) refl) in
       let place = same_place now stay.point p st.row st.qual stay.value st.value other reads in
@@ -229,11 +229,15 @@ module _ (points : List DataPoint) (old new : Seen) (list : List Placed) (stored
         qual = st.qual;
         value = stay.value;
         stands = ap (λ (x : Row). value_at (store_after now) x st.qual) (sym row) ∙ stay.there;
-        reads = subst (CellReads (store_after now).widths (name_of now) st.row.bytes st.qual stay.value) same (record { dots = _; reads = other.reads; dot = _; among = here _ []; dot_reads = other.dot_reads });
+        reads = subst (CellReads (store_after now).widths (name_of now) st.row.bytes st.qual stay.value) same (record { dots = put_dot stay.point other.len ∷ []; reads = inl other.reads; dot = put_dot stay.point other.len; among = here (put_dot stay.point other.len) []; dot_reads = other.dot_reads });
       }
 
   base_now : base_of now ≡ no_cells three
   base_now = base_of_first h new.length ∙ base_is points old new list stored made steps h lawful fits
+
+  -- no row has a column
+  no_column : (row : Row) (v : List ℕ) → row.table ≡ Points → value_at (store_after now) row column_qual ≡ Some v → ⊥
+  no_column row v in_points is = no_column_there now row v lawful_now base_now (only_puts_after points old new list stored made steps h lawful fits) in_points is
 
   -- a cell of a point row is that of one of the points
   record CellPoint (c : Cell) (row : Row) : Type 0 where
@@ -255,7 +259,8 @@ module _ (points : List DataPoint) (old new : Seen) (list : List Placed) (stored
         among = put_is_last points old new list stored made steps h lawful fits p put;
         reads = subst (λ (x : Row). PutReads now p x c.qual c.value) w.0 (subst (λ (x : List ℕ). PutReads now p r x c.value) w.1 (subst (λ (x : List ℕ). PutReads now p r q x) w.2 reads));
       }
-  wrote_point c row e (PutMerged r q v) is had w = absurd (unmerged_after points old new list stored made steps h lawful fits e had (subst IsCompaction (sym is) tt))
+  wrote_point c row e (AppendPoint p r piece) is had w = absurd w
+  wrote_point c row e (PutMerged r q v) is had w = absurd (only_puts_after points old new list stored made steps h lawful fits e had (subst IsOtherWrite (sym is) tt))
   wrote_point c row e (DropCells r which) is had w = absurd w
 
   module _ (at : Placed) (among : Contains list at) (found : Found) (reply : at.entry.reply ≡ Next (Some found)) where
@@ -293,7 +298,9 @@ module _ (points : List DataPoint) (old new : Seen) (list : List Placed) (stored
     cell_point c has table = ⊎_elim
         (λ (based : value_at (base_of now) found.row c.qual ≡ Some c.value). absurd (nothing three found.row c.qual c.value (subst (λ (s : Store). value_at s found.row c.qual ≡ Some c.value) base_now based)))
         (λ (w : (e : Entry) × Had now e × Wrote found.row c.qual c.value e.step). wrote_point c found.row w.0 w.0.step refl w.1 w.2)
-        (had_cell now found.row c.qual c.value lawful_now table (cells_stand points old new list stored made steps h lawful fits at among found reply c has))
+        (had_cell now found.row c.qual c.value lawful_now table
+        (λ same. no_column found.row c.value table (ap (value_at (store_after now) found.row) (sym same) ∙ cells_stand points old new list stored made steps h lawful fits at among found reply c has))
+        (cells_stand points old new list stored made steps h lawful fits at among found reply c has))
 
     -- the two points of a conflict that is told: its first value is that of the one in seconds
     module _ (wanted : Reading → Bool) (time : ℕ) (a b : ℤ) (conflict : HasConflict (store_after now).widths (name_of now) wanted found time a b) where
@@ -314,7 +321,7 @@ module _ (points : List DataPoint) (old new : Seen) (list : List Placed) (stored
           let w = cell_of_dot found.cells conflict.dots d conflict.are_dots has in
           let p = cell_point w.cell w.among table in
           let e = put_dot p.point p.reads.len in
-          let same : e ≡ d = only e d (subst (λ (ds : List Dot). Contains ds d) (one_dots w.cell.qual w.cell.value w.dots (e ∷ []) w.reads p.reads.reads) w.has) in
+          let same : e ≡ d = only e d (subst (λ (ds : List Dot). Contains ds d) (one_dots w.cell.qual w.cell.value w.dots (e ∷ []) w.reads (inl p.reads.reads)) w.has) in
           let told = conflict.reads.reads.dot_reads in
           let x = p.reads.dot_reads in
           let key : x.key ≡ told.key = one_key (store_after now).widths x.key told.key x.is_key told.is_key (sym x.row_is ∙ told.row_is) in

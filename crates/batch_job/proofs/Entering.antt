@@ -14,16 +14,15 @@ use Rattle.cell_model.specs.declared.events.Place.{Place}
 use Rattle.cell_model.specs.declared.events.Placed.{Placed}
 use Rattle.cell_model.specs.declared.events.Reply.TheVariants.{Shown}
 use Rattle.cell_model.specs.declared.events.Step.{Step}
-use Rattle.cell_model.specs.declared.events.Step.TheVariants.{Open, Read, NextRow, Bump, Claim, PutPoint, PutMerged, DropCells}
+use Rattle.cell_model.specs.declared.events.Step.TheVariants.{Open, Read, NextRow, Bump, Claim, PutPoint, AppendPoint, PutMerged, DropCells}
 use Rattle.cell_model.specs.History.{History, Had, len, entry_at, store_after}
-use Rattle.cell_laws.specs.Laws.{IsCompaction}
 use Rattle.cell_model.specs.History.History.{Then}
 use Rattle.cell_model.specs.IdRows.{name_row}
 use Rattle.cell_model.specs.Machine.{after, counter_of, counter_row, kind_qual, or_written, reply_of}
 use Rattle.cell_model.specs.KindWidths.{greatest}
 use Rattle.cell_model.specs.Store.{Store, get, cells_of, place_of, value_at, value_among, written}
 use Rattle.uid_table.specs.IdSteps.{DidLook}
-use Rattle.batch_job.specs.Storing.{IsUnmerged, Puts, WasPut}
+use Rattle.batch_job.specs.Storing.{HasOnlyPuts, IsOtherWrite, Puts, WasPut}
 use Rattle.batch_job.proofs.Follows.{follow}
 use Rattle.batch_job.proofs.Lower.{cells_have, content-written_other, entry_at-last, entry_at-more, here, there, not_in, not_zero, split}
 
@@ -110,9 +109,10 @@ put_before h e r p = at (nat_eq p.1.0 (len h + 1)) p.1.1
     at true is = inr (subst (λ (x : Entry). Puts x.step r) (sym (entry_is e p.0 is)) p.2)
     at false is = inl (p.0, (p.1.0, is), p.2)
 
--- the step neither puts a point nor merges or drops cells
+-- the step neither puts or appends a point nor merges or drops cells
 abbrev pub IsQuiet : Step → Type 0
 IsQuiet (PutPoint point row qual value) = ⊥
+IsQuiet (AppendPoint point row piece) = ⊥
 IsQuiet (PutMerged row qual value) = ⊥
 IsQuiet (DropCells row which) = ⊥
 IsQuiet _ = Unit {0}
@@ -124,18 +124,20 @@ quiet_puts (NextRow table from to) q p put = put
 quiet_puts (Bump kind) q p put = put
 quiet_puts (Claim row qual value) q p put = put
 quiet_puts (PutPoint point row qual value) q p put = q
+quiet_puts (AppendPoint point row piece) q p put = q
 quiet_puts (PutMerged row qual value) q p put = q
 quiet_puts (DropCells row which) q p put = q
 
-quiet_merges : (step : Step) → IsQuiet step → IsCompaction step → ⊥
-quiet_merges Open q c = c
-quiet_merges (Read row) q c = c
-quiet_merges (NextRow table from to) q c = c
-quiet_merges (Bump kind) q c = c
-quiet_merges (Claim row qual value) q c = c
-quiet_merges (PutPoint point row qual value) q c = q
-quiet_merges (PutMerged row qual value) q c = q
-quiet_merges (DropCells row which) q c = q
+quiet_writes : (step : Step) → IsQuiet step → IsOtherWrite step → ⊥
+quiet_writes Open q c = c
+quiet_writes (Read row) q c = c
+quiet_writes (NextRow table from to) q c = c
+quiet_writes (Bump kind) q c = c
+quiet_writes (Claim row qual value) q c = c
+quiet_writes (PutPoint point row qual value) q c = q
+quiet_writes (AppendPoint point row piece) q c = q
+quiet_writes (PutMerged row qual value) q c = q
+quiet_writes (DropCells row which) q c = q
 
 -- all entries are so
 abbrev pub PutNothing : List Placed → Type 0
@@ -166,7 +168,7 @@ nothing_more d list never rest x c = at (split d x list c)
     at (inl same) = subst (λ (y : Placed). IsQuiet y.entry.step) same never
     at (inr later) = rest x later
 
--- ---- histories without merges and drops
+-- ---- histories whose cells of points come of puts alone
 pub had_before : (h : History) (last e : Entry) → Had (Then h last) e → (last ≡ e) ⊎ Had h e
 had_before h last e had = at (nat_eq had.0 (len h + 1)) had.1
   where
@@ -174,13 +176,13 @@ had_before h last e had = at (nat_eq had.0 (len h + 1)) had.1
     at true is = inl (entry_is last e is)
     at false is = inr (had.0, is)
 
-pub unmerged_then : (h : History) (e : Entry) → (IsCompaction e.step → ⊥) → IsUnmerged h → IsUnmerged (Then h e)
-unmerged_then h e never before x had = at (had_before h e x had)
+pub only_puts_then : (h : History) (e : Entry) → (IsOtherWrite e.step → ⊥) → HasOnlyPuts h → HasOnlyPuts (Then h e)
+only_puts_then h e never before x had = at (had_before h e x had)
   where
-    at : (e ≡ x) ⊎ Had h x → IsCompaction x.step → ⊥
-    at (inl same) = subst (λ (y : Entry). IsCompaction y.step → ⊥) same never
+    at : (e ≡ x) ⊎ Had h x → IsOtherWrite x.step → ⊥
+    at (inl same) = subst (λ (y : Entry). IsOtherWrite y.step → ⊥) same never
     at (inr earlier) = before x earlier
 
-pub unmerged_follow : (h : History) (list : List Placed) → PutNothing list → IsUnmerged h → IsUnmerged (follow h list)
-unmerged_follow h [] quiet before = before
-unmerged_follow h (d ∷ list) quiet before = unmerged_follow (Then h d.entry) list (λ x c. quiet x (there d x list c)) (unmerged_then h d.entry (quiet_merges d.entry.step (quiet d (here d list))) before)
+pub only_puts_follow : (h : History) (list : List Placed) → PutNothing list → HasOnlyPuts h → HasOnlyPuts (follow h list)
+only_puts_follow h [] quiet before = before
+only_puts_follow h (d ∷ list) quiet before = only_puts_follow (Then h d.entry) list (λ x c. quiet x (there d x list c)) (only_puts_then h d.entry (quiet_writes d.entry.step (quiet d (here d list))) before)

@@ -6,7 +6,7 @@ use Rattle.std.proofs.lemmas.List.Elements.{Contains-append_cases, Contains-appe
 use Rattle.row_key.specs.declared.tables.Table.TheVariants.{Points}
 use Rattle.qual_codec.specs.declared.cells.Cell.{Cell}
 use Rattle.qual_codec.specs.declared.cells.Dot.{Dot}
-use Rattle.qual_codec.specs.CellDots.{IsDots}
+use Rattle.qual_codec.specs.CellDots.{HoldsDots}
 use Rattle.tsd_base.specs.Points.{DataPoint}
 use Rattle.cell_model.specs.declared.row.Found.{Found}
 use Rattle.cell_model.specs.declared.events.Content.{Content}
@@ -14,7 +14,7 @@ use Rattle.cell_model.specs.declared.events.Place.{Place}
 use Rattle.cell_model.specs.declared.events.Placed.{Placed}
 use Rattle.cell_model.specs.declared.events.Reply.TheVariants.{Next, Shown}
 use Rattle.cell_model.specs.declared.events.Step.{Step}
-use Rattle.cell_model.specs.declared.events.Step.TheVariants.{Open, Read, NextRow, Bump, Claim, PutPoint, PutMerged, DropCells}
+use Rattle.cell_model.specs.declared.events.Step.TheVariants.{Open, Read, NextRow, Bump, Claim, PutPoint, AppendPoint, PutMerged, DropCells}
 use Rattle.cell_model.specs.Deeds.{Made, deeds}
 use Rattle.cell_model.specs.History.{History, first, store_after}
 use Rattle.cell_model.specs.IdRows.{name_of}
@@ -49,6 +49,7 @@ found_cells s place (NextRow table from to) f q e = cells_found s _ f e
 found_cells s place (Bump kind) f q e = absurd q
 found_cells s place (Claim row qual value) f q e = absurd q
 found_cells s place (PutPoint point row qual value) f q e = absurd q
+found_cells s place (AppendPoint point row piece) f q e = absurd q
 found_cells s place (PutMerged row qual value) f q e = absurd q
 found_cells s place (DropCells row which) f q e = absurd q
 
@@ -57,7 +58,7 @@ pub record CellOf (cells : List Cell) (x : Dot) : Type 0 where
   pub cell : Cell
   pub among : Contains cells cell
   pub dots : List Dot
-  pub reads : IsDots cell.qual cell.value dots
+  pub reads : HoldsDots cell.qual cell.value dots
   pub has : Contains dots x
 
 pub cell_of_dot : (cells : List Cell) (all : List Dot) (x : Dot) → AreDots cells all → Contains all x → CellOf cells x

@@ -39,10 +39,10 @@ use Rattle.uid_table.specs.IdSteps.{MadeSo, AssignMade, LookedOrKept, DidLook, D
 use Rattle.batch_job.specs.NotedIds.{Names, id_in, list_of, with_list, with_listed, noted_all, and_then_noted}
 use Rattle.cell_model.specs.Layout.{tag_names}
 use Rattle.batch_job.specs.OpenRules.{AllowsAll}
-use Rattle.batch_job.specs.Storing.{HasIds, IsNaming, IsNumbered, IsUnmerged, Notes, WasPut}
+use Rattle.batch_job.specs.Storing.{HasIds, IsNaming, IsNumbered, HasOnlyPuts, Notes, WasPut}
 use Rattle.batch_job.proofs.Asking.{base_of_first}
 use Rattle.batch_job.proofs.LastPoints.{same_bytes}
-use Rattle.batch_job.proofs.Entering.{PutNothing, bump_keeps, claim_keeps, looked, no_counter_row, nothing_by, nothing_more, nothing_nil, put_nothing, quals_differ, read_keeps, rows_differ, tables_differ, unmerged_follow}
+use Rattle.batch_job.proofs.Entering.{PutNothing, bump_keeps, claim_keeps, looked, no_counter_row, nothing_by, nothing_more, nothing_nil, put_nothing, quals_differ, read_keeps, rows_differ, tables_differ, only_puts_follow}
 use Rattle.batch_job.proofs.Follows.{follow, went, alone_still}
 use Rattle.batch_job.proofs.KnownLemmas.{noted_all-known}
 use Rattle.batch_job.proofs.Lower.{Names_Ids, base_widths, claim_wrote, first_fits, first_lawful, given_counts, held_there, id_read_back, same_kind}
@@ -246,9 +246,9 @@ module _ (old new : Seen) (kind : Kind) (name : List ℕ) (is_name : IsName name
     numbered = λ h lawful fits.
         let w = went old new list h made naming.by lawful fits in
         subst (IsNumbered more) (sym w.after_is) (goes (first old.length h) w.lawful (naming.numbered h (lawful) w.fitted));
-    unmerged = λ h lawful fits.
+    only_puts = λ h lawful fits.
         let w = went old new list h made naming.by lawful fits in
-        subst IsUnmerged (sym w.after_is) (unmerged_follow (first old.length h) list never (naming.unmerged h lawful w.fitted));
+        subst HasOnlyPuts (sym w.after_is) (only_puts_follow (first old.length h) list never (naming.only_puts h lawful w.fitted));
     unput = λ h lawful fits r put.
         let w = went old new list h made naming.by lawful fits in
         naming.unput h lawful w.fitted r (put_nothing (first old.length h) list never r (subst (λ x. WasPut x r) w.after_is put));

@@ -1,5 +1,5 @@
 -- A row with the bytes of a key, a cell of which reads as data points, is a point row.
-use Rattle.std.proofs.Common.{◌≡◌, ◌≢◌, ℕ, ℤ, ◌+◌, ◌-◌, ◌*◌, ◌/◌, ◌%◌, ◌≤◌, Bool, true, false, List, [], ◌∷◌, ◌++◌, length, get_or, refl, sym, ap, subst, ◌∙◌, arith, length-append, lt-ltb}
+use Rattle.std.proofs.Common.{◌≡◌, ◌≢◌, inl, inr, ℕ, ℤ, ◌+◌, ◌-◌, ◌*◌, ◌/◌, ◌%◌, ◌≤◌, Bool, true, false, List, [], ◌∷◌, ◌++◌, length, get_or, refl, sym, ap, subst, ◌∙◌, arith, length-append, lt-ltb}
 use Rattle.std.specs.Prelude.{Some, if◌then◌else◌}
 use Rattle.std.specs.Int.{w16, w32, to_be_bytes}
 use Rattle.std.specs.List.{flat_map}
@@ -11,7 +11,7 @@ use Rattle.row_key.specs.declared.widths.Widths.{Widths}
 use Rattle.row_key.specs.Key.{key_bytes}
 use Rattle.row_key.specs.Made.{three}
 use Rattle.qual_codec.specs.declared.cells.Dot.{Dot}
-use Rattle.qual_codec.specs.CellDots.{IsDots, has_both, items_of, number_bytes, tail_for, tail_of, value_bytes}
+use Rattle.qual_codec.specs.CellDots.{HoldsDots, IsDots, column_qual, has_both, items_of, number_bytes, tail_for, tail_of, value_bytes}
 use Rattle.qual_codec.specs.Items.{IsItem, IsLength, fields_of, item_bytes}
 use Rattle.qual_codec.specs.Items.IsLength.{one, two, four, eight}
 use Rattle.tsd_base.specs.declared.kinds.Kind.{Kind}
@@ -80,10 +80,17 @@ four_bytes x z w value (a ∷ b ∷ dots) three d =
     let long = long_fields (fields_of b.item) in
     first_item a.item.fine _ (a.item.offset / 1000) (a.item.len - 1) rest x z w none (omega (arith, joined, long)) (sym d.items.qual_is)
 
-no_dots : (kind : Kind) (value : List ℕ) (dots : List Dot) → length value ≡ 3 → IsDots (kind_qual kind) value dots → ⊥
-no_dots Metric value dots three d = let even = even_items (items_of dots) in let l = ap length d.items.qual_is in absurd (omega (arith, even, l))
-no_dots TagKey value dots three d = four_bytes 116 103 107 value dots three d
-no_dots TagValue value dots three d = four_bytes 116 103 118 value dots three d
+-- the qualifier of an id isn't the column's, by its length
+no_column : (kind : Kind) → kind_qual kind ≡ column_qual → ⊥
+no_column Metric e = let l = ap length e in absurd (omega (arith, l))
+no_column TagKey e = let l = ap length e in absurd (omega (arith, l))
+no_column TagValue e = let l = ap length e in absurd (omega (arith, l))
+
+no_dots : (kind : Kind) (value : List ℕ) (dots : List Dot) → length value ≡ 3 → HoldsDots (kind_qual kind) value dots → ⊥
+no_dots kind value dots three (inr d) = no_column kind d.qual_is
+no_dots Metric value dots three (inl d) = let even = even_items (items_of dots) in let l = ap length d.items.qual_is in absurd (omega (arith, even, l))
+no_dots TagKey value dots three (inl d) = four_bytes 116 103 107 value dots three d
+no_dots TagValue value dots three (inl d) = four_bytes 116 103 118 value dots three d
 
 -- ---- a key has more bytes than an id
 long_key : (w : Widths) (key : RowKey) → w.metric + 4 ≤ length (key_bytes w key)
@@ -98,7 +105,7 @@ three_bytes w kind id same = length_bytes (width_of w kind) id ∙ ap (λ (x : W
     at TagKey = refl
     at TagValue = refl
 
-pub in_points : (s : Store) (row : Row) (qual value : List ℕ) (dots : List Dot) (key : RowKey) → IsSound s → value_at s row qual ≡ Some value → IsDots qual value dots → row.bytes ≡ key_bytes s.widths key → s.widths ≡ three → row.table ≡ Points
+pub in_points : (s : Store) (row : Row) (qual value : List ℕ) (dots : List Dot) (key : RowKey) → IsSound s → value_at s row qual ≡ Some value → HoldsDots qual value dots → row.bytes ≡ key_bytes s.widths key → s.widths ≡ three → row.table ≡ Points
 in_points s row qual value dots key sound is reads bytes wide = at row.table refl
   where
     long : 7 ≤ length row.bytes
@@ -115,7 +122,7 @@ in_points s row qual value dots key sound is reads bytes wide = at row.table ref
     at Ids e =
         let f = sound.forward row.bytes qual value not_counter (ap (λ (r : Row). value_at s r qual) (sym (as_row Ids e)) ∙ is) in
         let bytes_are : length value ≡ 3 = ap length f.value_is ∙ three_bytes s.widths f.kind f.id wide in
-        absurd (no_dots f.kind value dots bytes_are (subst (λ q. IsDots q value dots) f.is_kind reads))
+        absurd (no_dots f.kind value dots bytes_are (subst (λ q. HoldsDots q value dots) f.is_kind reads))
     at Names e =
         let r = sound.reverse row.bytes qual value (ap (λ (r : Row). value_at s r qual) (sym (as_row Names e)) ∙ is) in
         let bytes_are : length row.bytes ≡ 3 = ap length r.bytes_are ∙ three_bytes s.widths r.kind r.id wide in

@@ -1,5 +1,5 @@
 -- Putting points whose names have ids.
-use Rattle.std.proofs.Common.{◌≡◌, ◌⊎◌, inl, inr, ⊎_elim, ℕ, ℤ, Bool, true, List, [], ◌∷◌, ◌++◌, refl, sym, ap, subst, ◌∙◌}
+use Rattle.std.proofs.Common.{◌≡◌, ◌⊎◌, inl, inr, ⊎_elim, ℕ, ℤ, Bool, true, false, List, [], ◌∷◌, ◌++◌, refl, sym, ap, subst, ◌∙◌}
 use Rattle.std.specs.Prelude.{◌↔◌, None, Some, Ok, Err, Contains, option_and_then}
 use Rattle.std.proofs.lemmas.Bool.{true≢false}
 use Rattle.std.proofs.lemmas.List.Elements.{Contains-append_cases, Contains-append_left, Contains-append_right}
@@ -14,7 +14,6 @@ use Rattle.cell_model.specs.Deeds.{Made}
 use Rattle.cell_model.specs.History.{History, first, store_after}
 use Rattle.cell_model.specs.History.History.{Then}
 use Rattle.cell_model.specs.IdRows.{id_number, id_of, name_row, AllResolved}
-use Rattle.cell_laws.specs.Laws.{IsCompaction}
 use Rattle.cell_model.specs.Layout.{names_of}
 use Rattle.cell_model.specs.Lawful.{IsLawful}
 use Rattle.cell_model.specs.KindWidths.{Widths}
@@ -30,12 +29,12 @@ use Rattle.tsd_base.specs.declared.kinds.Kind.TheVariants.{Metric, TagKey, TagVa
 use Rattle.point_put.specs.Entries.{ForName, ForNames}
 use Rattle.point_put.specs.Entries.ForName.{none, look, full, bump, reverse, forward}
 use Rattle.point_put.specs.Entries.ForNames.{nil, more}
-use Rattle.point_put.specs.PutPoint.{DidPut, PutSays, WasStored as PutSo}
+use Rattle.point_put.specs.PutPoint.{DidStore, PutSays, WasStored as PutSo}
 use Rattle.uid_table.specs.IdSteps.{DidLook}
 use Rattle.batch_job.specs.OpenRules.{AllowsAll}
 use Rattle.batch_job.specs.PendingPuts.{Adds, AddsSome, AreResolved, points_in}
-use Rattle.batch_job.specs.Storing.{IsAlone, IsUnmerged, Puts, WasPut}
-use Rattle.batch_job.proofs.Entering.{Ids_Points, PutNothing, looked, nothing_by, put_before, put_keeps, put_last, put_nothing, puts_stay, read_keeps, rows_differ, tables_differ, unmerged_follow, unmerged_then}
+use Rattle.batch_job.specs.Storing.{HasOnlyPuts, IsAlone, IsOtherWrite, Puts, WasPut}
+use Rattle.batch_job.proofs.Entering.{Ids_Points, PutNothing, looked, nothing_by, put_before, put_keeps, put_last, put_nothing, puts_stay, read_keeps, rows_differ, tables_differ, only_puts_follow, only_puts_then}
 use Rattle.batch_job.proofs.Follows.{Went, follow, follow-append, went, alone_still}
 use Rattle.batch_job.proofs.Lower.{here, not_in, not_Some, split}
 
@@ -105,7 +104,7 @@ module _ (old new : Seen) (c : Admission) (point : DataPoint) (resolved : AreRes
     refused : {w : Widths} → ForNames w c (names_of point) list → AreReads list
     refused entries = names_read c (first old.length h) entries have w.lawful
 
-    module _ (stored : Stored) (so : PutSo c point (first new.length h) list stored) where
+    module _ (stored : Stored) (so : PutSo c point (first new.length h) list stored) (cells : c.config.appends ≡ false) where
       cut : follow (first old.length h) list ≡ Then (follow (first old.length h) so.names) so.put.entry
       cut = ap (follow (first old.length h)) so.list_is ∙ follow-append (first old.length h) so.names (so.put ∷ [])
 
@@ -115,8 +114,8 @@ module _ (old new : Seen) (c : Admission) (point : DataPoint) (resolved : AreRes
       are_reads : AreReads so.names
       are_reads = names_read c (first old.length h) so.entries have (subst IsLawful cut w.lawful).0
 
-      did : DidPut (first new.length h) point stored.row so.put
-      did = so.did
+      did : DidStore false (first new.length h) point stored.row so.put
+      did = subst (λ appends. DidStore appends (first new.length h) point stored.row so.put) cells so.did
 
       ids_stay : (kind : Kind) (name : List ℕ) → id_of (first new.length h) kind name ≡ id_of (first old.length h) kind name
       ids_stay kind name =
@@ -141,18 +140,18 @@ module _ (old new : Seen) (c : Admission) (point : DataPoint) (resolved : AreRes
             either),
       )
 
-      unmerged_one : IsUnmerged (first old.length h) → IsUnmerged (first new.length h)
-      unmerged_one before =
-          subst IsUnmerged (sym after)
-          (unmerged_then (follow (first old.length h) so.names) so.put.entry (λ c. subst IsCompaction did.did.0 c) (unmerged_follow (first old.length h) so.names (reads_put_nothing so.names are_reads) before))
+      only_puts_one : HasOnlyPuts (first old.length h) → HasOnlyPuts (first new.length h)
+      only_puts_one before =
+          subst HasOnlyPuts (sym after)
+          (only_puts_then (follow (first old.length h) so.names) so.put.entry (λ c. subst IsOtherWrite did.did.0 c) (only_puts_follow (first old.length h) so.names (reads_put_nothing so.names are_reads) before))
 
-  pub put_adds : (stored : Stored) → PutSays c point old (Ok stored) new → Adds old (point ∷ []) new
-  put_adds stored (list, made, asked) = record {
+  pub put_adds : (stored : Stored) → PutSays c point old (Ok stored) new → c.config.appends ≡ false → Adds old (point ∷ []) new
+  put_adds stored (list, made, asked) cells = record {
     by = alone_still old new list made resolved.by;
     fits = made.since.extends.fits;
-    ids = λ h lawful fits. ids_stay list made h lawful fits stored (asked h lawful fits);
-    puts = λ h lawful fits. puts_one list made h lawful fits stored (asked h lawful fits);
-    unmerged = λ h lawful fits. unmerged_one list made h lawful fits stored (asked h lawful fits);
+    ids = λ h lawful fits. ids_stay list made h lawful fits stored (asked h lawful fits) cells;
+    puts = λ h lawful fits. puts_one list made h lawful fits stored (asked h lawful fits) cells;
+    only_puts = λ h lawful fits. only_puts_one list made h lawful fits stored (asked h lawful fits) cells;
   }
 
   -- where each name is allowed none is filtered
@@ -194,9 +193,13 @@ module _ (old new : Seen) (c : Admission) (point : DataPoint) (resolved : AreRes
 -- where each new name of each kind is given an id
 pub open_admission : Admission
 open_admission = record {
-  config = record { auto_metric = true; auto_tag_key = true; auto_tag_value = true };
+  config = record { auto_metric = true; auto_tag_key = true; auto_tag_value = true; appends = false };
   patterns = record { metric = None; tag_key = None; tag_value = None };
 }
+
+pub open_cells : open_admission.config.appends ≡ false
+unfolding open_admission
+open_cells = refl
 
 pub open_makes : (kind : Kind) → makes open_admission.config kind ≡ true
 unfolding open_admission
@@ -220,7 +223,7 @@ adds_none s by = record {
   fits = λ h f. f;
   ids = λ h lawful fits kind name. refl;
   puts = λ h lawful fits r. (λ put. inl put, λ either. ⊎_elim (λ (put : WasPut (first s.length h) r). put) (λ (no : Contains [] r). absurd (not_in r no)) either);
-  unmerged = λ h lawful fits before. before;
+  only_puts = λ h lawful fits before. before;
 }
 
 pub adds_then : (P Q R : DataPoint → Type 0) (a b c : Seen) → AddsSome a P b → AddsSome b Q c → ((r : DataPoint) → R r ↔ (P r ⊎ Q r)) → AddsSome a R c
@@ -228,7 +231,7 @@ adds_then P Q R a b c x y both = record {
   by = y.by;
   fits = λ h f. x.fits h (y.fits h f);
   ids = λ h lawful fits kind name. y.ids h lawful fits kind name ∙ x.ids h lawful (y.fits h fits) kind name;
-  unmerged = λ h lawful fits before. y.unmerged h lawful fits (x.unmerged h lawful (y.fits h fits) before);
+  only_puts = λ h lawful fits before. y.only_puts h lawful fits (x.only_puts h lawful (y.fits h fits) before);
   puts = λ h lawful fits r. (
     λ put. ⊎_elim
         (λ (before : WasPut (first b.length h) r). ⊎_elim (λ (first_ : WasPut (first a.length h) r). inl first_) (λ (p : P r). inr ((both r).1 (inl p))) ((x.puts h lawful (y.fits h fits) r).0 before))
@@ -246,7 +249,7 @@ adds_alike P Q a b x same = record {
   by = x.by;
   fits = x.fits;
   ids = x.ids;
-  unmerged = x.unmerged;
+  only_puts = x.only_puts;
   puts = λ h lawful fits r. (
     λ put. ⊎_elim (λ (before : WasPut (first a.length h) r). inl before) (λ (p : P r). inr ((same r).0 p)) ((x.puts h lawful fits r).0 put),
     λ either. (x.puts h lawful fits r).1 (⊎_elim (λ (put : WasPut (first a.length h) r). inl put) (λ (q : Q r). inr ((same r).1 q)) either),

@@ -1,20 +1,22 @@
--- In a history without merges and drops the cell of each place that a put wrote stands, with the value of the last put there.
+-- In a history without appends, merges and drops the cell of each place that a put wrote stands, with the value of the last put there.
 use Rattle.std.proofs.Common.{◌≡◌, ◌≢◌, ◌⊎◌, inl, inr, ℕ, ◌+◌, List, Some, refl, sym, ap, subst, ◌∙◌}
 use Rattle.tsd_base.specs.Points.{DataPoint}
 use Rattle.row_key.specs.declared.tables.Table.{Table}
 use Rattle.row_key.specs.declared.tables.Table.TheVariants.{Ids, Names, Points}
+use Rattle.row_key.specs.Made.{three}
+use Rattle.qual_codec.specs.CellDots.{column_qual}
 use Rattle.cell_model.specs.declared.row.Row.{Row}
 use Rattle.cell_model.specs.declared.events.Entry.{Entry}
 use Rattle.cell_model.specs.declared.events.Step.{Step}
-use Rattle.cell_model.specs.declared.events.Step.TheVariants.{Open, Read, NextRow, Bump, Claim, PutPoint, PutMerged, DropCells}
-use Rattle.cell_model.specs.History.{History, Had, len, store_after}
+use Rattle.cell_model.specs.declared.events.Step.TheVariants.{Open, Read, NextRow, Bump, Claim, PutPoint, AppendPoint, PutMerged, DropCells}
+use Rattle.cell_model.specs.History.{History, Had, base_of, len, store_after}
 use Rattle.cell_model.specs.History.History.{Base, Then}
 use Rattle.cell_model.specs.Lawful.{ClaimBasis, IsLawful, MayStep}
-use Rattle.cell_laws.specs.Laws.{IsCompaction}
 use Rattle.cell_model.specs.Machine.{after, counter_row, kind_qual}
-use Rattle.cell_model.specs.Store.{place_of, value_at}
-use Rattle.batch_job.specs.Storing.{IsUnmerged}
+use Rattle.cell_model.specs.Store.{Store, no_cells, place_of, value_at}
+use Rattle.batch_job.specs.Storing.{HasOnlyPuts, IsOtherWrite}
 use Rattle.batch_job.proofs.Entering.{bump_keeps, claim_keeps, had_before, put_keeps, rows_differ, tables_differ}
+use Rattle.cell_laws.proofs.CallerLemmas.{Changes, column_changes, grows, nothing, stays}
 use Rattle.batch_job.proofs.Lower.{PutReads, entry_at-last, entry_at-more, lawful_begins, longer, not_Some, put_reads, same_or_not, stood, trans_begins, value-written, whole}
 
 -- ---- what a put says
@@ -53,7 +55,7 @@ module _ (h : History) (x : Entry) (row : Row) (qual : List ℕ) where
   left : Stays h row qual → value_at (store_after (Then h x)) row qual ≡ value_at (store_after h) row qual → Stays (Then h x) row qual
   left s same = record { point = s.point; value = s.value; entry = s.entry; had = had_more h x s.entry s.had; step_is = s.step_is; there = same ∙ s.there }
 
-  module _ (in_points : row.table ≡ Points) (lawful : IsLawful (Then h x)) (unmerged : IsUnmerged (Then h x)) (s : Stays h row qual) where
+  module _ (in_points : row.table ≡ Points) (lawful : IsLawful (Then h x)) (only_puts : HasOnlyPuts (Then h x)) (s : Stays h row qual) where
     not_in_points : (other : Row) → (other.table ≡ Points → ⊥) → row ≢ other
     not_in_points other never = tables_differ row other (λ e. never (sym e ∙ in_points))
 
@@ -80,15 +82,26 @@ module _ (h : History) (x : Entry) (row : Row) (qual : List ℕ) where
         at : (place_of row qual ≡ place_of r q) ⊎ (place_of row qual ≢ place_of r q) → Stays (Then h x) row qual
         at (inl same) = put_now point v (is ∙ (λ i. PutPoint point ((sym same) i).row ((sym same) i).qual v))
         at (inr other) = left s (put_keeps h x point r q v row qual is other)
-    still (PutMerged r q v) is = absurd (unmerged x (len h + 1, entry_at-last h x) (subst IsCompaction (sym is) tt))
-    still (DropCells r which) is = absurd (unmerged x (len h + 1, entry_at-last h x) (subst IsCompaction (sym is) tt))
+    still (AppendPoint point r piece) is = absurd (only_puts x (len h + 1, entry_at-last h x) (subst IsOtherWrite (sym is) tt))
+    still (PutMerged r q v) is = absurd (only_puts x (len h + 1, entry_at-last h x) (subst IsOtherWrite (sym is) tt))
+    still (DropCells r which) is = absurd (only_puts x (len h + 1, entry_at-last h x) (subst IsOtherWrite (sym is) tt))
+
+-- no row has a column
+pub no_column_there : (h : History) (row : Row) (v : List ℕ) → IsLawful h → base_of h ≡ no_cells three → HasOnlyPuts h → row.table ≡ Points → value_at (store_after h) row column_qual ≡ Some v → ⊥
+no_column_there (Base b) row v lawful base only table is = nothing three row column_qual v (subst (λ (s : Store). value_at s row column_qual ≡ Some v) base is)
+no_column_there (Then h x) row v lawful base only table is =
+    at (column_changes h x.caller x.step (store_after h) (len h + 1) row table lawful.1.may) (λ before. no_column_there h row v lawful.0 base (λ y had. only y (had_more h x y had)) table before)
+  where
+    at : Changes (store_after h) (store_after (Then h x)) row x.step → (value_at (store_after h) row column_qual ≡ Some v → ⊥) → ⊥
+    at (stays same) go = go (sym same ∙ is)
+    at (grows point piece step now) go = only x (len h + 1, entry_at-last h x) (subst IsOtherWrite (sym step) tt)
 
 -- what was put stands
-pub put_stays_there : (h : History) (e : Entry) (point : DataPoint) (row : Row) (qual value : List ℕ) → IsLawful h → IsUnmerged h → row.table ≡ Points → Had h e → e.step ≡ PutPoint point row qual value → Stays h row qual
-put_stays_there (Base b) e point row qual value lawful unmerged table had is = absurd (not_Some e (sym had.1))
-put_stays_there (Then h x) e point row qual value lawful unmerged table had is =
-    at (λ before. put_stays_there h e point row qual value lawful.0 (λ y has. unmerged y (had_more h x y has)) table before is) (had_before h x e had)
+pub put_stays_there : (h : History) (e : Entry) (point : DataPoint) (row : Row) (qual value : List ℕ) → IsLawful h → HasOnlyPuts h → row.table ≡ Points → Had h e → e.step ≡ PutPoint point row qual value → Stays h row qual
+put_stays_there (Base b) e point row qual value lawful only_puts table had is = absurd (not_Some e (sym had.1))
+put_stays_there (Then h x) e point row qual value lawful only_puts table had is =
+    at (λ before. put_stays_there h e point row qual value lawful.0 (λ y has. only_puts y (had_more h x y has)) table before is) (had_before h x e had)
   where
     at : (Had h e → Stays h row qual) → (x ≡ e) ⊎ Had h e → Stays (Then h x) row qual
     at earlier (inl same) = put_now h x row qual point value (ap (λ (y : Entry). y.step) same ∙ is)
-    at earlier (inr before) = still h x row qual table lawful unmerged (earlier before) x.step refl
+    at earlier (inr before) = still h x row qual table lawful only_puts (earlier before) x.step refl

@@ -1,5 +1,5 @@
 -- Cells of one data point each, in the order of their qualifiers: those in seconds come first.
-use Rattle.std.proofs.Common.{◌≡◌, ⊎_elim, ℕ, ℤ, ◌-◌, ◌<◌, Bool, true, false, cond, T, List, [], ◌∷◌, ◌++◌, Equal, map, refl, sym, ap, subst, ◌∙◌, arith}
+use Rattle.std.proofs.Common.{◌≡◌, inl, ⊎_elim, ℕ, ℤ, ◌-◌, ◌<◌, Bool, true, false, cond, T, List, [], ◌∷◌, ◌++◌, Equal, map, refl, sym, ap, subst, ◌∙◌, arith}
 use Rattle.std.specs.Prelude.{Contains, filter, nat_eq, if◌then◌else◌}
 use Rattle.std.specs.Int.{w16, w32, byte_at, to_be_bytes}
 use Rattle.std.specs.List.{AllByRecursion}
@@ -105,7 +105,7 @@ pub first_coarse : (cells : List Cell) (all : List Dot) (offset : ℕ) (v : ℤ)
 first_coarse [] all offset v vs rise one are is e has at_offset whole = absurd (not_in e (subst (λ (ds : List Dot). Contains ds e) are has))
 first_coarse (c ∷ cells) all offset v vs rise one (dots, rest, reads, are, all_is) is e has at_offset whole =
     let o = one c (here c cells) in
-    let cons : all ≡ o.dot ∷ rest = all_is ∙ ap (λ (ds : List Dot). ds ++ rest) (one_dots c.qual c.value dots (o.dot ∷ []) reads o.reads) in
+    let cons : all ≡ o.dot ∷ rest = all_is ∙ ap (λ (ds : List Dot). ds ++ rest) (one_dots c.qual c.value dots (o.dot ∷ []) reads (inl o.reads)) in
     let found = by_form o (o.dot.item.fine) refl rest are (ap (values_at offset) (sym cons) ∙ is) (subst (λ (ds : List Dot). Contains ds e) cons has) (λ later told. first_coarse cells rest offset v vs rise.1 (λ d i. one d (there c d cells i)) are told e later at_offset whole) in
     record { dot = found.dot; among = subst (λ (ds : List Dot). Contains ds found.dot) (sym cons) found.among; offset_is = found.offset_is; value_is = found.value_is; coarse_is = found.coarse_is }
   where
@@ -131,7 +131,7 @@ first_coarse (c ∷ cells) all offset v vs rise one (dots, rest, reads, are, all
         (λ (later : Contains rest e).
         let w = cell_of_dot cells rest e are later in
         let p = one w.cell (there c w.cell cells w.among) in
-        let same : p.dot ≡ e = only p.dot e (subst (λ (ds : List Dot). Contains ds e) (one_dots w.cell.qual w.cell.value w.dots (p.dot ∷ []) w.reads p.reads) w.has) in
+        let same : p.dot ≡ e = only p.dot e (subst (λ (ds : List Dot). Contains ds e) (one_dots w.cell.qual w.cell.value w.dots (p.dot ∷ []) w.reads (inl p.reads)) w.has) in
         let below = All-contains (λ (d : Cell). bytes_cmp c.qual d.qual ≡ Less) cells w.cell (All-from_recursion (λ (d : Cell). bytes_cmp c.qual d.qual ≡ Less) cells rise.0) w.among in
         absurd (fine_behind o.dot.item p.dot.item [] [] (item_of_one c o) (item_of_one w.cell p) form (ap (λ (x : Dot). x.item.fine) same ∙ whole)
         (sym (λ i. bytes_cmp (o.reads.items.qual_is i) (p.reads.items.qual_is i)) ∙ below)))

@@ -213,7 +213,7 @@ module _ (points : List DataPoint) (g : SoFar) (h : Gathers points g) (found : A
     names = h.names;
     noted = h.noted;
     by = puts.by;
-    unmerged = λ x lawful fits. puts.unmerged x lawful fits (h.naming.unmerged x lawful (puts.fits x fits));
+    only_puts = λ x lawful fits. puts.only_puts x lawful fits (h.naming.only_puts x lawful (puts.fits x fits));
     ids = λ x lawful fits kind name is. puts.ids x lawful fits kind name ∙ (h.naming.numbered x lawful (puts.fits x fits)).ids kind name is;
     puts = λ x lawful fits r. (
       λ put. (last_points_are points r).1 ((last_is r).0 (⊎_elim

@@ -11,7 +11,7 @@ use Rattle.cell_model.specs.Seen.{Seen, InEach, Fits}
 use Rattle.batch_job.specs.NotedIds.{names_in}
 use Rattle.batch_job.specs.SeriesValues.{Series, series_of_point}
 use Rattle.batch_job.specs.LastValues.{last_at}
-use Rattle.batch_job.specs.Storing.{Holds, IsAlone, IsUnmerged, WasPut}
+use Rattle.batch_job.specs.Storing.{Holds, IsAlone, HasOnlyPuts, WasPut}
 
 -- these names have ids
 pub record AreResolved (s : Seen) (names : List (Kind × List ℕ)) : Type 0 where
@@ -22,13 +22,13 @@ pub record AreResolved (s : Seen) (names : List (Kind × List ℕ)) : Type 0 whe
 abbrev pub points_in : List ℕ → List Pair → Bool → List (ℕ × ℤ) → List DataPoint
 points_in metric tags fine dots = map (λ d. record { metric = metric; tags = tags; time = d.0; fine = fine; value = d.1 }) dots
 
--- from one sight to a later one, the points of which P holds were put, no name got or lost an id, and no cells were merged or dropped
+-- from one sight to a later one, the points of which P holds were put, no name got or lost an id, and nothing was appended, merged or dropped
 pub record AddsSome (old : Seen) (P : DataPoint → Type 0) (new : Seen) : Type 0 where
   pub by : IsAlone new
   pub fits : (h : History) → Fits new h → Fits old h
   pub ids : InEach new (λ h. (kind : Kind) (name : List ℕ) → id_of (first new.length h) kind name ≡ id_of (first old.length h) kind name)
   pub puts : InEach new (λ h. (p : DataPoint) → WasPut (first new.length h) p ↔ (WasPut (first old.length h) p ⊎ P p))
-  pub unmerged : InEach new (λ h. IsUnmerged (first old.length h) → IsUnmerged (first new.length h))
+  pub only_puts : InEach new (λ h. HasOnlyPuts (first old.length h) → HasOnlyPuts (first new.length h))
 
 abbrev pub Adds : Seen → List DataPoint → Seen → Type 0
 Adds old points new = AddsSome old (Contains points) new

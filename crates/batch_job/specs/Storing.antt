@@ -9,11 +9,10 @@ use Rattle.tsd_base.specs.LastPoints.{last_points}
 use Rattle.cell_model.specs.declared.events.Entry.{Entry}
 use Rattle.cell_model.specs.History.{History, Had, first, store_after}
 use Rattle.cell_model.specs.IdRows.{id_of}
-use Rattle.cell_laws.specs.Laws.{IsCompaction}
 use Rattle.cell_model.specs.Layout.{IsPoint, names_of}
 use Rattle.cell_model.specs.Machine.{counter_of}
 use Rattle.cell_model.specs.declared.events.Step.{Step}
-use Rattle.cell_model.specs.declared.events.Step.TheVariants.{PutPoint}
+use Rattle.cell_model.specs.declared.events.Step.TheVariants.{PutPoint, AppendPoint, PutMerged, DropCells}
 use Rattle.cell_model.specs.Seen.{Seen, InEach, IsPossible}
 use Rattle.cell_model.specs.Store.{no_cells}
 use Rattle.batch_job.specs.NotedIds.{Names, id_in, list_of, no_names, noted_all}
@@ -42,27 +41,34 @@ abbrev pub Puts : Step → DataPoint → Type 0
 Puts (PutPoint point row qual value) p = point ≡ p
 Puts _ p = ⊥
 
--- no entry of the history merges or drops cells
-abbrev pub IsUnmerged : History → Type 0
-IsUnmerged h = (e : Entry) → Had h e → IsCompaction e.step → ⊥
+-- the step changes cells of points and puts none: it appends, merges or drops
+abbrev pub IsOtherWrite : Step → Type 0
+IsOtherWrite (AppendPoint point row piece) = Unit {0}
+IsOtherWrite (PutMerged row qual value) = Unit {0}
+IsOtherWrite (DropCells row which) = Unit {0}
+IsOtherWrite _ = ⊥
+
+-- no entry of the history appends a point, or merges or drops cells
+abbrev pub HasOnlyPuts : History → Type 0
+HasOnlyPuts h = (e : Entry) → Had h e → IsOtherWrite e.step → ⊥
 
 -- an entry of the history puts this point
 abbrev pub WasPut : History → DataPoint → Type 0
 WasPut h p = (e : Entry) × Had h e × Puts e.step p
 
--- these names have their ids, and no point was put, nor cells merged or dropped
+-- these names have their ids, and no point was put or appended, nor cells merged or dropped
 pub record IsNaming (names : Names) (s : Seen) : Type 0 where
   pub by : IsAlone s
   pub numbered : Holds s (IsNumbered names)
   pub unput : Holds s (λ h. (p : DataPoint) → WasPut h p → ⊥)
-  pub unmerged : Holds s IsUnmerged
+  pub only_puts : Holds s HasOnlyPuts
 
 -- names got their ids, from the left; or there is none left for the first one of this kind that had none
 abbrev pub Notes : Seen → List (Kind × List ℕ) → Option Kind → Seen → Type 0
 Notes old ns None new = (names : Names) → IsNaming names old → (more : Names) × (noted_all names ns ≡ Ok more) × IsNaming more new
 Notes old ns (Some kind) new = (names : Names) → IsNaming names old → noted_all names ns ≡ Err kind
 
--- the names of the points have their ids, exactly the last points were put, and no cells were merged or dropped
+-- the names of the points have their ids, exactly the last points were put, and nothing was appended, merged or dropped
 pub record IsStored (points : List DataPoint) (s : Seen) : Type 0 where
   pub are_points : AllByRecursion IsPoint points
   pub names : Names
@@ -70,4 +76,4 @@ pub record IsStored (points : List DataPoint) (s : Seen) : Type 0 where
   pub by : IsAlone s
   pub ids : Holds s (HasIds names)
   pub puts : Holds s (λ h. (p : DataPoint) → WasPut h p ↔ Contains (last_points points) p)
-  pub unmerged : Holds s IsUnmerged
+  pub only_puts : Holds s HasOnlyPuts

@@ -26,11 +26,12 @@ use tsd_base::tags::Tags;
 use tsd_hooks::UidRule;
 use uid_table::{PlacedPoint, Uids};
 
-/// Names of each kind are given ids, which all of them have already.
+/// Names of each kind are given ids, which all of them have already, and points aren't appended.
 const ALL_KINDS: Config = Config {
     auto_metric: true,
     auto_tag_key: true,
     auto_tag_value: true,
+    appends: false,
 };
 
 /// Puts the points of all series: of each series at each time in each form the last value. The rule is one that allows each name.
@@ -171,7 +172,7 @@ fn put_other<R: Rows + Drop>(
     ensures tags { placed.new.point.tags ≡ placed.old.point.tags }
     ensures stops { CountsStops is_stop result (R.stops store.old) (R.stops store.new) }
 {
-    match put_next(alloc, store, placed, time, fine, value) {
+    match put_next(alloc, store, &ALL_KINDS, placed, time, fine, value) {
         Ok(()) => Ok(()),
         Err(PutFault::Unknown { .. }) => unreachable!(),
         Err(PutFault::Filtered { .. }) => unreachable!(),

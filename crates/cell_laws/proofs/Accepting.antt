@@ -1,6 +1,6 @@
 -- What stands was accepted, and what was accepted stands.
-use Rattle.std.proofs.Common.{◌≡◌, ◌⊎◌, inl, inr, ℕ, ◌+◌, ◌*◌, List, [], ◌∷◌, refl, sym, ap, subst, ◌∙◌, arith}
-use Rattle.std.specs.Prelude.{◌%◌, Option, Some, Contains}
+use Rattle.std.proofs.Common.{◌≡◌, ◌⊎◌, inl, inr, ℕ, ◌+◌, ◌*◌, List, [], ◌∷◌, ◌++◌, refl, sym, ap, subst, ◌∙◌, arith}
+use Rattle.std.specs.Prelude.{◌%◌, Option, None, Some, Contains}
 use Rattle.std.specs.declared.cmp.Ordering.TheVariants.{Less, Greater}
 use Rattle.std.specs.Ordering.{ordering_reverse}
 use Rattle.std.specs.Cmp.Lexicographic.{nat_list_cmp_total}
@@ -13,19 +13,16 @@ use Rattle.row_key.specs.declared.tables.Table.TheVariants.{Points}
 use Rattle.row_hours.specs.declared.hours.TheConstants.{HOUR_MILLIS}
 use Rattle.row_key.specs.declared.keys.RowKey.{RowKey}
 use Rattle.list_lemmas.specs.BytesOrder.{bytes_cmp}
-use Rattle.qual_codec.specs.declared.cells.Item.{Item}
 use Rattle.qual_codec.specs.declared.cells.Dot.{Dot}
-use Rattle.qual_codec.specs.Items.{IsItems}
-use Rattle.qual_codec.specs.CellDots.{IsDots, items_of}
-use Rattle.qual_codec.specs.Order.{IsBelow}
+use Rattle.qual_codec.specs.CellDots.{ArePieces, HoldsDots, IsColumn, IsDots, column_qual}
 use Rattle.qual_codec.specs.Spelling.{dot_of}
 use Rattle.cell_model.specs.declared.row.Row.{Row}
 use Rattle.cell_model.specs.declared.events.Step.{Step}
-use Rattle.cell_model.specs.declared.events.Step.TheVariants.{Open, Read, NextRow, Bump, Claim, PutPoint, PutMerged, DropCells}
+use Rattle.cell_model.specs.declared.events.Step.TheVariants.{Open, Read, NextRow, Bump, Claim, PutPoint, AppendPoint, PutMerged, DropCells}
 use Rattle.cell_model.specs.declared.events.Entry.{Entry}
-use Rattle.cell_model.specs.Store.{value_at}
-use Rattle.cell_model.specs.Machine.{kind_qual}
-use Rattle.cell_model.specs.History.{History, len, store_after, Had}
+use Rattle.cell_model.specs.Store.{value_at, or_nothing}
+use Rattle.cell_model.specs.Machine.{after, kind_qual}
+use Rattle.cell_model.specs.History.{History, base_of, len, store_after, Had}
 use Rattle.cell_model.specs.Layout.{base_time}
 use Rattle.cell_laws.proofs.Beginnings.{Begins}
 use Rattle.cell_model.specs.History.History.{Base, Then}
@@ -35,20 +32,24 @@ use Rattle.cell_model.specs.KindWidths.{Widths, kind_bytes}
 use Rattle.cell_model.specs.IdRows.{id_row, id_of, name_of}
 use Rattle.cell_laws.proofs.SameWidths.{carry, carry_back}
 use Rattle.cell_model.specs.Lawful.{IsLawful, MayStep, HadCell, Wrote}
-use Rattle.cell_laws.specs.Laws.{Kept, StandingWasAccepted, AcceptedTimesStand, StandingIsAccepted}
+use Rattle.cell_laws.specs.Laws.{StandingWasAccepted, AcceptedTimesStand, StandingIsAccepted}
 use Rattle.cell_model.specs.Readings.{Reading, reading_of, Meets, point_row, IsNamed, Named, DotReads, CellReads, IsStanding, IsPut, AcceptedBy, Accepted}
-use Rattle.list_lemmas.proofs.ListMembers.{here, split, not_in, map_in, in_map}
+use Rattle.list_lemmas.proofs.ListMembers.{here, split, not_in}
 use Rattle.list_lemmas.proofs.SameLists.{same_rising}
-use Rattle.qual_codec.proofs.CallerLemmas.{items_once as one_list, one_dots}
+use Rattle.qual_codec.proofs.CallerLemmas.{one_dots, piece_of_cell, pieces_more}
+use Rattle.std.proofs.lemmas.List.Elements.{Contains-append_cases, Contains-append_right}
 use Rattle.row_key.proofs.CallerLemmas.{one_key}
 use Rattle.list_lemmas.proofs.BoolTests.{not_Some, same_Some}
 use Rattle.cell_laws.proofs.Keeps.{stood, lawful_begins}
 use Rattle.cell_laws.proofs.Entries.{entry_at-more, entry_at-last}
 use Rattle.cell_laws.proofs.Ids.{base_begins, value_keeps, reverse_uid, trans_begins}
 use Rattle.cell_laws.proofs.LawsHold.{names_back}
-use Rattle.cell_laws.proofs.Known.{had_cell}
-use Rattle.cell_laws.proofs.Keep.{keep, cell_split}
-use Rattle.cell_laws.proofs.Written.{moved, each_reads, Basis, metric_resolves, key_resolves, value_resolves}
+use Rattle.cell_laws.proofs.Known.{had_cell, value-written}
+use Rattle.cell_laws.proofs.Keep.{cell_split}
+use Rattle.cell_laws.proofs.KeptLater.{offset_stands}
+use Rattle.cell_laws.proofs.Columns.{Changes, column_changes, column_or_not}
+use Rattle.cell_laws.proofs.Columns.Changes.{stays, grows}
+use Rattle.cell_laws.proofs.Written.{moved, Appending, append_reads, column_reads, Basis, metric_resolves, key_resolves, value_resolves}
 
 pub name_keeps : {h0 h : History} (kind : Kind) (id : ℕ) (name : List ℕ) → Begins h0 h → IsLawful h → name_of h0 kind id ≡ Some name → name_of h kind id ≡ Some name
 name_keeps {h0} {h} kind id name b l is =
@@ -174,13 +175,14 @@ wrote_accepted h0 h e (PutPoint point p qual value) b l row q v r go put w may c
     let x = put_reads h0 h point p qual value b l may in
     let dot = put_dot point x.len in
     let reads : IsDots q v (dot ∷ []) = moved qual value q v (dot ∷ []) w.1 w.2 x.reads in
-    let same : dot ≡ c.dot = only_dot dot c.dot (subst (λ (ds : List Dot). Contains ds c.dot) (one_dots q v c.dots (dot ∷ []) c.reads reads) c.among) in
+    let same : dot ≡ c.dot = only_dot dot c.dot (subst (λ (ds : List Dot). Contains ds c.dot) (one_dots q v c.dots (dot ∷ []) c.reads (inl reads)) c.among) in
     let here : DotReads (store_after h).widths (name_of h) row.bytes c.dot (reading_of point) = subst (λ (y : Row). DotReads (store_after h).widths (name_of h) y.bytes c.dot (reading_of point)) w.0 (subst (λ (d : Dot). DotReads (store_after h).widths (name_of h) p.bytes d (reading_of point)) same x.dot_reads) in
     inr (e, (len h0 + 1, entry_at-last h0 e), put (reading_once (store_after h).widths (name_of h) row.bytes c.dot (reading_of point) r here c.dot_reads))
 wrote_accepted h0 h e (PutMerged p qual value) b l row q v r go put w may c =
     let reads : IsDots q v may.dots = moved qual value q v may.dots w.1 w.2 may.reads in
-    let had = may.each c.dot (subst (λ (ds : List Dot). Contains ds c.dot) (one_dots q v c.dots may.dots c.reads reads) c.among) in
-    accepted_more (name_of h) h0 e r (go had.0 had.1 (subst (λ (x : Row). HadCell h0 x had.0 had.1) w.0 had.3) (record { dots = had.2; reads = had.4; dot = c.dot; among = had.5; dot_reads = c.dot_reads }))
+    let had = may.each c.dot (subst (λ (ds : List Dot). Contains ds c.dot) (one_dots q v c.dots may.dots c.reads (inl reads)) c.among) in
+    accepted_more (name_of h) h0 e r (go had.0 had.1 (subst (λ (x : Row). HadCell h0 x had.0 had.1) w.0 had.3) (record { dots = had.2; reads = inl had.4; dot = c.dot; among = had.5; dot_reads = c.dot_reads }))
+wrote_accepted h0 h e (AppendPoint point p piece) b l row q v r go put w may c = absurd w
 wrote_accepted h0 h e Open b l row q v r go put w may c = absurd w
 wrote_accepted h0 h e (Read p) b l row q v r go put w may c = absurd w
 wrote_accepted h0 h e (NextRow t x y) b l row q v r go put w may c = absurd w
@@ -200,80 +202,165 @@ had_accepted (Then h0 e) h b l row q v r t had c =
       | inr w ↦ wrote_accepted h0 h e e.step before l row q v r (λ a d x y. had_accepted h0 h before l row a d r t x y) (λ x. x) w (lawful_begins b l).1.may c
     ]
 
-pub standing_was_accepted : StandingWasAccepted
-standing_was_accepted h r l f = had_accepted h h whole l (point_row f.row) f.qual f.value r refl (had_cell h (point_row f.row) f.qual f.value l refl f.stands) f.reads
+-- ---- the column
 
--- the cell in which an accepted reading first stood
+-- the data point of a point that is appended
+pub record AppendReads (h : History) (point : DataPoint) (row : Row) (piece : List ℕ) : Type 0 where
+  pub dot : Dot
+  pub reads : ArePieces piece (dot ∷ [])
+  pub dot_reads : DotReads (store_after h).widths (name_of h) row.bytes dot (reading_of point)
+
+pub appended_reads : (before h : History) (point : DataPoint) (row : Row) (piece : List ℕ) → Begins before h → IsLawful h → Appending before point row piece → AppendReads h point row piece
+appended_reads before h point row piece b l may =
+    let x = put_reads before h point row may.qual may.value b l may.put in
+    record { dot = put_dot point x.len; reads = subst (λ (y : List ℕ). ArePieces y (put_dot point x.len ∷ [])) (sym may.piece_is) (piece_of_cell may.qual may.value (put_dot point x.len) x.reads); dot_reads = x.dot_reads }
+
+-- the pieces of a column are a column's dots
+as_column : (v : List ℕ) (ds : List Dot) → ArePieces v ds → HoldsDots column_qual v ds
+as_column v ds are = inr (record { qual_is = refl; pieces = are })
+
+-- what the column reads was accepted
+column_accepted : (h0 h : History) → Begins h0 h → IsLawful h → (row : Row) (v : List ℕ) (r : Reading) → row.table ≡ Points → value_at (store_after h0) row column_qual ≡ Some v → CellReads (store_after h).widths (name_of h) row.bytes column_qual v r → AcceptedBy (name_of h) h0 r
+column_accepted (Base base) h b l row v r t is c =
+    inl (record { row = row.bytes; qual = column_qual; value = v; stands = ap (λ (x : Row). value_at base x column_qual) (sym (points_row row t)) ∙ is; reads = carry_back b (λ (w : Widths). CellReads w (name_of h) row.bytes column_qual v r) c })
+column_accepted (Then h0 e) h b l row v r t is c =
+    at (column_changes h0 e.caller e.step (store_after h0) (len h0 + 1) row t lb.1.may) (λ w was d. column_accepted h0 h before l row w r t was d)
+  where
+    names : Kind → ℕ → Option (List ℕ)
+    names = name_of h
+
+    before : Begins h0 h
+    before = trans_begins (longer whole) b
+
+    lb : IsLawful (Then h0 e)
+    lb = lawful_begins b l
+
+    at : Changes (store_after h0) (store_after (Then h0 e)) row e.step → ((w : List ℕ) → value_at (store_after h0) row column_qual ≡ Some w → CellReads (store_after h).widths (name_of h) row.bytes column_qual w r → AcceptedBy (name_of h) h0 r) → AcceptedBy (name_of h) (Then h0 e) r
+    at (stays same) go = accepted_more (name_of h) h0 e r (go v (sym same ∙ is) c)
+    at (grows point piece step now) go = behind (value_at (store_after h0) row column_qual) refl value_is
+      where
+        value_is : v ≡ or_nothing (value_at (store_after h0) row column_qual) ++ piece
+        value_is = same_Some _ _ (sym is ∙ now)
+
+        may : Appending h0 point row piece
+        may = subst (MayStep h0 e.caller) step lb.1.may
+
+        x : AppendReads h point row piece
+        x = appended_reads h0 h point row piece before l may
+
+        last : x.dot ≡ c.dot → AcceptedBy (name_of h) (Then h0 e) r
+        last same =
+            let here : DotReads (store_after h).widths (name_of h) row.bytes c.dot (reading_of point) = subst (λ (d : Dot). DotReads (store_after h).widths (name_of h) row.bytes d (reading_of point)) same x.dot_reads in
+            inr (e, (len h0 + 1, entry_at-last h0 e), subst (λ (s : Step). IsPut s r) (sym step) (reading_once (store_after h).widths (name_of h) row.bytes c.dot (reading_of point) r here c.dot_reads))
+
+        behind : (o : Option (List ℕ)) → value_at (store_after h0) row column_qual ≡ o → v ≡ or_nothing o ++ piece → AcceptedBy (name_of h) (Then h0 e) r
+        behind None was parts =
+            let reads = subst (λ (y : List ℕ). HoldsDots column_qual y c.dots) parts c.reads in
+            last (only_dot x.dot c.dot (subst (λ (ds : List Dot). Contains ds c.dot) (one_dots column_qual piece c.dots (x.dot ∷ []) reads (as_column piece (x.dot ∷ []) x.reads)) c.among))
+        behind (Some w) was parts =
+            let old = column_reads h0 row w lb.0 t was in
+            let reads = subst (λ (y : List ℕ). HoldsDots column_qual y c.dots) parts c.reads in
+            let same = one_dots column_qual (w ++ piece) c.dots (old.0 ++ x.dot ∷ []) reads (as_column (w ++ piece) (old.0 ++ x.dot ∷ []) (pieces_more w piece old.0 (x.dot ∷ []) old.1 x.reads)) in
+            elim (Contains-append_cases old.0 (x.dot ∷ []) c.dot (subst (λ (ds : List Dot). Contains ds c.dot) same c.among)) [
+              | inl early ↦ accepted_more (name_of h) h0 e r (go w was (record { dots = old.0; reads = as_column w old.0 old.1; dot = c.dot; among = early; dot_reads = c.dot_reads }))
+              | inr late ↦ last (only_dot x.dot c.dot late)
+            ]
+
+-- what a cell that stood reads was accepted
+pub stood_accepted : (h0 h : History) → Begins h0 h → IsLawful h → (row : Row) (q v : List ℕ) (r : Reading) → row.table ≡ Points → value_at (store_after h0) row q ≡ Some v → CellReads (store_after h).widths (name_of h) row.bytes q v r → AcceptedBy (name_of h) h0 r
+stood_accepted h0 h b l row q v r t is c = at (column_or_not q)
+  where
+    at : (q ≡ column_qual) ⊎ (q ≡ column_qual → ⊥) → AcceptedBy (name_of h) h0 r
+    at (inl same) = column_accepted h0 h b l row v r t (ap (value_at (store_after h0) row) (sym same) ∙ is) (subst (λ (x : List ℕ). CellReads (store_after h).widths (name_of h) row.bytes x v r) same c)
+    at (inr other) = had_accepted h0 h b l row q v r t (had_cell h0 row q v (lawful_begins b l) t other is) c
+
+pub standing_was_accepted : StandingWasAccepted
+standing_was_accepted h r l f = stood_accepted h h whole l (point_row f.row) f.qual f.value r refl f.stands f.reads
+
+-- ---- what was accepted stands
+
+-- the cell in which an accepted reading first stood, behind some beginning
 record Source (h : History) (r : Reading) : Type 0 where
   row : List ℕ
   qual : List ℕ
   value : List ℕ
-  had : HadCell h (point_row row) qual value
+  before : History
+  begins : Begins before h
+  stands : value_at (store_after before) (point_row row) qual ≡ Some value
   reads : CellReads (store_after h).widths (name_of h) row qual value r
 
-put_source : (h : History) (r : Reading) (e : Entry) (step : Step) → e.step ≡ step → IsLawful h → Had h e → IsPut step r → (before : History) → Begins before h → MayStep before e.caller step → Source h r
-put_source h r e (PutPoint point row qual value) is l had put before b may =
-    let x = put_reads before h point row qual value b l may in
-    let same = points_row row may.in_points in
+-- what a step left in a row's cell, where the row is a point row
+step_left : (before : History) (e : Entry) (step : Step) (row : Row) (qual value : List ℕ) → e.step ≡ step → row.table ≡ Points → value_at (after (store_after before) (len before + 1) step) row qual ≡ Some value
+    → value_at (store_after (Then before e)) (point_row row.bytes) qual ≡ Some value
+step_left before e step row qual value is points left =
+    ap (λ (y : Row). value_at (store_after (Then before e)) y qual) (sym (points_row row points)) ∙ ap (λ (s : Step). value_at (after (store_after before) (len before + 1) s) row qual) is ∙ left
+
+put_source : (h : History) (r : Reading) (e : Entry) (step : Step) → e.step ≡ step → IsLawful h → IsPut step r → (before : History) → Begins (Then before e) h → MayStep before e.caller step → Source h r
+put_source h r e (PutPoint point row qual value) is l put before b may =
+    let x = put_reads before h point row qual value (trans_begins (longer whole) b) l may in
     record {
       row = row.bytes;
       qual = qual;
       value = value;
-      had = inr (e, had, subst (λ (s : Step). Wrote (point_row row.bytes) qual value s) (sym is) (same, refl, refl));
-      reads = record { dots = put_dot point x.len ∷ []; reads = x.reads; dot = put_dot point x.len; among = here (put_dot point x.len) []; dot_reads = subst (DotReads (store_after h).widths (name_of h) row.bytes (put_dot point x.len)) put x.dot_reads };
+      before = Then before e;
+      begins = b;
+      stands = step_left before e (PutPoint point row qual value) row qual value is may.in_points (value-written (store_after before) row qual value _);
+      reads = record { dots = put_dot point x.len ∷ []; reads = inl x.reads; dot = put_dot point x.len; among = here (put_dot point x.len) []; dot_reads = subst (DotReads (store_after h).widths (name_of h) row.bytes (put_dot point x.len)) put x.dot_reads };
     }
-put_source h r e Open is l had put before b may = absurd put
-put_source h r e (Read row) is l had put before b may = absurd put
-put_source h r e (NextRow t x y) is l had put before b may = absurd put
-put_source h r e (Bump k) is l had put before b may = absurd put
-put_source h r e (Claim p x y) is l had put before b may = absurd put
-put_source h r e (PutMerged p x y) is l had put before b may = absurd put
-put_source h r e (DropCells p which) is l had put before b may = absurd put
+put_source h r e (AppendPoint point row piece) is l put before b may =
+    let lb = lawful_begins b l in
+    let x = appended_reads before h point row piece (trans_begins (longer whole) b) l may in
+    let points = may.put.in_points in
+    let old = value_at (store_after before) row column_qual in
+    let all = append_reads old piece x.dot (λ w was. column_reads before row w lb.0 points was) x.reads in
+    record {
+      row = row.bytes;
+      qual = column_qual;
+      value = or_nothing old ++ piece;
+      before = Then before e;
+      begins = b;
+      stands = step_left before e (AppendPoint point row piece) row column_qual (or_nothing old ++ piece) is points (value-written (store_after before) row column_qual (or_nothing old ++ piece) _);
+      reads = record {
+        dots = all.front ++ x.dot ∷ [];
+        reads = as_column (or_nothing old ++ piece) (all.front ++ x.dot ∷ []) all.pieces;
+        dot = x.dot;
+        among = Contains-append_right all.front (x.dot ∷ []) x.dot (here x.dot []);
+        dot_reads = subst (DotReads (store_after h).widths (name_of h) row.bytes x.dot) put x.dot_reads;
+      };
+    }
+put_source h r e Open is l put before b may = absurd put
+put_source h r e (Read row) is l put before b may = absurd put
+put_source h r e (NextRow t x y) is l put before b may = absurd put
+put_source h r e (Bump k) is l put before b may = absurd put
+put_source h r e (Claim p x y) is l put before b may = absurd put
+put_source h r e (PutMerged p x y) is l put before b may = absurd put
+put_source h r e (DropCells p which) is l put before b may = absurd put
 
 source : (h : History) (r : Reading) → IsLawful h → Accepted h r → Source h r
-source h r l (inl based) = record { row = based.row; qual = based.qual; value = based.value; had = inl based.stands; reads = carry (base_begins h) (λ (w : Widths). CellReads w (name_of h) based.row based.qual based.value r) based.reads }
+source h r l (inl f) = record { row = f.row; qual = f.qual; value = f.value; before = Base (base_of h); begins = base_begins h; stands = f.stands; reads = carry (base_begins h) (λ (w : Widths). CellReads w (name_of h) f.row f.qual f.value r) f.reads }
 source h r l (inr w) =
     let st = stood h w.1.0 w.0 w.1.1 in
-    put_source h r w.0 w.0.step refl l w.1 w.2 st.before (trans_begins (longer whole) st.begins) (lawful_begins st.begins l).1.may
-
-item_of : Dot → Item
-item_of d = d.item
-
--- a data point of a cell has one at its offset in each cell that is the same or above
-same_offset : (q v p w : List ℕ) (ds es : List Dot) → IsDots q v ds → IsDots p w es → (p ≡ q) ⊎ IsBelow q p → (d : Dot) → Contains ds d → (e : Dot) × Contains es e × (e.item.offset ≡ d.item.offset)
-same_offset q v p w ds es rd re (inl same) d c =
-    let items = one_list p (items_of ds) (items_of es) (subst (λ x. IsItems x (items_of ds)) (sym same) rd.items) re.items in
-    let r = map_in (λ (x : Dot). x.item) es d.item (subst (λ (xs : List Item). Contains xs d.item) items (in_map (λ (x : Dot). x.item) ds d c)) in
-    (r.0, r.1, ap (λ (i : Item). i.offset) r.2)
-same_offset q v p w ds es rd re (inr b) d c =
-    let m = b.at_most in
-    let here : Contains m.items d.item = subst (λ (xs : List Item). Contains xs d.item) (one_list q (items_of ds) m.items rd.items m.reads) (in_map (λ (x : Dot). x.item) ds d c) in
-    let good = m.each d.item here in
-    let r = map_in (λ (x : Dot). x.item) es good.0 (subst (λ (xs : List Item). Contains xs good.0) (one_list p m.others (items_of es) m.others_read re.items) good.1) in
-    (r.0, r.1, ap (λ (i : Item). i.offset) r.2 ∙ sym good.2.offset)
+    put_source h r w.0 w.0.step refl l w.2 st.before st.begins (lawful_begins st.begins l).1.may
 
 pub accepted_times_stand : AcceptedTimesStand
 accepted_times_stand h r l acc =
     let f = source h r l acc in
-    let row : Row = point_row f.row in
-    let k : Kept (store_after h) row f.qual = keep h row f.qual f.value l refl f.had in
-    let there = each_reads h row k.other k.value l refl k.stands in
     let c = f.reads in
     let d = c.dot_reads in
-    let dot = same_offset f.qual f.value k.other k.value c.dots there.0 c.reads there.1 k.at_least c.dot c.among in
-    let s : Reading = record { metric = r.metric; tags = r.tags; time = r.time; value = dot.0.value } in (
+    let at = offset_stands f.before h (point_row f.row) f.qual f.value f.begins l refl f.stands c.dots c.reads c.dot c.among in
+    let s : Reading = record { metric = r.metric; tags = r.tags; time = r.time; value = at.dot.value } in (
       s,
       record {
         row = f.row;
-        qual = k.other;
-        value = k.value;
-        stands = k.stands;
+        qual = at.other;
+        value = at.value;
+        stands = at.stands;
         reads = record {
-          dots = there.0;
-          reads = there.1;
-          dot = dot.0;
-          among = dot.1;
-          dot_reads = record { key = d.key; is_key = d.is_key; row_is = d.row_is; metric_is = d.metric_is; tags_are = d.tags_are; time_is = d.time_is ∙ ap (λ n. d.key.base * 1000 + n) (sym dot.2); value_is = refl };
+          dots = at.dots;
+          reads = at.reads;
+          dot = at.dot;
+          among = at.among;
+          dot_reads = record { key = d.key; is_key = d.is_key; row_is = d.row_is; metric_is = d.metric_is; tags_are = d.tags_are; time_is = d.time_is ∙ ap (λ n. d.key.base * 1000 + n) (sym at.offset_is); value_is = refl };
         };
       },
       record { metric = refl; tags = refl; time = refl },

@@ -58,14 +58,19 @@ pub use Rattle.cell_laws.proofs.Invisible.{Grown, ids_grown, accepted_grown}
 -- from one length of a history on, or from one to another, there are such steps alone
 pub use Rattle.cell_laws.proofs.Invisible.{OnlyBehind, OnlyBetween, grown_behind, grown_between}
 -- ---- cells and readings
--- a cell that was shown is one that the history had; what a write leaves at its place
+-- a cell that stands and isn't the column is one that the history had; what a write leaves at its place
 pub use Rattle.cell_laws.proofs.Known.{had_cell, value-written}
+-- a qualifier is the column's or it isn't; what a step does to the column, which only grows
+pub use Rattle.cell_laws.proofs.Columns.{Changes, HasFront, column_changes, column_grows, column_or_not}
+pub use Rattle.cell_laws.proofs.Columns.Changes.{stays, grows}
+-- a cell that stood is kept, and so is each offset of its data points
+pub use Rattle.cell_laws.proofs.KeptLater.{StandsAt, kept_later, offset_stands}
 -- the names of a point that was put are resolved
 pub use Rattle.cell_laws.proofs.Written.{key_resolves, metric_resolves, value_resolves}
 -- the name of an id stays; what a cell that reads accepted
-pub use Rattle.cell_laws.proofs.Accepting.{name_keeps, cell_by, had_accepted}
+pub use Rattle.cell_laws.proofs.Accepting.{name_keeps, cell_by, had_accepted, stood_accepted}
 -- what the cell of a point that was put says; the tags that ids name are one list
-pub use Rattle.cell_laws.proofs.Accepting.{PutReads, put_dot, put_reads, tags_once}
+pub use Rattle.cell_laws.proofs.Accepting.{AppendReads, PutReads, appended_reads, put_dot, put_reads, tags_once}
 -- a reading that meets another and has its value is that one
 pub use Rattle.cell_laws.proofs.Accepting.{same_reading}
 -- ---- sights

@@ -6,10 +6,11 @@ use Rattle.std.specs.Int.{w64, to_be_bytes, from_be_bytes}
 use Rattle.std.proofs.lemmas.Nat.{from_be_bytes-to_be_bytes_8}
 use Rattle.row_key.specs.declared.tables.Table.{Table}
 use Rattle.row_key.specs.declared.tables.Table.TheVariants.{Ids, Names, Points}
+use Rattle.qual_codec.specs.CellDots.{column_qual}
 use Rattle.cell_model.specs.declared.row.Row.{Row}
 use Rattle.tsd_base.specs.declared.kinds.Kind.{Kind}
 use Rattle.cell_model.specs.declared.events.Step.{Step}
-use Rattle.cell_model.specs.declared.events.Step.TheVariants.{Open, Read, NextRow, Bump, Claim, PutPoint, PutMerged, DropCells}
+use Rattle.cell_model.specs.declared.events.Step.TheVariants.{Open, Read, NextRow, Bump, Claim, PutPoint, AppendPoint, PutMerged, DropCells}
 use Rattle.cell_model.specs.declared.answers.Bumped.TheVariants.{Given, Full}
 use Rattle.cell_model.specs.declared.answers.Claimed.TheVariants.{Held}
 use Rattle.cell_model.specs.declared.events.Place.{Place}
@@ -81,6 +82,7 @@ counter_grows h caller (Bump other) place kind l may = at (nat_lt (counter_of (s
         (let n = counter_written (store_after h) other (counter_of (store_after h) other) (place % 2 ^ 64) below in omega (arith, n))
 counter_grows h caller (Claim row qual value) place kind l may = claim_counter (store_after h) row qual value _ kind (value_at (store_after h) row qual) (claim_differs h caller row qual value l may)
 counter_grows h caller (PutPoint point row qual value) place kind l may = counter_same (store_after h) (after (store_after h) place (PutPoint point row qual value)) kind (content-written_other (store_after h) row qual value _ (place_of counter_row (kind_qual kind)) (row_differs row qual (kind_qual kind) (point_differs row may.in_points)))
+counter_grows h caller (AppendPoint point row piece) place kind l may = counter_same (store_after h) (after (store_after h) place (AppendPoint point row piece)) kind (content-written_other (store_after h) row column_qual _ _ (place_of counter_row (kind_qual kind)) (row_differs row column_qual (kind_qual kind) (point_differs row may.put.in_points)))
 counter_grows h caller (PutMerged row qual value) place kind l may = counter_same (store_after h) (after (store_after h) place (PutMerged row qual value)) kind (content-written_other (store_after h) row qual value _ (place_of counter_row (kind_qual kind)) (row_differs row qual (kind_qual kind) (point_differs row may.in_points)))
 counter_grows h caller (DropCells row which) place kind l may = counter_same (store_after h) (after (store_after h) place (DropCells row which)) kind (get-dropped_other (store_after h) row which (place_of counter_row (kind_qual kind)) (point_differs row may.in_points))
 

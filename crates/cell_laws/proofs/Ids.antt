@@ -2,10 +2,11 @@
 use Rattle.std.proofs.Common.{◌≡◌, ◌≢◌, ◌⊎◌, inl, inr, ℕ, ◌+◌, ◌%◌, ◌^◌, ◌≤◌, ◌<◌, Bool, true, false, List, [], ◌∷◌, refl, sym, ap, subst, ◌∙◌, arith, rules}
 use Rattle.std.specs.Prelude.{Option, None, Some, option_map, nat_lt, if◌then◌else◌, slice_index_or}
 use Rattle.row_key.specs.declared.tables.Table.TheVariants.{Ids, Names, Points}
+use Rattle.qual_codec.specs.CellDots.{column_qual}
 use Rattle.cell_model.specs.declared.row.Row.{Row}
 use Rattle.tsd_base.specs.declared.kinds.Kind.{Kind}
 use Rattle.cell_model.specs.declared.events.Step.{Step}
-use Rattle.cell_model.specs.declared.events.Step.TheVariants.{Open, Read, NextRow, Bump, Claim, PutPoint, PutMerged, DropCells}
+use Rattle.cell_model.specs.declared.events.Step.TheVariants.{Open, Read, NextRow, Bump, Claim, PutPoint, AppendPoint, PutMerged, DropCells}
 use Rattle.cell_model.specs.declared.answers.Claimed.TheVariants.{Done}
 use Rattle.cell_model.specs.declared.answers.Bumped.TheVariants.{Given, Full}
 use Rattle.std.specs.Int.{w64, to_be_bytes}
@@ -86,6 +87,7 @@ step_from h caller (Bump kind) s place p c may u is = at (nat_lt (counter_of s k
     at false is = inl is
 step_from h caller (Claim row qual value) s place p c may u is = claim_from s row qual value _ p c (value_at s row qual) refl is (same_or_not p (place_of row qual))
 step_from h caller (PutPoint point row qual value) s place p c may u is = inl (sym (content-written_other s row qual value _ p (other_row p row qual (points_other p u row may.in_points))) ∙ is)
+step_from h caller (AppendPoint point row piece) s place p c may u is = inl (sym (content-written_other s row column_qual _ _ p (other_row p row column_qual (points_other p u row may.put.in_points))) ∙ is)
 step_from h caller (PutMerged row qual value) s place p c may u is = inl (sym (content-written_other s row qual value _ p (other_row p row qual (points_other p u row may.in_points))) ∙ is)
 step_from h caller (DropCells row which) s place p c may u is = inl (sym (get-dropped_other s row which p (points_other p u row may.in_points)) ∙ is)
 

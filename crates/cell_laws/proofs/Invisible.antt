@@ -8,7 +8,7 @@ use Rattle.cell_model.specs.declared.events.Content.{Content}
 use Rattle.cell_model.specs.declared.events.Entry.{Entry}
 use Rattle.cell_model.specs.declared.events.Place.{Place}
 use Rattle.cell_model.specs.declared.events.Step.{Step}
-use Rattle.cell_model.specs.declared.events.Step.TheVariants.{Open, Read, NextRow, Bump, Claim, PutPoint, PutMerged, DropCells}
+use Rattle.cell_model.specs.declared.events.Step.TheVariants.{Open, Read, NextRow, Bump, Claim, PutPoint, AppendPoint, PutMerged, DropCells}
 use Rattle.cell_model.specs.History.{History, base_of, len, store_after, entry_at, first, Had}
 use Rattle.cell_model.specs.History.History.{Base, Then}
 use Rattle.cell_model.specs.IdRows.{id_number, id_row, name_row, id_of, name_of}
@@ -44,6 +44,7 @@ leaves h caller (NextRow t x y) s place p i may other = refl
 leaves h caller (Bump k) s place p i may other = absurd i
 leaves h caller (Claim r x y) s place p i may other = absurd i
 leaves h caller (PutPoint point r x y) s place p i may other = absurd i
+leaves h caller (AppendPoint point r x) s place p i may other = absurd i
 leaves h caller (PutMerged row qual value) s place p i may other = content-written_other s row qual value _ p (place_other p row qual other may.in_points)
 leaves h caller (DropCells row which) s place p i may other = get-dropped_other s row which p (row_other p row other may.in_points)
 
@@ -54,6 +55,7 @@ puts_none (NextRow t x y) r i put = put
 puts_none (Bump k) r i put = put
 puts_none (Claim row x y) r i put = put
 puts_none (PutPoint point row x y) r i put = i
+puts_none (AppendPoint point row x) r i put = i
 puts_none (PutMerged row x y) r i put = put
 puts_none (DropCells row which) r i put = put
 
@@ -146,6 +148,7 @@ compaction_step (NextRow t x y) comp = tt
 compaction_step (Bump k) comp = comp
 compaction_step (Claim row x y) comp = comp
 compaction_step (PutPoint point row x y) comp = comp
+compaction_step (AppendPoint point row x) comp = comp
 compaction_step (PutMerged row x y) comp = tt
 compaction_step (DropCells row which) comp = tt
 

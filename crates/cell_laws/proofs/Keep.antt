@@ -2,9 +2,10 @@
 use Rattle.std.proofs.Common.{◌≡◌, ◌≢◌, ◌⊎◌, inl, inr, ℕ, ◌+◌, ◌%◌, ◌^◌, Bool, true, false, List, [], ◌∷◌, refl, sym, ap, subst, ◌∙◌}
 use Rattle.std.specs.Prelude.{Option, None, Some, option_map, nat_eq, nat_lt, if◌then◌else◌, Contains}
 use Rattle.std.specs.Int.{w64, to_be_bytes}
+use Rattle.qual_codec.specs.CellDots.{column_qual}
 use Rattle.cell_model.specs.declared.row.Row.{Row}
 use Rattle.cell_model.specs.declared.events.Step.{Step}
-use Rattle.cell_model.specs.declared.events.Step.TheVariants.{Open, Read, NextRow, Bump, Claim, PutPoint, PutMerged, DropCells}
+use Rattle.cell_model.specs.declared.events.Step.TheVariants.{Open, Read, NextRow, Bump, Claim, PutPoint, AppendPoint, PutMerged, DropCells}
 use Rattle.qual_codec.specs.Order.{IsBelow}
 use Rattle.list_lemmas.proofs.ListMembers.{here, there}
 use Rattle.qual_codec.proofs.CallerLemmas.{below_then}
@@ -117,6 +118,7 @@ step_all h row caller (Bump kind) place s may keeps = widened h row s (stepped s
     ])
 step_all h row caller (Claim r qual value) place s may keeps = widened h row s (stepped s place (Claim r qual value)) (claim_all h row r s qual value _ (value_at s r qual) keeps)
 step_all h row caller (PutPoint point r qual value) place s may keeps = λ q v c. kept_written s row r q qual value _ (keeps q v c)
+step_all h row caller (AppendPoint point r piece) place s may keeps = λ q v c. kept_written s row r q column_qual _ _ (keeps q v c)
 step_all h row caller (PutMerged r qual value) place s may keeps = λ q v c. kept_written s row r q qual value _ (keeps q v c)
 step_all h row caller (DropCells r which) place s may keeps = widened h row s (dropped s r which) (at (same_or_not (place_of row []) (place_of r [])))
   where
@@ -158,6 +160,7 @@ wrote_kept s place row q v (NextRow table from to) w = absurd w
 wrote_kept s place row q v (Bump kind) w = absurd w
 wrote_kept s place row q v (Claim r qual value) w = absurd w
 wrote_kept s place row q v (PutPoint point r qual value) w = kept_here s row r q v qual value _ w
+wrote_kept s place row q v (AppendPoint point r piece) w = absurd w
 wrote_kept s place row q v (PutMerged r qual value) w = kept_here s row r q v qual value _ w
 wrote_kept s place row q v (DropCells r which) w = absurd w
 

@@ -2,9 +2,10 @@
 use Rattle.std.proofs.Common.{◌≡◌, ◌≢◌, ℕ, ◌+◌, ◌%◌, ◌^◌, Bool, true, false, List, refl, sym, ap, subst, ◌∙◌}
 use Rattle.std.specs.Prelude.{Option, None, Some, option_map, nat_lt, nat_eq, if◌then◌else◌}
 use Rattle.row_key.specs.declared.tables.Table.TheVariants.{Points}
+use Rattle.qual_codec.specs.CellDots.{column_qual}
 use Rattle.cell_model.specs.declared.row.Row.{Row}
 use Rattle.cell_model.specs.declared.events.Step.{Step}
-use Rattle.cell_model.specs.declared.events.Step.TheVariants.{Open, Read, NextRow, Bump, Claim, PutPoint, PutMerged, DropCells}
+use Rattle.cell_model.specs.declared.events.Step.TheVariants.{Open, Read, NextRow, Bump, Claim, PutPoint, AppendPoint, PutMerged, DropCells}
 use Rattle.std.specs.Int.{w64, to_be_bytes}
 use Rattle.cell_model.specs.declared.events.Place.{Place}
 use Rattle.cell_model.specs.declared.events.Content.{Content}
@@ -52,6 +53,7 @@ step_keeps h caller (Bump kind) s place p c may u is =
     ]
 step_keeps h caller (Claim row qual value) s place p c may u is = claim_keeps s row qual value _ p c is (value_at s row qual) refl
 step_keeps h caller (PutPoint point row qual value) s place p c may u is = content-written_other s row qual value _ p (other_row p row qual (points_other p u row may.in_points)) ∙ is
+step_keeps h caller (AppendPoint point row piece) s place p c may u is = content-written_other s row column_qual _ _ p (other_row p row column_qual (points_other p u row may.put.in_points)) ∙ is
 step_keeps h caller (PutMerged row qual value) s place p c may u is = content-written_other s row qual value _ p (other_row p row qual (points_other p u row may.in_points)) ∙ is
 step_keeps h caller (DropCells row which) s place p c may u is = get-dropped_other s row which p (points_other p u row may.in_points) ∙ is
 

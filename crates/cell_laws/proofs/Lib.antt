@@ -6,11 +6,13 @@ mod Ids
 mod LawsHold
 mod Counters
 mod Known
+mod Columns
 mod Keep
 mod DeedRanges
 mod Carry
 mod InOrder
 mod Written
+mod KeptLater
 mod Accepting
 mod Sounding
 mod Wasting

@@ -1,5 +1,5 @@
 -- The machine over plain lists of entries, which can be computed, is the machine.
-use Rattle.std.proofs.Common.{◌≡◌, ℕ, ◌+◌, ◌%◌, ◌^◌, Bool, true, false, cond, List, [], ◌∷◌, length, refl, sym, ap, ◌∙◌, arith}
+use Rattle.std.proofs.Common.{◌≡◌, ℕ, ◌+◌, ◌%◌, ◌^◌, Bool, true, false, cond, List, [], ◌∷◌, ◌++◌, length, refl, sym, ap, ◌∙◌, arith}
 use Rattle.std.specs.Prelude.{Option, None, Some, option_map, map, filter, not, nat_lt, if◌then◌else◌}
 use Rattle.std.specs.Option.{option_map_or}
 use Rattle.std.specs.Int.{w64, to_be_bytes, from_be_bytes}
@@ -11,6 +11,7 @@ use Rattle.std.specs.Prelude as plain
 use Rattle.std.specs.Cmp.{eq_by_cmp_equiv}
 use Rattle.tsd_base.specs.declared.kinds.Kind.{Kind}
 use Rattle.row_key.specs.declared.tables.Table.{Table}
+use Rattle.qual_codec.specs.CellDots.{column_qual}
 use Rattle.cell_model.specs.declared.answers.Bumped.{Bumped}
 use Rattle.cell_model.specs.declared.answers.Bumped.TheVariants.{Given, Full}
 use Rattle.cell_model.specs.declared.row.Row.{Row}
@@ -19,11 +20,11 @@ use Rattle.qual_codec.specs.declared.cells.Cell.{Cell}
 use Rattle.cell_model.specs.declared.events.Place.{Place}
 use Rattle.cell_model.specs.declared.events.Content.{Content}
 use Rattle.cell_model.specs.declared.events.Step.{Step}
-use Rattle.cell_model.specs.declared.events.Step.TheVariants.{Open, Read, NextRow, Bump, Claim, PutPoint, PutMerged, DropCells}
+use Rattle.cell_model.specs.declared.events.Step.TheVariants.{Open, Read, NextRow, Bump, Claim, PutPoint, AppendPoint, PutMerged, DropCells}
 use Rattle.cell_model.specs.declared.events.Reply.{Reply}
 use Rattle.cell_model.specs.declared.events.Reply.TheVariants.{Opened, Shown, Next, BumpReply, ClaimReply, Written, Removed}
 use Rattle.cell_model.specs.KindWidths.{Widths}
-use Rattle.cell_model.specs.Store.{Store, entries, get, remove, place_cmp, row_cmp, place_of, content_at, value_at, written, cell_of, is_between, is_dropped, dropped, drop_count}
+use Rattle.cell_model.specs.Store.{Store, entries, get, remove, place_cmp, row_cmp, place_of, content_at, value_at, written, or_nothing, cell_of, is_between, is_dropped, dropped, drop_count}
 use Rattle.cell_model.specs.Machine.{after, reply_of, or_written, claim_reply, counter_row, counter_of, kind_qual, greatest}
 use Rattle.cell_model.specs.History.{History, base_of, len, store_after}
 use Rattle.cell_model.specs.History.History.{Base, Then}
@@ -81,6 +82,7 @@ after_in w es place (NextRow table from to) = es
 after_in w es place (Bump kind) = if nat_lt (counter_in es kind) (greatest w kind) then written_in es counter_row (kind_qual kind) (to_be_bytes w64 (counter_in es kind + 1)) (place % 2 ^ 64) else es
 after_in w es place (Claim row qual value) = or_in (value_in es row qual) (written_in es row qual value (place % 2 ^ 64)) es
 after_in w es place (PutPoint point row qual value) = written_in es row qual value (place % 2 ^ 64)
+after_in w es place (AppendPoint point row piece) = written_in es row column_qual (or_nothing (value_in es row column_qual) ++ piece) (place % 2 ^ 64)
 after_in w es place (PutMerged row qual value) = written_in es row qual value (place % 2 ^ 64)
 after_in w es place (DropCells row which) = dropped_in es row which
 
@@ -94,6 +96,7 @@ reply_in w es place (NextRow table from to) = Next (next_in es table from to)
 reply_in w es place (Bump kind) = BumpReply (bump_in w es kind)
 reply_in w es place (Claim row qual value) = ClaimReply (claim_reply (value_in es row qual))
 reply_in w es place (PutPoint point row qual value) = Written
+reply_in w es place (AppendPoint point row piece) = Written
 reply_in w es place (PutMerged row qual value) = Written
 reply_in w es place (DropCells row which) = Removed (count_in es row which)
 
@@ -158,6 +161,8 @@ after_same s place (Bump kind) =
 after_same s place (Claim row qual value) =
     claim_same s row qual value _ (value_at s row qual) ∙ ap (λ o. or_in o (written_in (entries s) row qual value (place % 2 ^ 64)) (entries s)) (value_same s row qual)
 after_same s place (PutPoint point row qual value) = written_same s row qual value _
+after_same s place (AppendPoint point row piece) =
+    written_same s row column_qual _ _ ∙ ap (λ o. written_in (entries s) row column_qual (or_nothing o ++ piece) (place % 2 ^ 64)) (value_same s row column_qual)
 after_same s place (PutMerged row qual value) = written_same s row qual value _
 after_same s place (DropCells row which) = dropped_same s row which
 
@@ -168,6 +173,7 @@ reply_same s place (NextRow table from to) = refl
 reply_same s place (Bump kind) = ap (λ n. BumpReply (if nat_lt n (greatest s.widths kind) then Given (n + 1) else Full)) (counter_same s kind)
 reply_same s place (Claim row qual value) = ap (λ o. ClaimReply (claim_reply o)) (value_same s row qual)
 reply_same s place (PutPoint point row qual value) = refl
+reply_same s place (AppendPoint point row piece) = refl
 reply_same s place (PutMerged row qual value) = refl
 reply_same s place (DropCells row which) = ap Removed (count_same s row which)
 

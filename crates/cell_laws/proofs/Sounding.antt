@@ -6,11 +6,12 @@ use Rattle.tsd_base.specs.declared.kinds.Kind.{Kind}
 use Rattle.tsd_base.specs.declared.kinds.Kind.TheVariants.{Metric, TagKey, TagValue}
 use Rattle.tsd_base.specs.Alphabet.{IsName}
 use Rattle.row_key.specs.declared.tables.Table.TheVariants.{Ids, Points}
+use Rattle.qual_codec.specs.CellDots.{column_qual}
 use Rattle.cell_model.specs.declared.row.Row.{Row}
 use Rattle.cell_model.specs.declared.events.Place.{Place}
 use Rattle.cell_model.specs.declared.events.Content.{Content}
 use Rattle.cell_model.specs.declared.events.Step.{Step}
-use Rattle.cell_model.specs.declared.events.Step.TheVariants.{Open, Read, NextRow, Bump, Claim, PutPoint, PutMerged, DropCells}
+use Rattle.cell_model.specs.declared.events.Step.TheVariants.{Open, Read, NextRow, Bump, Claim, PutPoint, AppendPoint, PutMerged, DropCells}
 use Rattle.cell_model.specs.Store.{Store, place_of, content_at, value_at, written, dropped}
 use Rattle.cell_model.specs.Machine.{after, or_written, counter_row, counter_of, kind_qual, greatest}
 use Rattle.cell_model.specs.History.{History, base_of, len, store_after, Had}
@@ -159,6 +160,7 @@ step_counters h caller (Bump kind) place l may go qual v is = at (nat_lt (counte
         record { kind = kind; number = counter_of (store_after h) kind + 1; is_kind = ap (λ (p : Place). p.qual) same; least = omega arith; most = omega (arith, below); value_is = same_value v _ (sym there ∙ here) }
 step_counters h caller (Claim row q value) place l may go qual v is = go qual v (claim_counters (store_after h) row q value qual v _ (value_at (store_after h) row q) (claim_differs h caller row q value l may) is)
 step_counters h caller (PutPoint point row q value) place l may go qual v is = go qual v (counter_other (store_after h) row q value qual v _ (apart row qual q (point_differs row may.in_points)) is)
+step_counters h caller (AppendPoint point row piece) place l may go qual v is = go qual v (counter_other (store_after h) row column_qual _ qual v _ (apart row qual column_qual (point_differs row may.put.in_points)) is)
 step_counters h caller (PutMerged row q value) place l may go qual v is = go qual v (counter_other (store_after h) row q value qual v _ (apart row qual q (point_differs row may.in_points)) is)
 step_counters h caller (DropCells row which) place l may go qual v is = go qual v (value_step (store_after h) (dropped (store_after h) row which) counter_row qual v (λ c e. get-dropped (store_after h) row which (place_of counter_row qual) c e) is)
 

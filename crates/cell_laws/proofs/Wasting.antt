@@ -5,13 +5,14 @@ use Rattle.std.specs.Option.{option_map_or}
 use Rattle.std.specs.Int.{w64, to_be_bytes, from_be_bytes}
 use Rattle.tsd_base.specs.declared.kinds.Kind.{Kind}
 use Rattle.tsd_base.specs.Alphabet.{IsName}
+use Rattle.qual_codec.specs.CellDots.{column_qual}
 use Rattle.cell_model.specs.declared.answers.Bumped.TheVariants.{Given, Full}
 use Rattle.cell_model.specs.declared.row.Row.{Row}
 use Rattle.cell_model.specs.declared.events.Place.{Place}
 use Rattle.cell_model.specs.declared.events.Content.{Content}
 use Rattle.cell_model.specs.declared.events.Entry.{Entry}
 use Rattle.cell_model.specs.declared.events.Step.{Step}
-use Rattle.cell_model.specs.declared.events.Step.TheVariants.{Open, Read, NextRow, Bump, Claim, PutPoint, PutMerged, DropCells}
+use Rattle.cell_model.specs.declared.events.Step.TheVariants.{Open, Read, NextRow, Bump, Claim, PutPoint, AppendPoint, PutMerged, DropCells}
 use Rattle.cell_model.specs.declared.events.Reply.TheVariants.{BumpReply}
 use Rattle.cell_model.specs.Store.{Store, place_of, value_at, written, get}
 use Rattle.cell_model.specs.Machine.{after, reply_of, or_written, counter_row, counter_of, kind_qual, greatest}
@@ -72,6 +73,7 @@ step_counts h caller (Bump other) place kind l may = at (nat_lt (counter_of (sto
         }))
 step_counts h caller (Claim row qual value) place kind l may = inl (claim_same (store_after h) row qual value _ kind (value_at (store_after h) row qual) (claim_differs h caller row qual value l may))
 step_counts h caller (PutPoint point row qual value) place kind l may = inl (counter_same (store_after h) (after (store_after h) place (PutPoint point row qual value)) kind (content-written_other (store_after h) row qual value _ (place_of counter_row (kind_qual kind)) (row_differs row qual (kind_qual kind) (point_differs row may.in_points))))
+step_counts h caller (AppendPoint point row piece) place kind l may = inl (counter_same (store_after h) (after (store_after h) place (AppendPoint point row piece)) kind (content-written_other (store_after h) row column_qual _ _ (place_of counter_row (kind_qual kind)) (row_differs row column_qual (kind_qual kind) (point_differs row may.put.in_points))))
 step_counts h caller (PutMerged row qual value) place kind l may = inl (counter_same (store_after h) (after (store_after h) place (PutMerged row qual value)) kind (content-written_other (store_after h) row qual value _ (place_of counter_row (kind_qual kind)) (row_differs row qual (kind_qual kind) (point_differs row may.in_points))))
 step_counts h caller (DropCells row which) place kind l may = inl (counter_same (store_after h) (after (store_after h) place (DropCells row which)) kind (get-dropped_other (store_after h) row which (place_of counter_row (kind_qual kind)) (point_differs row may.in_points)))
 

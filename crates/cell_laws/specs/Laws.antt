@@ -7,11 +7,11 @@ use Rattle.row_key.specs.declared.keys.RowKey.{RowKey}
 use Rattle.row_key.specs.Key.{IsKey, key_bytes}
 use Rattle.cell_model.specs.KindWidths.{IsKindId, kind_bytes}
 use Rattle.row_key.specs.declared.tables.Table.TheVariants.{Points}
-use Rattle.qual_codec.specs.CellDots.{Reads}
+use Rattle.qual_codec.specs.CellDots.{Reads, column_qual}
 use Rattle.qual_codec.specs.Order.{IsBelow}
 use Rattle.cell_model.specs.declared.row.Row.{Row}
 use Rattle.cell_model.specs.declared.events.Step.{Step}
-use Rattle.cell_model.specs.declared.events.Step.TheVariants.{Bump, Claim, PutPoint, PutMerged, DropCells}
+use Rattle.cell_model.specs.declared.events.Step.TheVariants.{Bump, Claim, PutPoint, AppendPoint, PutMerged, DropCells}
 use Rattle.cell_model.specs.declared.events.Reply.{Reply}
 use Rattle.cell_model.specs.declared.events.Reply.TheVariants.{BumpReply, ClaimReply}
 use Rattle.cell_model.specs.declared.answers.Bumped.TheVariants.{Given}
@@ -147,6 +147,11 @@ pub record Kept (s : Store) (row : Row) (qual : List ℕ) : Type 0 where
 abbrev pub Keep : Type 0
 Keep = (h : History) (row : Row) (qual value : List ℕ) → IsLawful h → row.table ≡ Points → HadCell h row qual value → Kept (store_after h) row qual
 
+-- the column of appends, once there, stands, and what stood in it stands at its front
+abbrev pub ColumnGrows : Type 0
+ColumnGrows = (h : History) (n m : ℕ) (row : Row) (value : List ℕ) → IsLawful h → row.table ≡ Points → n ≤ m → value_at (store_after (first n h)) row column_qual ≡ Some value
+    → (more : List ℕ) × (value_at (store_after (first m h)) row column_qual ≡ Some (value ++ more))
+
 -- a qualifier that no standing one is strictly above
 abbrev pub IsGreatest : Store → Row → List ℕ → Type 0
 IsGreatest s row qual = (other value : List ℕ) → value_at s row other ≡ Some value → IsBelow qual other → ⊥
@@ -178,11 +183,12 @@ IsCompaction (PutMerged row qual value) = Unit {0}
 IsCompaction (DropCells row which) = Unit {0}
 IsCompaction _ = ⊥
 
--- the step puts no point and assigns no id: it opens, reads, merges or drops
+-- the step puts or appends no point and assigns no id: it opens, reads, merges or drops
 abbrev pub IsInvisible : Step → Type 0
 IsInvisible (Bump kind) = ⊥
 IsInvisible (Claim row qual value) = ⊥
 IsInvisible (PutPoint point row qual value) = ⊥
+IsInvisible (AppendPoint point row piece) = ⊥
 IsInvisible _ = Unit {0}
 
 -- where no series was given two values at one time, merges and drops change no reading that stands

@@ -15,11 +15,11 @@ pub use Rattle.cell_model.proofs.Stores.{get-removed_other, get-dropped_other, g
 pub use Rattle.cell_model.proofs.Shown.{value_among-cells_of}
 -- ---- a step on an owned body, and then its stamp
 -- they are the step at its place
-pub use Rattle.cell_model.proofs.Stamps.{bump_stamped, claim_stamped, put_stamped}
+pub use Rattle.cell_model.proofs.Stamps.{bump_stamped, claim_stamped, put_stamped, append_stamped}
 -- a step that changed nothing is so at each place
 pub use Rattle.cell_model.proofs.Stamps.{bump_full, claim_held}
 -- the cell that a step wrote is there
-pub use Rattle.cell_model.proofs.Stamps.{bump_there, claim_there, put_there}
+pub use Rattle.cell_model.proofs.Stamps.{bump_there, claim_there, put_there, append_there}
 -- ---- ids of a kind
 -- its width is one, each id fits four bytes, and the number of an id's bytes is the id
 pub use Rattle.cell_model.proofs.KindLemmas.{kind_fits, greatest_fits, number-bytes}

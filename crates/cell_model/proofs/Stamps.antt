@@ -7,7 +7,8 @@ use Rattle.cell_model.specs.declared.row.Row.{Row}
 use Rattle.cell_model.specs.declared.events.Step.TheVariants.{Bump, Claim, PutMerged}
 use Rattle.cell_model.specs.declared.answers.Bumped.TheVariants.{Given, Full}
 use Rattle.cell_model.specs.declared.answers.Claimed.TheVariants.{Done, Held}
-use Rattle.cell_model.specs.Store.{Store, content_at, value_at, with_cells, written, stamped}
+use Rattle.qual_codec.specs.CellDots.{column_qual}
+use Rattle.cell_model.specs.Store.{Store, content_at, value_at, with_cells, written, appended, stamped}
 use Rattle.cell_model.specs.Machine.{after, or_written, claim_reply, bump_reply, counter_row, counter_of, kind_qual, greatest}
 use Rattle.cell_model.proofs.Stores.{stamped-written, some_there}
 
@@ -66,3 +67,9 @@ put_stamped s row qual value place lt = stamped-written s row qual value 0 place
 
 pub put_there : (s : Store) (row : Row) (qual value : List ℕ) → content_at (after s 0 (PutMerged row qual value)) row qual ≢ None
 put_there s row qual value = some_there s row qual value 0
+
+pub append_stamped : (s : Store) (row : Row) (piece : List ℕ) (place : ℕ) → place < 2 ^ 64 → stamped (appended s row piece 0) row column_qual place ≡ appended s row piece (place % 2 ^ 64)
+append_stamped s row piece place lt = stamped-written s row column_qual _ 0 place ∙ ap (λ (n : ℕ). appended s row piece n) (sym (fits_place place lt))
+
+pub append_there : (s : Store) (row : Row) (piece : List ℕ) → content_at (appended s row piece 0) row column_qual ≢ None
+append_there s row piece = some_there s row column_qual _ 0

@@ -1,12 +1,12 @@
 -- Which entries are allowed after a history, and the histories that only have such.
-use Rattle.std.specs.Prelude.{◌≡◌, ◌⊎◌, ℕ, ◌+◌, List, Some, Contains}
+use Rattle.std.specs.Prelude.{◌≡◌, ◌⊎◌, ℕ, ◌+◌, List, ◌++◌, Some, Contains}
 use Rattle.tsd_base.specs.Points.{DataPoint}
 use Rattle.tsd_base.specs.declared.kinds.Kind.{Kind}
 use Rattle.row_key.specs.declared.tables.Table.{Table}
 use Rattle.row_key.specs.declared.tables.Table.TheVariants.{Ids, Names, Points}
 use Rattle.cell_model.specs.declared.row.Row.{Row}
 use Rattle.cell_model.specs.declared.events.Step.{Step}
-use Rattle.cell_model.specs.declared.events.Step.TheVariants.{Open, Read, NextRow, Bump, Claim, PutPoint, PutMerged, DropCells}
+use Rattle.cell_model.specs.declared.events.Step.TheVariants.{Open, Read, NextRow, Bump, Claim, PutPoint, AppendPoint, PutMerged, DropCells}
 use Rattle.cell_model.specs.declared.answers.Bumped.TheVariants.{Given}
 use Rattle.cell_model.specs.declared.answers.Claimed.TheVariants.{Done}
 use Rattle.cell_model.specs.Store.{value_at}
@@ -60,19 +60,26 @@ pub record PointBasis (w : Widths) (Has : Kind → List ℕ → ℕ → Type 0) 
   pub resolved : (kind : Kind) (name : List ℕ) → Contains (names_of point) (kind, name) → Has kind name (ids kind name)
   pub layout : IsLayout w ids point row.bytes qual value
 
--- what a merged cell stands on: it reads, and each of its data points stood in a cell of the row
+-- what an append of a point stands on: that a put of it may write some qualifier and value, and that these are its piece
+pub record AppendBasis (w : Widths) (Has : Kind → List ℕ → ℕ → Type 0) (point : DataPoint) (row : Row) (piece : List ℕ) : Type 0 where
+  pub qual : List ℕ
+  pub value : List ℕ
+  pub piece_is : piece ≡ qual ++ value
+  pub put : PointBasis w Has point row qual value
+
+-- what a merged cell stands on: it reads by its items, and each of its data points stood in a cell of the row that has it by items, so neither is the column
 pub record MergedBasis (HasCell : List ℕ → List ℕ → Type 0) (row : Row) (qual value : List ℕ) : Type 0 where
   pub in_points : row.table ≡ Points
   pub dots : List Dot
   pub reads : IsDots qual value dots
   pub each : (d : Dot) → Contains dots d → (q : List ℕ) × (v : List ℕ) × (ds : List Dot) × HasCell q v × IsDots q v ds × Contains ds d
 
--- what a drop stands on: for each qualifier a cell of the row strictly above it
+-- what a drop stands on: for each qualifier a cell of the row strictly above it, so neither is the column's
 pub record DropBasis (HasCell : List ℕ → List ℕ → Type 0) (row : Row) (which : List (List ℕ × ℕ)) : Type 0 where
   pub in_points : row.table ≡ Points
   pub each : (d : List ℕ × ℕ) → Contains which d → (q : List ℕ) × (v : List ℕ) × HasCell q v × IsBelow d.0 q
 
--- the step puts this cell of a point row
+-- the step puts this cell of a point row; an append puts none, but adds to one
 abbrev pub Wrote : Row → List ℕ → List ℕ → Step → Type 0
 Wrote row q v (PutPoint point r qual value) = (r ≡ row) × (qual ≡ q) × (value ≡ v)
 Wrote row q v (PutMerged r qual value) = (r ≡ row) × (qual ≡ q) × (value ≡ v)
@@ -90,6 +97,7 @@ MayStep h caller (NextRow table from to) = Unit {0}
 MayStep h caller (Bump kind) = Unit {0}
 MayStep h caller (Claim row qual value) = ClaimBasis (store_after h).widths (Had h) caller row.table row.bytes qual value
 MayStep h caller (PutPoint point row qual value) = PointBasis (store_after h).widths (λ kind name id. id_of h kind name ≡ Some id) point row qual value
+MayStep h caller (AppendPoint point row piece) = AppendBasis (store_after h).widths (λ kind name id. id_of h kind name ≡ Some id) point row piece
 MayStep h caller (PutMerged row qual value) = MergedBasis (HadCell h row) row qual value
 MayStep h caller (DropCells row which) = DropBasis (HadCell h row) row which
 

@@ -7,14 +7,14 @@ use Rattle.tsd_base.specs.declared.kinds.Kind.TheVariants.{Metric, TagKey, TagVa
 use Rattle.row_key.specs.declared.tables.Table.TheVariants.{Ids}
 use Rattle.cell_model.specs.declared.row.Row.{Row}
 use Rattle.cell_model.specs.declared.events.Step.{Step}
-use Rattle.cell_model.specs.declared.events.Step.TheVariants.{Open, Read, NextRow, Bump, Claim, PutPoint, PutMerged, DropCells}
+use Rattle.cell_model.specs.declared.events.Step.TheVariants.{Open, Read, NextRow, Bump, Claim, PutPoint, AppendPoint, PutMerged, DropCells}
 use Rattle.cell_model.specs.declared.events.Reply.{Reply}
 use Rattle.cell_model.specs.declared.events.Reply.TheVariants.{Opened, Shown, Next, BumpReply, ClaimReply, Written, Removed}
 use Rattle.cell_model.specs.declared.answers.Bumped.{Bumped}
 use Rattle.cell_model.specs.declared.answers.Bumped.TheVariants.{Given, Full}
 use Rattle.cell_model.specs.declared.answers.Claimed.{Claimed}
 use Rattle.cell_model.specs.declared.answers.Claimed.TheVariants.{Done, Held}
-use Rattle.cell_model.specs.Store.{Store, value_at, with_cells, written, cells_of, next_row_of, dropped, drop_count}
+use Rattle.cell_model.specs.Store.{Store, value_at, with_cells, written, appended, cells_of, next_row_of, dropped, drop_count}
 pub use Rattle.cell_model.specs.KindWidths.{greatest}
 
 -- the qualifiers `metrics`, `tagk` and `tagv`
@@ -56,6 +56,7 @@ stepped s place (Bump kind) =
     else s
 stepped s place (Claim row qual value) = or_written (value_at s row qual) (written s row qual value (place % 2 ^ 64)) s
 stepped s place (PutPoint point row qual value) = written s row qual value (place % 2 ^ 64)
+stepped s place (AppendPoint point row piece) = appended s row piece (place % 2 ^ 64)
 stepped s place (PutMerged row qual value) = written s row qual value (place % 2 ^ 64)
 stepped s place (DropCells row which) = dropped s row which
 
@@ -71,5 +72,6 @@ reply_of s place (NextRow table from to) = Next (next_row_of s table from to)
 reply_of s place (Bump kind) = BumpReply (bump_reply s kind)
 reply_of s place (Claim row qual value) = ClaimReply (claim_reply (value_at s row qual))
 reply_of s place (PutPoint point row qual value) = Written
+reply_of s place (AppendPoint point row piece) = Written
 reply_of s place (PutMerged row qual value) = Written
 reply_of s place (DropCells row which) = Removed (drop_count s row which)

@@ -9,10 +9,10 @@ use Rattle.row_key.specs.declared.widths.Widths.{Widths}
 use Rattle.row_key.specs.declared.keys.RowKey.{RowKey}
 use Rattle.row_key.specs.Key.{IsKey, key_bytes}
 use Rattle.qual_codec.specs.declared.cells.Dot.{Dot}
-use Rattle.qual_codec.specs.CellDots.{IsDots}
+use Rattle.qual_codec.specs.CellDots.{HoldsDots}
 use Rattle.cell_model.specs.declared.row.Row.{Row}
 use Rattle.cell_model.specs.declared.events.Step.{Step}
-use Rattle.cell_model.specs.declared.events.Step.TheVariants.{PutPoint}
+use Rattle.cell_model.specs.declared.events.Step.TheVariants.{PutPoint, AppendPoint}
 use Rattle.cell_model.specs.declared.events.Entry.{Entry}
 use Rattle.cell_model.specs.Store.{Store, value_at}
 use Rattle.cell_model.specs.History.{History, base_of, store_after, Had}
@@ -66,7 +66,7 @@ pub record DotReads (w : Widths) (names : Kind → ℕ → Option (List ℕ)) (r
 -- a cell of the row has this reading, with these names
 pub record CellReads (w : Widths) (names : Kind → ℕ → Option (List ℕ)) (row qual value : List ℕ) (r : Reading) : Type 0 where
   pub dots : List Dot
-  pub reads : IsDots qual value dots
+  pub reads : HoldsDots qual value dots
   pub dot : Dot
   pub among : Contains dots dot
   pub dot_reads : DotReads w names row dot r
@@ -83,12 +83,13 @@ pub record HasReading (names : Kind → ℕ → Option (List ℕ)) (s : Store) (
 abbrev pub IsStanding : History → Reading → Type 0
 IsStanding h r = HasReading (name_of h) (store_after h) r
 
--- the step puts a point of this reading
+-- the step puts or appends a point of this reading
 abbrev pub IsPut : Step → Reading → Type 0
 IsPut (PutPoint point row qual value) r = reading_of point ≡ r
+IsPut (AppendPoint point row piece) r = reading_of point ≡ r
 IsPut _ r = ⊥
 
--- the reading is of a cell of the base, with these names, or of a point that was put
+-- the reading is of a cell of the base, with these names, or of a point that was put or appended
 abbrev pub AcceptedBy : (Kind → ℕ → Option (List ℕ)) → History → Reading → Type 0
 AcceptedBy names h r = HasReading names (base_of h) r ⊎ ((e : Entry) × Had h e × IsPut e.step r)
 

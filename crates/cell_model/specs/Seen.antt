@@ -2,7 +2,7 @@
 use Rattle.std.specs.Prelude.{◌≡◌, ◌≢◌, ℕ, ◌+◌, ◌<◌, ◌≤◌, ◌⊎◌, List, Contains, Some, Bool, true}
 use Rattle.cell_model.specs.declared.events.Placed.{Placed}
 use Rattle.cell_model.specs.declared.events.Step.{Step}
-use Rattle.cell_model.specs.declared.events.Step.TheVariants.{Open, Read, NextRow, Bump, Claim, PutPoint, PutMerged, DropCells}
+use Rattle.cell_model.specs.declared.events.Step.TheVariants.{Open, Read, NextRow, Bump, Claim, PutPoint, AppendPoint, PutMerged, DropCells}
 use Rattle.row_key.specs.declared.tables.Table.{Table}
 use Rattle.cell_model.specs.declared.answers.RowsFault.{RowsFault}
 use Rattle.cell_model.specs.Stops.{RoseIf, is_stop}
@@ -19,7 +19,7 @@ use Rattle.cell_model.specs.declared.events.Reply.TheVariants.{Opened, Shown, Ne
 use Rattle.cell_model.specs.IdRows.{name_row}
 use Rattle.cell_model.specs.declared.events.Entry.{Entry}
 use Rattle.cell_model.specs.History.{History, base_of, len, entry_at}
-use Rattle.cell_model.specs.Lawful.{ClaimBasis, PointBasis, MergedBasis, DropBasis, IsLawful}
+use Rattle.cell_model.specs.Lawful.{ClaimBasis, PointBasis, AppendBasis, MergedBasis, DropBasis, IsLawful}
 
 -- What a caller has seen: the base, its number, the callers that it absorbed, a length, entries at their places, and whether it steps alone.
 pub record Seen : Type 0 where
@@ -75,7 +75,7 @@ pub record IsPossible (s : Seen) : Type 0 where
   pub fits : Fits s history
   pub whole : s.alone ≡ true → len history ≡ s.length
 
--- a step and its reply show that a cell of the row has this value: by a read, by a next row, by a claim or by a put
+-- a step and its reply show that a cell of the row has this value: by a read, by a next row, by a claim or by a put; what an append leaves depends on what was there
 pub data Shows : Row → List ℕ → List ℕ → Step → Reply → Type 0 where
   by_read : {row : Row} {qual value : List ℕ} {cells : List Cell} → value_among cells qual ≡ Some value → Shows row qual value (Read row) (Shown cells)
   by_next : {table : Table} {from to qual value : List ℕ} {found : Found} → value_among found.cells qual ≡ Some value → Shows found.row qual value (NextRow table from to) (Next (Some found))
@@ -96,6 +96,7 @@ Knows s (NextRow table from to) = Unit {0}
 Knows s (Bump kind) = Unit {0}
 Knows s (Claim row qual value) = ClaimBasis s.base.widths (λ e. (place : ℕ) × Saw s place e) s.caller row.table row.bytes qual value
 Knows s (PutPoint point row qual value) = PointBasis s.base.widths (λ kind name id. KnowsCell s (name_row name) (kind_qual kind) (kind_bytes s.base.widths kind id) × (id ≤ greatest s.base.widths kind)) point row qual value
+Knows s (AppendPoint point row piece) = AppendBasis s.base.widths (λ kind name id. KnowsCell s (name_row name) (kind_qual kind) (kind_bytes s.base.widths kind id) × (id ≤ greatest s.base.widths kind)) point row piece
 Knows s (PutMerged row qual value) = MergedBasis (KnowsCell s row) row qual value
 Knows s (DropCells row which) = DropBasis (KnowsCell s row) row which
 

@@ -1,5 +1,5 @@
 -- The store: how many bytes the ids of each kind have, and a finite map from a row and a qualifier to a value with its version. A row without a cell isn't there.
-use Rattle.std.specs.Prelude.{ℕ, ◌+◌, Bool, false, ◌&&◌, not, List, [], ◌∷◌, map, filter, find, Option, None, Some, option_map, nat_eq, nat_le, if◌then◌else◌}
+use Rattle.std.specs.Prelude.{ℕ, ◌+◌, Bool, false, ◌&&◌, not, List, [], ◌∷◌, ◌++◌, map, filter, find, Option, None, Some, option_map, nat_eq, nat_le, if◌then◌else◌}
 use Rattle.std.specs.Ordering.{nat_cmp, eq_by_cmp, is_lt}
 use Rattle.std.specs.Cmp.Lexicographic.{pointwise}
 pub use Rattle.cell_model.specs.PlaceOrder.{table_number, row_cmp, place_cmp}
@@ -12,6 +12,7 @@ use Rattle.cell_model.specs.declared.row.Row.{Row}
 use Rattle.cell_model.specs.declared.events.Place.{Place}
 use Rattle.cell_model.specs.declared.events.Content.{Content}
 use Rattle.qual_codec.specs.declared.cells.Cell.{Cell}
+use Rattle.qual_codec.specs.CellDots.{column_qual}
 use Rattle.cell_model.specs.declared.row.Found.{Found}
 
 -- what stands at each place that has a cell
@@ -62,6 +63,15 @@ value_at s row qual = option_map (λ c. c.value) (content_at s row qual)
 -- the store with this cell written, over an older one too
 abbrev pub written : Store → Row → List ℕ → List ℕ → ℕ → Store
 written s row qual value version = insert s (place_of row qual) (record { value = value; version = version })
+
+-- the bytes that stand there, none where no value does
+abbrev pub or_nothing : Option (List ℕ) → List ℕ
+or_nothing None = []
+or_nothing (Some value) = value
+
+-- the store with these bytes behind those of the row's column, where points are appended
+abbrev pub appended : Store → Row → List ℕ → ℕ → Store
+appended s row piece version = written s row column_qual (or_nothing (value_at s row column_qual) ++ piece) version
 
 -- the store with another version over this content, if there is one
 abbrev pub stamped_over : Option Content → Store → Row → List ℕ → ℕ → Store

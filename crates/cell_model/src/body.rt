@@ -2,7 +2,7 @@
 ghost use Rattle.std.specs.Prelude.{◌≡◌, ◌≢◌, IfOk, OnOk, OnErr, None, Bool, IsTrue, length};
 ghost use Rattle.cell_model.specs.declared.row.Row.{Row};
 ghost use Rattle.cell_model.specs.declared.events.Step.TheVariants.{Bump, Claim, PutMerged, DropCells};
-ghost use Rattle.cell_model.specs.Store.{Store, content_at, value_at, cells_of, next_row_of, is_between, drop_count, stamped};
+ghost use Rattle.cell_model.specs.Store.{Store, content_at, value_at, appended, cells_of, next_row_of, is_between, drop_count, stamped};
 ghost use Rattle.cell_model.specs.Counts.{counters_of, listing_of, point_entries, point_rows};
 ghost use Rattle.cell_model.specs.Sound.{CountersRead};
 ghost use Rattle.cell_model.specs.Ranges.{InOneRange};
@@ -80,6 +80,14 @@ pub trait Body {
         requires covered { IsTrue (covers self.old row.now) }
         requires no_counter { row.now ≢ counter_row }
         ensures ok { OnOk result (content self.new ≡ after (content self.old) 0 (PutMerged row.now qual.now value.now)) }
+        ensures err { OnErr result (content self.new ≡ content self.old) }
+        ensures covers { covers self.new ≡ covers self.old };
+
+    /// Adds a piece to the column of a row, behind what stands there. Its version is then 0.
+    fn append(&mut self, alloc: Global, row: &Row, piece: &Bytes) -> Result<(), AllocError>
+        requires covered { IsTrue (covers self.old row.now) }
+        requires no_counter { row.now ≢ counter_row }
+        ensures ok { OnOk result (content self.new ≡ appended (content self.old) row.now piece.now 0) }
         ensures err { OnErr result (content self.new ≡ content self.old) }
         ensures covers { covers self.new ≡ covers self.old };
 

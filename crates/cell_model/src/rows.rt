@@ -2,7 +2,7 @@
 ghost use Rattle.std.specs.Prelude.{ℕ, ◌≡◌, ◌+◌, ◌≤◌, IfOk, IfErr, OnOk, OnErr};
 ghost use Rattle.tsd_base.specs.Points.{data_point};
 ghost use Rattle.tsd_io.specs.Causes.{Rose};
-ghost use Rattle.cell_model.specs.declared.events.Step.TheVariants.{Read, NextRow, Bump, Claim, PutPoint, PutMerged, DropCells};
+ghost use Rattle.cell_model.specs.declared.events.Step.TheVariants.{Read, NextRow, Bump, Claim, PutPoint, AppendPoint, PutMerged, DropCells};
 ghost use Rattle.cell_model.specs.declared.events.Reply.TheVariants.{Shown, Next, BumpReply, ClaimReply, Written, Removed};
 ghost use Rattle.cell_model.specs.Ranges.{InOneRange};
 ghost use Rattle.cell_model.specs.Seen.{Seen, Waited, Stepped, IsPossible, Knows, RoseIfStopped};
@@ -15,13 +15,13 @@ use std::alloc::Global;
 use tsd_base::kinds::Kind;
 use tsd_base::points::Point;
 
-/// The seven steps that a caller makes on a store which others may step too, each of them at once.
+/// The eight steps that a caller makes on a store which others may step too, each of them at once.
 ///
 /// A call that answers Ok has made one entry of the store's history, and this is the last one that the caller has seen. A call
 /// that answers Err has made none. Either way all that was seen stays seen, no other new entry is this caller's, and there is a
 /// lawful history that fits what was seen.
 ///
-/// A step has to be known to be allowed, by what the caller has seen: `claim`, `put_point`, `put_merged` and `drop_cells` demand it.
+/// A step has to be known to be allowed, by what the caller has seen: `claim`, `put_point`, `append_point`, `put_merged` and `drop_cells` demand it.
 /// `Stopped` comes only where the count of stops rose.
 pub trait Rows {
     /// What this caller has seen, the base of the store included.
@@ -115,9 +115,29 @@ pub trait Rows {
         ensures stopped { IfErr result (RoseIfStopped (stops self.old) (stops self.new)) }
         ensures spare { OnOk result (2 ≤ spare self.new) };
 
+    /// Adds a point to the column of its row, behind what stands there.
+    ///
+    /// It is known to be allowed where an id of each name was seen, the row is the layout with these ids, and the piece is its qualifier and
+    /// then its value.
+    fn append_point(
+        &mut self,
+        alloc: Global,
+        point: &Point,
+        row: &Row,
+        piece: &Bytes,
+    ) -> Result<(), RowsFault>
+        requires knows { Knows (seen self.old) (AppendPoint (data_point point.now) row.now piece.now) }
+        ensures ok { OnOk result (Stepped (seen self.old) (AppendPoint (data_point point.now) row.now piece.now) Written (seen self.new)) }
+        ensures err { OnErr result (Waited (seen self.old) (seen self.new)) }
+        ensures possible { OnOk result (IsPossible (seen self.new)) }
+        ensures lives { OnErr result (IsPossible (seen self.old) → IsPossible (seen self.new)) }
+        ensures grows { stops self.old ≤ stops self.new }
+        ensures stopped { IfErr result (RoseIfStopped (stops self.old) (stops self.new)) }
+        ensures spare { OnOk result (2 ≤ spare self.new) };
+
     /// Writes a cell that merges others of its point row, over an older one too.
     ///
-    /// It is known to be allowed where it reads, and each of its data points was seen in a cell of the row.
+    /// It is known to be allowed where it reads by its items, and each of its data points was seen in a cell of the row other than the column.
     fn put_merged(
         &mut self,
         alloc: Global,
@@ -136,7 +156,8 @@ pub trait Rows {
 
     /// Removes each cell that is named and has a version not above the one named, and answers how many. It needs no memory.
     ///
-    /// It is known to be allowed where, for each that is named, a cell of the row strictly above it was seen.
+    /// It is known to be allowed where, for each that is named, a cell of the row strictly above it was seen. Nothing is above the column, nor is
+    /// it above anything.
     fn drop_cells(&mut self, row: Row, which: Drops) -> Result<u64, Stopped>
         requires knows { Knows (seen self.old) (DropCells row which) }
         requires spare { 1 ≤ spare self.old }

@@ -9,7 +9,7 @@ use Rattle.std.specs.FinMap.Entries.{find}
 use Rattle.std.proofs.lemmas.Bool.Decides.{nat_tests}
 use Rattle.cell_model.specs.declared.row.Row.{Row}
 use Rattle.cell_model.specs.declared.events.Step.{Step}
-use Rattle.cell_model.specs.declared.events.Step.TheVariants.{Open, Read, NextRow, Bump, Claim, PutPoint, PutMerged, DropCells}
+use Rattle.cell_model.specs.declared.events.Step.TheVariants.{Open, Read, NextRow, Bump, Claim, PutPoint, AppendPoint, PutMerged, DropCells}
 use Rattle.cell_model.specs.declared.events.Place.{Place}
 use Rattle.cell_model.specs.declared.events.Content.{Content}
 use Rattle.cell_model.specs.Store.{Store, entries, get, place_cmp, stamped}
@@ -126,6 +126,7 @@ module _ (w : Widths) (region : Row → ℕ) where
   not_both k j (Bump kind) is ne = one_region k j counter_row is ne
   not_both k j (Claim row qual value) is ne = one_region k j row is ne
   not_both k j (PutPoint point row qual value) is ne = one_region k j row is ne
+  not_both k j (AppendPoint point row piece) is ne = one_region k j row is ne
   not_both k j (PutMerged row qual value) is ne = one_region k j row is ne
   not_both k j (DropCells row which) is ne = one_region k j row is ne
 

@@ -12,15 +12,16 @@ use Rattle.std.specs.FinMap.Entries as fe
 use Rattle.list_lemmas.proofs.BoolTests.{is_equal}
 use Rattle.cell_model.specs.declared.row.Row.{Row}
 use Rattle.qual_codec.specs.declared.cells.Cell.{Cell}
+use Rattle.qual_codec.specs.CellDots.{column_qual}
 use Rattle.cell_model.specs.declared.row.Found.{Found}
 use Rattle.tsd_base.specs.declared.kinds.Kind.{Kind}
 use Rattle.row_key.specs.declared.tables.Table.{Table}
 use Rattle.cell_model.specs.declared.events.Step.{Step}
-use Rattle.cell_model.specs.declared.events.Step.TheVariants.{Open, Read, NextRow, Bump, Claim, PutPoint, PutMerged, DropCells}
+use Rattle.cell_model.specs.declared.events.Step.TheVariants.{Open, Read, NextRow, Bump, Claim, PutPoint, AppendPoint, PutMerged, DropCells}
 use Rattle.cell_model.specs.declared.answers.Bumped.TheVariants.{Given, Full}
 use Rattle.cell_model.specs.declared.events.Place.{Place}
 use Rattle.cell_model.specs.declared.events.Content.{Content}
-use Rattle.cell_model.specs.Store.{Store, entries, get, insert, no_cells, remove, with_cells, row_cmp, place_cmp, place_of, content_at, value_at, written, stamped, stamped_over, is_dropped, dropped, drop_count, cells_of, cell_of, is_between, next_row_of}
+use Rattle.cell_model.specs.Store.{Store, entries, get, insert, no_cells, remove, with_cells, row_cmp, place_cmp, place_of, content_at, value_at, written, or_nothing, stamped, stamped_over, is_dropped, dropped, drop_count, cells_of, cell_of, is_between, next_row_of}
 use Rattle.cell_model.specs.Machine.{after, stepped, reply_of, counter_row, kind_qual, counter_of, or_written, greatest, claim_reply}
 use Rattle.cell_model.specs.declared.events.Reply.TheVariants.{Next, Shown, BumpReply, ClaimReply, Removed}
 use Rattle.cell_model.specs.History.{History, store_after, len, base_of}
@@ -229,6 +230,8 @@ module _ (mine : Row → Bool) where
       ]
       ∙ ap (λ o. or_written o (written (part mine s) row qual value (place % 2 ^ 64)) (part mine s)) (sym (value-part s row qual is))
   stepped-mine s place (PutPoint point row qual value) is = part-insert_mine s _ _ is
+  stepped-mine s place (AppendPoint point row piece) is =
+      part-insert_mine s _ _ is ∙ ap (λ o. written (part mine s) row column_qual (or_nothing o ++ piece) (place % 2 ^ 64)) (sym (value-part s row column_qual is))
   stepped-mine s place (PutMerged row qual value) is = part-insert_mine s _ _ is
   stepped-mine s place (DropCells row which) is = dropped-part s row which is
 
@@ -247,6 +250,7 @@ module _ (mine : Row → Bool) where
         | Some v ↦ refl
       ]
   stepped-other s place (PutPoint point row qual value) is = part-insert_other s _ _ is
+  stepped-other s place (AppendPoint point row piece) is = part-insert_other s _ _ is
   stepped-other s place (PutMerged row qual value) is = part-insert_other s _ _ is
   stepped-other s place (DropCells row which) is = dropped-other s row which is
 
@@ -263,6 +267,7 @@ module _ (mine : Row → Bool) where
   reply-part s place (Bump kind) is stays = ap (λ n. BumpReply (if nat_lt n (greatest s.widths kind) then Given (n + 1) else Full)) (counter-part s kind is)
   reply-part s place (Claim row qual value) is stays = ap (λ o. ClaimReply (claim_reply o)) (value-part s row qual is)
   reply-part s place (PutPoint point row qual value) is stays = refl
+  reply-part s place (AppendPoint point row piece) is stays = refl
   reply-part s place (PutMerged row qual value) is stays = refl
   reply-part s place (DropCells row which) is stays = ap Removed (drop_count-part s row which is)
 

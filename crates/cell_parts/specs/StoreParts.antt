@@ -5,7 +5,7 @@ use Rattle.row_key.specs.declared.widths.Widths.{Widths}
 use Rattle.row_key.specs.Regions.{region_number}
 use Rattle.cell_model.specs.declared.row.Row.{Row}
 use Rattle.cell_model.specs.declared.events.Step.{Step}
-use Rattle.cell_model.specs.declared.events.Step.TheVariants.{Open, Read, NextRow, Bump, Claim, PutPoint, PutMerged, DropCells}
+use Rattle.cell_model.specs.declared.events.Step.TheVariants.{Open, Read, NextRow, Bump, Claim, PutPoint, AppendPoint, PutMerged, DropCells}
 use Rattle.cell_model.specs.declared.events.Entry.{Entry}
 use Rattle.cell_model.specs.declared.events.Placed.{Placed}
 use Rattle.cell_model.specs.Store.{Store, entries, is_between}
@@ -37,6 +37,7 @@ is_mine mine (NextRow table from to) = mine (record { table = table; bytes = fro
 is_mine mine (Bump kind) = mine counter_row
 is_mine mine (Claim row qual value) = mine row
 is_mine mine (PutPoint point row qual value) = mine row
+is_mine mine (AppendPoint point row piece) = mine row
 is_mine mine (PutMerged row qual value) = mine row
 is_mine mine (DropCells row which) = mine row
 

@@ -111,6 +111,14 @@ impl Body for Region {
         self.body.put(alloc, row, qual, value)
     }
 
+    #[inline(always)]
+    fn append(&mut self, alloc: Global, row: &Row, piece: &Bytes) -> Result<(), AllocError> {
+        if self.body.point_cells() >= MOST_CELLS {
+            return Err(AllocError);
+        }
+        self.body.append(alloc, row, piece)
+    }
+
     fn drop_cells(&mut self, row: &Row, which: &Drops) -> u64 {
         self.body.drop_cells(row, which)
     }

@@ -158,6 +158,13 @@ impl Body for Regions {
         region.put(alloc, row, qual, value)
     }
 
+    #[inline(always)]
+    fn append(&mut self, alloc: Global, row: &Row, piece: &Bytes) -> Result<(), AllocError> {
+        let number = number_of(row.table, row.bytes.list(), self.data_regions, self.widths);
+        let region = &mut self.regions[number];
+        region.append(alloc, row, piece)
+    }
+
     fn drop_cells(&mut self, row: &Row, which: &Drops) -> u64 {
         let number = number_of(row.table, row.bytes.list(), self.data_regions, self.widths);
         let region = &mut self.regions[number];

@@ -1,6 +1,6 @@
 -- What was packed last is unpacked last.
 use Rattle.std.proofs.Common.{◌≡◌, ◌⊎◌, inl, inr, ℕ, zero, suc, ◌+◌, ◌*◌, ◌/◌, ◌%◌, ◌^◌, ◌≤◌, ◌<◌, cond, List, [], ◌∷◌, ◌++◌, length, take, drop, refl, sym, ap, subst, ◌∙◌, arith}
-use Rattle.std.specs.Prelude.{sum_by, count_by, nat_eq, ℤ, All, Some, slice_get}
+use Rattle.std.specs.Prelude.{sum_by, count_by, nat_eq, ℤ, Bool, true, false, if◌then◌else◌, All, Some, slice_get}
 use mir.Val.{bits}
 use Rattle.std.specs.Int.{to_be_bytes, from_be_bytes, cast_unsigned, cast_signed}
 use Rattle.std.proofs.lemmas.Nat.{from_be_bytes-to_be_bytes_2, from_be_bytes-to_be_bytes_4, from_be_bytes-to_be_bytes_8}
@@ -16,21 +16,21 @@ use Rattle.tsd_base.specs.Points.{DataPoint}
 use Rattle.qual_codec.specs.Items.{IsLength, item_bytes}
 use Rattle.qual_codec.specs.Items.IsLength.{one, two, four, eight}
 use Rattle.qual_codec.specs.CellDots.{width_of}
-use Rattle.qual_codec.specs.Spelling.{IsShortest, dot_of}
+use Rattle.qual_codec.specs.Spelling.{IsShortest}
 use Rattle.tsd_base.specs.declared.kinds.Kind.{Kind}
 use Rattle.cell_model.specs.declared.row.Row.{Row}
 use Rattle.cell_model.specs.KindWidths.{Widths}
 use Rattle.cell_model.specs.Layout.{IsLayout}
 use Rattle.row_key.specs.declared.tables.Table.{Table}
 use Rattle.cell_model.specs.declared.events.Step.{Step}
-use Rattle.cell_model.specs.declared.events.Step.TheVariants.{NextRow, PutPoint}
+use Rattle.cell_model.specs.declared.events.Step.TheVariants.{NextRow, PutPoint, AppendPoint}
 use Rattle.cell_solo.specs.declared.turns.Head.{Head}
 use Rattle.cell_solo.specs.declared.turns.Head.TheVariants as head
 use Rattle.cell_solo.specs.declared.turns.Dropped.{Dropped}
 use Rattle.cell_solo.specs.Turns.{Turn}
 use Rattle.cell_solo.specs.declared.turn_bytes.CellLengths.{CellLengths}
 use Rattle.cell_solo.specs.TurnPlaces.{NamedRow, named_row_of, HasAlso, IsOnlyOfRow}
-use Rattle.cell_solo.specs.PackedTurns.{row_in, qual_in, value_in, number_in, put_at, cell_size, caller_of, step_in, size_of, drops_of, places_of, unpacked, IsPutAmong, IsOnlyPut, Fills}
+use Rattle.cell_solo.specs.PackedTurns.{row_in, qual_in, value_in, number_in, store_step, put_at, cell_size, caller_of, step_in, size_of, drops_of, places_of, unpacked, IsPutAmong, IsOnlyPut, Fills}
 use Rattle.cell_solo.proofs.Placing.{slice_get-append_left, slice_get-push, got_push}
 
 none : {A : Type 0} (xs : List A) → 0 ≡ length xs → xs ≡ []
@@ -79,7 +79,7 @@ step-kept (head.Read caller table row) bytes drops places more le = refl
 step-kept (head.NextRow caller table from to) bytes drops places more le = refl
 step-kept (head.Bump caller kind) bytes drops places more le = refl
 step-kept (head.Claim caller table cell) bytes drops places more le = refl
-step-kept (head.PutPoint caller fine value place offset) bytes drops places more le = ap (put_at fine offset bytes) (slice_get-append_left places more place (omega (arith, le)))
+step-kept (head.PutPoint caller appends fine value place offset) bytes drops places more le = ap (put_at appends fine offset bytes) (slice_get-append_left places more place (omega (arith, le)))
 step-kept (head.PutMerged caller table cell) bytes drops places more le = refl
 step-kept (head.DropCells caller) bytes [] places more le = refl
 step-kept (head.DropCells caller) bytes (d ∷ drops) places more le = refl
@@ -103,10 +103,10 @@ pub record Pushed (heads : List Head) (bytes : List ℕ) (drops : List Dropped) 
 put_still : (turns : List Turn) (turn : Turn) (p : NamedRow) → IsPutAmong turns p → IsPutAmong (turns ++ turn ∷ []) p
 put_still turns turn p put =
     let within : put.at < length turns = slice_get_within turns put.at _ put.stands in
-    record { at = put.at; caller = put.caller; point = put.point; qual = put.qual; value = put.value; stands = slice_get-append_left turns (turn ∷ []) put.at within ∙ put.stands; named = put.named }
+    record { at = put.at; caller = put.caller; appends = put.appends; point = put.point; qual = put.qual; value = put.value; stands = slice_get-append_left turns (turn ∷ []) put.at within ∙ put.stands; named = put.named }
 
-put_last : (turns : List Turn) (caller : ℕ) (point : DataPoint) (row : Row) (qual value : List ℕ) → IsPutAmong (turns ++ record { caller = caller; step = PutPoint point row qual value } ∷ []) (named_row_of point row)
-put_last turns caller point row qual value = record { at = length turns; caller = caller; point = point; qual = qual; value = value; stands = slice_get-push turns _; named = refl }
+put_last : (turns : List Turn) (caller : ℕ) (appends : Bool) (point : DataPoint) (row : Row) (qual value : List ℕ) → IsPutAmong (turns ++ record { caller = caller; step = store_step appends point row qual value } ∷ []) (named_row_of point row)
+put_last turns caller appends point row qual value = record { at = length turns; caller = caller; appends = appends; point = point; qual = qual; value = value; stands = slice_get-push turns _; named = refl }
 
 -- each place was there, or is that of a put among these turns
 abbrev pub ArePut : List NamedRow → List NamedRow → List Turn → Type 0
@@ -216,33 +216,72 @@ short_value value bytes shortest = at (length bytes) shortest.len
     at _ four = omega arith
     at _ eight = omega arith
 
--- the put of a point with this value, whose qualifier is one item
-abbrev pub point_step : DataPoint → Row → List ℕ → Step
-point_step point row value = PutPoint point row (item_bytes (record { offset = point.time % HOUR_MILLIS; fine = point.fine; len = length value })) value
+-- the one item of a point with this value
+abbrev pub item_of : DataPoint → List ℕ → List ℕ
+item_of point value = item_bytes (record { offset = point.time % HOUR_MILLIS; fine = point.fine; len = length value })
+
+-- the put or the append of a point with this value, whose qualifier is one item
+abbrev pub item_step : Bool → DataPoint → Row → List ℕ → Step
+item_step appends point row value = store_step appends point row (item_of point value) value
+
+-- a layout's qualifier is that item
+layout_qual : {w : Widths} (ids : Kind → List ℕ → ℕ) (point : DataPoint) (row : Row) (qual value : List ℕ) → IsLayout w ids point row.bytes qual value → qual ≡ item_of point value
+layout_qual ids point row qual value layout = layout.dot.items.qual_is ∙ append-nil (item_of point value)
 
 -- a put of a point's layout is that of its one item
-pub put_of_layout : {w : Widths} (ids : Kind → List ℕ → ℕ) (turns new : List Turn) (caller : ℕ) (point : DataPoint) (row : Row) (qual value : List ℕ) → IsLayout w ids point row.bytes qual value
-    → new ≡ turns ++ record { caller = caller; step = point_step point row value } ∷ [] → new ≡ turns ++ record { caller = caller; step = PutPoint point row qual value } ∷ []
-put_of_layout ids turns new caller point row qual value layout is =
-    let item = (dot_of (point.time % HOUR_MILLIS) point.fine point.value (length value)).item in
-    let qual_is : qual ≡ item_bytes item = layout.dot.items.qual_is ∙ append-nil (item_bytes item) in
-    is ∙ ap (λ (q : List ℕ). turns ++ record { caller = caller; step = PutPoint point row q value } ∷ []) (sym qual_is)
+pub put_of_layout : {w : Widths} (ids : Kind → List ℕ → ℕ) (turns new : List Turn) (caller : ℕ) (point : DataPoint) (row : Row) (qual value value' : List ℕ) → IsLayout w ids point row.bytes qual value → value' ≡ value
+    → new ≡ turns ++ record { caller = caller; step = item_step false point row value' } ∷ [] → new ≡ turns ++ record { caller = caller; step = PutPoint point row qual value } ∷ []
+put_of_layout ids turns new caller point row qual value value' layout same is =
+    is ∙ (λ i. turns ++ record { caller = caller; step = item_step false point row (same i) } ∷ [])
+    ∙ ap (λ (q : List ℕ). turns ++ record { caller = caller; step = PutPoint point row q value } ∷ []) (sym (layout_qual ids point row qual value layout))
 
--- a put is read back of its place, of its time within the hour, and of its value
-pub put_back : (point : DataPoint) (row : Row) (value : List ℕ) (place : ℕ) (places : List NamedRow) → IsShortest point.value value → slice_get places place ≡ Some (named_row_of point row)
-    → put_at point.fine (point.time % HOUR_MILLIS) value (slice_get places place) ≡ point_step point row value
-put_back point row value place places shortest e =
+-- an item has 4 bytes where it is fine, else 2
+item_length : (point : DataPoint) (value : List ℕ) → length (item_of point value) ≡ (if point.fine then 4 else 2)
+item_length point value = at point.fine
+  where
+    at : (fine : Bool) → length (item_bytes (record { offset = point.time % HOUR_MILLIS; fine = fine; len = length value })) ≡ (if fine then 4 else 2)
+    at true = refl
+    at false = refl
+
+-- what is known of the piece of an append: it is a point's one item, and then its value
+pub record IsPieceOf (point : DataPoint) (piece value : List ℕ) : Type 0 where
+  pub long : (if point.fine then 4 else 2) ≤ length piece
+  pub value_is : drop (if point.fine then 4 else 2) piece ≡ value
+  pub piece_is : piece ≡ item_of point value ++ value
+
+pub piece_of : {w : Widths} (ids : Kind → List ℕ → ℕ) (point : DataPoint) (row : Row) (piece qual value : List ℕ) → IsLayout w ids point row.bytes qual value → piece ≡ qual ++ value → IsPieceOf point piece value
+piece_of ids point row piece qual value layout is =
+    let item = item_of point value in
+    let whole_is : piece ≡ item ++ value = is ∙ ap (λ (q : List ℕ). q ++ value) (layout_qual ids point row qual value layout) in
+    let len = item_length point value in
+    record {
+      long = omega (arith, ap length whole_is, length-append item value, len);
+      value_is = (λ i. drop (sym len i) (whole_is i)) ∙ drop-append_seam item value;
+      piece_is = whole_is;
+    }
+
+-- an append of that value is one of the piece
+pub append_of_piece : (turns new : List Turn) (caller : ℕ) (point : DataPoint) (row : Row) (piece value value' : List ℕ) → IsPieceOf point piece value → value' ≡ drop (if point.fine then 4 else 2) piece
+    → new ≡ turns ++ record { caller = caller; step = item_step true point row value' } ∷ [] → new ≡ turns ++ record { caller = caller; step = AppendPoint point row piece } ∷ []
+append_of_piece turns new caller point row piece value value' of_point v is =
+    let value_is : value' ≡ value = v ∙ of_point.value_is in
+    is ∙ ap (λ (bs : List ℕ). turns ++ record { caller = caller; step = AppendPoint point row bs } ∷ []) (ap (λ (xs : List ℕ). item_of point xs ++ xs) value_is ∙ sym of_point.piece_is)
+
+-- a put or an append is read back of its place, of its time within the hour, and of its value
+pub put_back : (appends : Bool) (point : DataPoint) (row : Row) (value : List ℕ) (place : ℕ) (places : List NamedRow) → IsShortest point.value value → slice_get places place ≡ Some (named_row_of point row)
+    → put_at appends point.fine (point.time % HOUR_MILLIS) value (slice_get places place) ≡ item_step appends point row value
+put_back appends point row value place places shortest e =
     let time : point.time / HOUR_MILLIS * HOUR_MILLIS + point.time % HOUR_MILLIS ≡ point.time = omega arith in
-    ap (put_at point.fine (point.time % HOUR_MILLIS) value) e
-    ∙ (λ i. PutPoint (record { metric = point.metric; tags = point.tags; time = time i; fine = point.fine; value = number_back point.value value shortest i }) row (item_bytes (record { offset = point.time % HOUR_MILLIS; fine = point.fine; len = length value })) value)
+    ap (put_at appends point.fine (point.time % HOUR_MILLIS) value) e
+    ∙ (λ i. store_step appends (record { metric = point.metric; tags = point.tags; time = time i; fine = point.fine; value = number_back point.value value shortest i }) row (item_of point value) value)
 
--- a place that is there, or comes behind the others, is that of the put
-put_also : (places places' : List NamedRow) (turns : List Turn) (caller : ℕ) (point : DataPoint) (row : Row) (qual value : List ℕ) → HasAlso places (named_row_of point row) places'
-    → ArePut places places' (turns ++ record { caller = caller; step = PutPoint point row qual value } ∷ [])
-put_also places places' turns caller point row qual value (inl same) k p s = inl (subst (λ (ps : List NamedRow). slice_get ps k ≡ Some p) same s)
-put_also places places' turns caller point row qual value (inr more) k p s =
+-- a place that is there, or comes behind the others, is that of the put or the append
+put_also : (places places' : List NamedRow) (turns : List Turn) (caller : ℕ) (appends : Bool) (point : DataPoint) (row : Row) (qual value : List ℕ) → HasAlso places (named_row_of point row) places'
+    → ArePut places places' (turns ++ record { caller = caller; step = store_step appends point row qual value } ∷ [])
+put_also places places' turns caller appends point row qual value (inl same) k p s = inl (subst (λ (ps : List NamedRow). slice_get ps k ≡ Some p) same s)
+put_also places places' turns caller appends point row qual value (inr more) k p s =
     elim (got_push places (named_row_of point row) p k (subst (λ (ps : List NamedRow). slice_get ps k ≡ Some p) more s)) [
-      | inl last ↦ inr (subst (IsPutAmong (turns ++ record { caller = caller; step = PutPoint point row qual value } ∷ [])) last (put_last turns caller point row qual value))
+      | inl last ↦ inr (subst (IsPutAmong (turns ++ record { caller = caller; step = store_step appends point row qual value } ∷ [])) last (put_last turns caller appends point row qual value))
       | inr old ↦ inl old
     ]
 
@@ -255,17 +294,17 @@ pub only_there : (heads : List Head) (bytes : List ℕ) (drops : List Dropped) (
     → IsOnlyOfRow places named
 only_there heads bytes drops places named fills only = record { each = λ k p s. only.each p (fills.places_put k p s) }
 
--- what a put of a point makes of packed turns
-pub put_pushed : (heads : List Head) (bytes : List ℕ) (drops : List Dropped) (places : List NamedRow) (caller : ℕ) (point : DataPoint) (row : Row) (value value' : List ℕ) (place : ℕ)
+-- what a put or an append of a point makes of packed turns
+pub put_pushed : (heads : List Head) (bytes : List ℕ) (drops : List Dropped) (places : List NamedRow) (caller : ℕ) (appends : Bool) (point : DataPoint) (row : Row) (value : List ℕ) (place : ℕ)
     (heads' : List Head) (bytes' : List ℕ) (places' : List NamedRow)
-    → Fills heads bytes drops places → IsShortest point.value value → value' ≡ value → slice_get places' place ≡ Some (named_row_of point row) → HasAlso places (named_row_of point row) places'
-    → heads' ≡ heads ++ head.PutPoint caller point.fine (length value') place (point.time % HOUR_MILLIS) ∷ [] → bytes' ≡ bytes ++ value'
-    → Pushed heads' bytes' drops places' (unpacked heads bytes drops places) (record { caller = caller; step = point_step point row value })
-put_pushed heads bytes drops places caller point row value value' place heads' bytes' places' fills shortest v stands also eh eb =
+    → Fills heads bytes drops places → IsShortest point.value value → slice_get places' place ≡ Some (named_row_of point row) → HasAlso places (named_row_of point row) places'
+    → heads' ≡ heads ++ head.PutPoint caller appends point.fine (length value) place (point.time % HOUR_MILLIS) ∷ [] → bytes' ≡ bytes ++ value
+    → Pushed heads' bytes' drops places' (unpacked heads bytes drops places) (record { caller = caller; step = item_step appends point row value })
+put_pushed heads bytes drops places caller appends point row value place heads' bytes' places' fills shortest stands also eh eb =
     let within : place < length places' = slice_get_within places' place (named_row_of point row) stands in
     let there : place + 1 ≤ length places' = omega (arith, within) in
     let more = goes_on places places' (named_row_of point row) also in
-    pushed heads bytes drops places (head.PutPoint caller point.fine (length value') place (point.time % HOUR_MILLIS)) value' [] more.0 (point_step point row value)
+    pushed heads bytes drops places (head.PutPoint caller appends point.fine (length value) place (point.time % HOUR_MILLIS)) value [] more.0 (item_step appends point row value)
     heads' bytes' drops places' fills (record { bytes_are = refl; drops_are = refl }) there
-    (ap (λ (bs : List ℕ). put_at point.fine (point.time % HOUR_MILLIS) bs (slice_get places' place)) v ∙ put_back point row value place places' shortest stands) eh eb (same drops drops refl) more.1
-    (put_also places places' (unpacked heads bytes drops places) caller point row _ value also)
+    (put_back appends point row value place places' shortest stands) eh eb (same drops drops refl) more.1
+    (put_also places places' (unpacked heads bytes drops places) caller appends point row _ value also)

@@ -6,7 +6,7 @@ use Rattle.row_key.specs.declared.tables.Table.{Table}
 use Rattle.row_key.specs.declared.tables.Table.TheVariants.{Ids, Names, Points}
 use Rattle.cell_model.specs.declared.row.Row.{Row}
 use Rattle.cell_model.specs.declared.events.Step.{Step}
-use Rattle.cell_model.specs.declared.events.Step.TheVariants.{Open, Read, NextRow, Bump, Claim, PutPoint, PutMerged, DropCells}
+use Rattle.cell_model.specs.declared.events.Step.TheVariants.{Open, Read, NextRow, Bump, Claim, PutPoint, AppendPoint, PutMerged, DropCells}
 use Rattle.cell_model.specs.declared.events.Reply.{Reply}
 use Rattle.cell_model.specs.declared.events.Entry.{Entry}
 use Rattle.cell_model.specs.declared.events.Placed.{Placed}
@@ -99,6 +99,7 @@ opened_step h caller (NextRow table from to) had = had
 opened_step h caller (Bump kind) had = had
 opened_step h caller (Claim row qual value) had = had
 opened_step h caller (PutPoint point row qual value) had = had
+opened_step h caller (AppendPoint point row piece) had = had
 opened_step h caller (PutMerged row qual value) had = had
 opened_step h caller (DropCells row which) had = had
 

@@ -1,6 +1,6 @@
 -- The points that a lawful history has put into one row have the same names and the same hour.
 use Rattle.std.proofs.Common.{◌≡◌, ℕ, zero, suc, ◌/◌, List, [], ◌∷◌, sym, ap, subst, ◌∙◌, arith}
-use Rattle.std.specs.Prelude.{Bool, nat_eq, Some, slice_get}
+use Rattle.std.specs.Prelude.{Bool, true, false, nat_eq, Some, slice_get}
 use Rattle.tsd_base.specs.declared.kinds.Kind.TheVariants.{Metric}
 use Rattle.tsd_base.specs.Points.{DataPoint}
 use Rattle.row_hours.specs.declared.hours.TheConstants.{HOUR_MILLIS}
@@ -21,7 +21,7 @@ use Rattle.cell_model.specs.Seen.{Knows}
 use Rattle.cell_solo.proofs.Plays.{fits_whole}
 use Rattle.cell_solo.specs.Turns.{Turn, entry_of, played, Play, IsPlayed, history_of, sight}
 use Rattle.cell_solo.specs.TurnPlaces.{named_row_of}
-use Rattle.cell_solo.specs.PackedTurns.{IsOnlyPut}
+use Rattle.cell_solo.specs.PackedTurns.{IsOnlyPut, store_step}
 
 -- a row is of one series and one hour
 named_once : (h : History) (row : Row) (p q : DataPoint) (qual value qual' value' : List ℕ) → PutReads h p row qual value → PutReads h q row qual' value' → named_row_of p row ≡ named_row_of q row
@@ -53,15 +53,26 @@ turn_allowed h (t ∷ turns) zero turn l e =
     record { before = h; begins = begins_played h (t ∷ turns); may = subst (λ (x : Turn). MayStep h x.caller x.step) same lawful.1.may }
 turn_allowed h (t ∷ turns) (suc k) turn l e = turn_allowed (Then h (entry_of h t)) turns k turn l e
 
--- what was put before into the row of a put that is allowed has its names and its hour
+-- what a put or an append of a point stands on: a put of it may be made
+record MayPut (h : History) (caller : ℕ) (point : DataPoint) (row : Row) : Type 0 where
+  qual : List ℕ
+  value : List ℕ
+  may : MayStep h caller (PutPoint point row qual value)
+
+may_put : (h : History) (caller : ℕ) (appends : Bool) (point : DataPoint) (row : Row) (qual value : List ℕ) → MayStep h caller (store_step appends point row qual value) → MayPut h caller point row
+may_put h caller false point row qual value may = record { qual = qual; value = value; may = may }
+may_put h caller true point row qual value may = record { qual = may.qual; value = may.value; may = may.put }
+
+-- what was put or appended before into the row of a put that is allowed has its names and its hour
 pub only_put : (h : History) (turns : List Turn) (caller : ℕ) (point : DataPoint) (row : Row) (qual value : List ℕ) → IsLawful (played h turns) → MayStep (played h turns) caller (PutPoint point row qual value)
     → IsOnlyPut turns (named_row_of point row)
 only_put h turns caller point row qual value l may = record {
   each = λ p put same.
-      let was = turn_allowed h turns put.at (record { caller = put.caller; step = PutPoint put.point p.row put.qual put.value }) l put.stands in
-      let old = put_reads was.before (played h turns) put.point p.row put.qual put.value was.begins l was.may in
+      let was = turn_allowed h turns put.at (record { caller = put.caller; step = store_step put.appends put.point p.row put.qual put.value }) l put.stands in
+      let basis = may_put was.before put.caller put.appends put.point p.row put.qual put.value was.may in
+      let old = put_reads was.before (played h turns) put.point p.row basis.qual basis.value was.begins l basis.may in
       let new = put_reads (played h turns) (played h turns) point row qual value whole l may in
-      sym put.named ∙ ap (named_row_of put.point) same ∙ named_once (played h turns) row put.point point put.qual put.value qual value (subst (λ (r : Row). PutReads (played h turns) put.point r put.qual put.value) same old) new;
+      sym put.named ∙ ap (named_row_of put.point) same ∙ named_once (played h turns) row put.point point basis.qual basis.value qual value (subst (λ (r : Row). PutReads (played h turns) put.point r basis.qual basis.value) same old) new;
 }
 
 -- so it is of a put that the caller whose turn it is knows to be allowed

@@ -1,7 +1,8 @@
 //! Several callers of one body, in turns.
-ghost use Rattle.std.specs.Prelude.{◌≡◌, ◌≢◌, ◌≤◌, ◌<◌, ◌^◌, ◌+◌, length, min, IfOk, IfErr, IsOk, OnOk, OnErr, nat_eq, IsTrue};
+ghost use Rattle.std.specs.Prelude.{◌≡◌, ◌≢◌, ◌≤◌, ◌<◌, ◌%◌, ◌^◌, ◌+◌, length, drop, min, if◌then◌else◌, IfOk, IfErr, IsOk, OnOk, OnErr, nat_eq, IsTrue};
 ghost use Rattle.cell_model.specs.declared.row.Row.{Row as AnyRow};
 ghost use Rattle.cell_model.specs.Sound.{IsBase};
+ghost use Rattle.cell_model.specs.Store.{appended};
 ghost use Rattle.cell_model.specs.Machine.{after, counter_row};
 ghost use Rattle.cell_model.specs.History.{store_after};
 ghost use Rattle.cell_model.specs.Lawful.{IsLawful};
@@ -9,7 +10,7 @@ ghost use Rattle.cell_model.specs.Ranges.{InOneRange};
 ghost use Rattle.cell_model.specs.Seen.{IsPossible, HasSeenOpening, Fits, Knows};
 ghost use Rattle.tsd_base.specs.Points.{data_point};
 ghost use Rattle.cell_model.specs.declared.answers.RowsFault.TheVariants.{OutOfMemory};
-ghost use Rattle.cell_model.specs.declared.events.Step.TheVariants.{Read, NextRow, Bump, Claim, PutPoint, PutMerged, DropCells};
+ghost use Rattle.cell_model.specs.declared.events.Step.TheVariants.{Read, NextRow, Bump, Claim, PutPoint, AppendPoint, PutMerged, DropCells};
 ghost use Rattle.cell_model.specs.declared.events.Reply.TheVariants.{Shown, Next, BumpReply, ClaimReply, Written, Removed};
 ghost use Rattle.cell_solo.specs.Turns.{opened, openings, entries_of, whole_seen, history_of, sight, Steps, Stays};
 
@@ -19,7 +20,7 @@ use cell_model::answers::{Bumped, Claimed, RowsFault, Stopped};
 use cell_model::body::Body;
 use cell_model::row::{Cells, Drops, Found, Listing, Row};
 use cell_model::rows::Rows;
-use cell_model::stamp::{bump_at, claim_at, put_at};
+use cell_model::stamp::{append_at, bump_at, claim_at, put_at};
 use qual_codec::Bytes;
 use row_key::{Table, Widths};
 use std::alloc::{AllocError, Global};
@@ -136,7 +137,7 @@ fn cell_len(row: &Row, qual: &Bytes, value: &Bytes) -> usize
         .saturating_add(value.list().len())
 }
 
-/// How many bytes a row and a value have together, with the most that the names of a point have.
+/// How many bytes a row and a value, or a piece, have together, with the most that the names of a point have.
 fn point_len(row: &Row, value: &Bytes) -> usize
     ensures { result ≡ min (length row.now.bytes + length value.now + 4352) 18446744073709551615 }
 {
@@ -170,6 +171,41 @@ fn put_next<B: Body>(
     turns.reserve(len)?;
     let place = turns.len() + 1;
     put_at(body, alloc, row, qual, value, place)
+}
+
+/// Appends a piece at the place of the next step, once there is room for that step and for `len` bytes of it.
+#[inline(always)]
+fn append_next<B: Body>(
+    body: &mut B,
+    turns: &mut Turns,
+    alloc: Global,
+    row: &Row,
+    piece: &Bytes,
+    len: usize,
+) -> Result<(), AllocError>
+    requires covered { IsTrue (B.covers body.old row.now) }
+    requires no_counter { row.now ≢ counter_row }
+    ensures ok { OnOk result (B.content body.new ≡ appended (B.content body.old) row.now piece.now ((length turns.old.list + 1) % 2 ^ 64)) }
+    ensures err { OnErr result (B.content body.new ≡ B.content body.old) }
+    ensures covers { B.covers body.new ≡ B.covers body.old }
+    ensures list { turns.new.list ≡ turns.old.list }
+    ensures spare { OnOk result (9 ≤ turns.new.spare) }
+    ensures room { OnOk result (len ≤ turns.new.room) }
+    ensures fits { OnOk result (len < 2 ^ 32) }
+{
+    turns.reserve(len)?;
+    let place = turns.len() + 1;
+    append_at(body, alloc, row, piece, place)
+}
+
+/// The value in a piece, behind its one item, which has 4 bytes where it is fine, else 2.
+#[inline]
+fn value_of(piece: &Bytes, fine: bool) -> &[u8]
+    requires { (if fine then 4 else 2) ≤ length piece.now }
+    ensures { result.now ≡ drop (if fine then 4 else 2) piece.now }
+{
+    let bytes = piece.list();
+    if fine { &bytes[4..] } else { &bytes[2..] }
 }
 
 impl<B: Body + Drop> Rows for Solo<B> {
@@ -273,7 +309,28 @@ impl<B: Body + Drop> Rows for Solo<B> {
             value,
             len,
         )?;
-        self.turns.add_point(self.caller, point, row, value);
+        self.turns
+            .add_point(self.caller, false, point, row, value.list());
+        Ok(())
+    }
+
+    fn append_point(
+        &mut self,
+        alloc: Global,
+        point: &Point,
+        row: &Row,
+        piece: &Bytes,
+    ) -> Result<(), RowsFault>
+        requires knows { Knows (sight self.old) (AppendPoint (data_point point.now) row.now piece.now) }
+        ensures steps { OnOk result (Steps self.old (AppendPoint (data_point point.now) row.now piece.now) Written self.new) }
+        ensures stays { OnErr result (Stays self.old self.new) }
+        ensures memory { IfErr result (λ fault. fault ≡ OutOfMemory) }
+        ensures room { OnOk result (8 ≤ self.new.room) }
+    {
+        let len = point_len(row, piece);
+        append_next(&mut self.body, &mut self.turns, alloc, row, piece, len)?;
+        let value = value_of(piece, point.fine);
+        self.turns.add_point(self.caller, true, point, row, value);
         Ok(())
     }
 

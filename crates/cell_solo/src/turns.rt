@@ -1,11 +1,11 @@
 //! The steps that callers made, packed.
 ghost use Rattle.std.specs.Prelude.{◌≡◌, ◌≤◌, ◌<◌, ◌+◌, ◌%◌, ◌^◌, [], ◌∷◌, ◌++◌, length, count_by, nat_eq, IsTrue, OnOk};
 ghost use Rattle.tsd_base.specs.Points.{data_point};
-ghost use Rattle.cell_model.specs.declared.events.Step.TheVariants.{Open, Read, NextRow, Bump, Claim, PutPoint, PutMerged, DropCells};
+ghost use Rattle.cell_model.specs.declared.events.Step.TheVariants.{Open, Read, NextRow, Bump, Claim, PutMerged, DropCells};
 ghost use Rattle.qual_codec.specs.Items.{item_bytes};
 ghost use Rattle.qual_codec.specs.Spelling.{IsShortest};
 ghost use Rattle.cell_solo.specs.declared.turns.Head.{Head};
-ghost use Rattle.cell_solo.specs.PackedTurns.{IsOnlyPut, caller_of};
+ghost use Rattle.cell_solo.specs.PackedTurns.{IsOnlyPut, caller_of, store_step};
 ghost use Rattle.cell_solo.specs.TurnPlaces.{named_row_of};
 ghost use Rattle.cell_solo.specs.Turns.{Turn};
 
@@ -52,9 +52,10 @@ enum Head {
         table: Table,
         cell: CellLengths,
     },
-    // At this place, at this millisecond of its hour.
+    // A put or an append, at this place, at this millisecond of its hour.
     PutPoint {
         caller: u8,
+        appends: bool,
         fine: bool,
         value: u8,
         place: u32,
@@ -98,9 +99,9 @@ struct Dropped {
 
 /// Steps with their callers, the first one first.
 ///
-/// A step takes a head of 16 bytes, and the bytes of its parts, which are one block. A put of a point has only its value in
-/// that block: its qualifier follows from what the head tells, and its names, its hour and its row stand at its place, which
-/// it shares with earlier puts where these are the same and the place is found. A drop is kept as it was given. Contracts see
+/// A step takes a head of 16 bytes, and the bytes of its parts, which are one block. A put or an append of a point has only its
+/// value in that block: its qualifier follows from what the head tells, and its names, its hour and its row stand at its place,
+/// which it shares with earlier puts and appends where these are the same and the place is found. A drop is kept as it was given. Contracts see
 /// the list of turns, and for how much more there is room.
 #[derive(Drop)]
 pub struct Turns {
@@ -279,25 +280,25 @@ impl Turns {
         });
     }
 
-    /// Adds a put of a point in its shortest value, whose qualifier is its one item. The room is that of its row and its value,
-    /// and [`crate::turn_bytes::MOST_NAMES`] for its names.
+    /// Adds a put or an append of a point in its shortest value, whose qualifier is its one item. The room is that of its row and
+    /// its value, and [`crate::turn_bytes::MOST_NAMES`] for its names.
     #[inline(always)]
-    pub fn add_point(&mut self, caller: u8, point: &Point, row: &Row, value: &Bytes)
+    pub fn add_point(&mut self, caller: u8, appends: bool, point: &Point, row: &Row, value: &[u8])
         requires spare { 1 ≤ self.old.spare }
         requires room { 4352 + (length row.now.bytes + length value.now) ≤ self.old.room }
         requires fits { 4352 + (length row.now.bytes + length value.now) < 2 ^ 32 }
         requires shortest { IsShortest point.now.value value.now }
         requires only { IsOnlyPut self.old.list (named_row_of (data_point point.now) row.now) }
-        ensures list { self.new.list ≡ self.old.list ++ record { caller = caller; step = PutPoint (data_point point.now) row.now (item_bytes (record { offset = point.now.time % HOUR_MILLIS; fine = point.now.fine; len = length value.now })) value.now } ∷ [] }
+        ensures list { self.new.list ≡ self.old.list ++ record { caller = caller; step = store_step appends (data_point point.now) row.now (item_bytes (record { offset = point.now.time % HOUR_MILLIS; fine = point.now.fine; len = length value.now })) value.now } ∷ [] }
         ensures spare { self.old.spare ≤ self.new.spare + 1 }
     {
         let place = self.places.find_or_add(point, row);
-        let bytes = value.list();
-        write_value(&mut self.bytes, bytes);
+        write_value(&mut self.bytes, value);
         self.heads.push_reserved(Head::PutPoint {
             caller,
+            appends,
             fine: point.fine,
-            value: bytes.len() as u8,
+            value: value.len() as u8,
             place,
             offset: (point.time % HOUR_MILLIS) as u32,
         });

@@ -4,7 +4,7 @@ use Rattle.std.specs.Prelude.{Some, None, Option, IsSomeAnd, Contains, ◌==◌}
 use Rattle.std.proofs.lemmas.List.Elements.{Contains-append_cases, Contains-append_left, Contains-append_right}
 use Rattle.cell_model.specs.declared.row.Row.{Row}
 use Rattle.cell_model.specs.declared.events.Step.{Step}
-use Rattle.cell_model.specs.declared.events.Step.TheVariants.{Open, Read, NextRow, Bump, Claim, PutPoint, PutMerged, DropCells}
+use Rattle.cell_model.specs.declared.events.Step.TheVariants.{Open, Read, NextRow, Bump, Claim, PutPoint, AppendPoint, PutMerged, DropCells}
 use Rattle.cell_model.specs.declared.events.Reply.{Reply}
 use Rattle.cell_model.specs.declared.events.Entry.{Entry}
 use Rattle.cell_model.specs.declared.events.Placed.{Placed}
@@ -40,6 +40,7 @@ stays_within w D number (NextRow table from to) mine range =
 stays_within w D number (Bump kind) mine range = tt
 stays_within w D number (Claim row qual value) mine range = tt
 stays_within w D number (PutPoint point row qual value) mine range = tt
+stays_within w D number (AppendPoint point row piece) mine range = tt
 stays_within w D number (PutMerged row qual value) mine range = tt
 stays_within w D number (DropCells row which) mine range = tt
 
@@ -51,6 +52,7 @@ covered w D number covers s (NextRow table from to) all m r p k = (r, λ row b. 
 covered w D number covers s (Bump kind) all m r p k = all counter_row m
 covered w D number covers s (Claim row qual value) all m r p k = (all row m, λ e. claim_differs p.history s.caller row qual value p.lawful (known_is_allowed s p.history (Claim row qual value) p.lawful p.fits k) (sym e))
 covered w D number covers s (PutPoint point row qual value) all m r p k = (all row m, λ e. point_differs row k.in_points (sym e))
+covered w D number covers s (AppendPoint point row piece) all m r p k = (all row m, λ e. point_differs row k.put.in_points (sym e))
 covered w D number covers s (PutMerged row qual value) all m r p k = (all row m, λ e. point_differs row k.in_points (sym e))
 covered w D number covers s (DropCells row which) all m r p k = (all row m, λ e. point_differs row k.in_points (sym e))
 

@@ -22,6 +22,7 @@ step_of (order.NextRow table from to) = step.NextRow table from.now to.now
 step_of (order.Bump kind) = step.Bump kind
 step_of (order.Claim row qual value) = step.Claim row.now qual.now value.now
 step_of (order.PutPoint point row qual value) = step.PutPoint (data_point point.now) row.now qual.now value.now
+step_of (order.AppendPoint point row piece) = step.AppendPoint (data_point point.now) row.now piece.now
 step_of (order.PutMerged row qual value) = step.PutMerged row.now qual.now value.now
 step_of (order.DropCells row which) = step.DropCells row.now which.now
 
@@ -33,6 +34,7 @@ Covered w covers (step.NextRow table from to) = InOneRange w table from to × ((
 Covered w covers (step.Bump kind) = IsTrue (covers counter_row)
 Covered w covers (step.Claim row qual value) = IsTrue (covers row) × (row ≢ counter_row)
 Covered w covers (step.PutPoint point row qual value) = IsTrue (covers row) × (row ≢ counter_row)
+Covered w covers (step.AppendPoint point row piece) = IsTrue (covers row) × (row ≢ counter_row)
 Covered w covers (step.PutMerged row qual value) = IsTrue (covers row) × (row ≢ counter_row)
 Covered w covers (step.DropCells row which) = IsTrue (covers row) × (row ≢ counter_row)
 

@@ -56,3 +56,6 @@ pub fn removed(reply: Reply) -> u64
         _ => unreachable!(),
     }
 }
+
+/// Lets go of a reply. It is dropped here, so that who asked for the step has no case for each thing that it may hold.
+pub fn let_go(_reply: Reply) {}

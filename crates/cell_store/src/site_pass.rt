@@ -11,7 +11,7 @@ ghost use Rattle.cell_store.specs.CallerViews.{Heard, IsCaller, IsNote, Tells, n
 ghost use Rattle.cell_store.specs.StepEntries.{InRange, WasLetIn};
 
 use crate::gate::Gate;
-use crate::reply_parts::{bumped, claimed, next, removed, shown};
+use crate::reply_parts::{bumped, claimed, let_go, next, removed, shown};
 use crate::site::Site;
 use crate::step_names::StepNames;
 use crate::step_order::Order;
@@ -226,7 +226,27 @@ impl<'a, J: StepNames, G: Gate + Drop, T: Wait> Rows for SitePass<'a, J, G, T> {
                 value,
             },
         ) {
-            Ok(_) => Ok(()),
+            Ok(reply) => {
+                let_go(reply);
+                Ok(())
+            }
+            Err(AllocError) => Err(RowsFault::OutOfMemory),
+        }
+    }
+
+    fn append_point(
+        &mut self,
+        alloc: Global,
+        point: &Point,
+        row: &Row,
+        piece: &Bytes,
+    ) -> Result<(), RowsFault> {
+        let region = self.site.region(row.table, row.bytes.list());
+        match self.step(alloc, region, &Order::AppendPoint { point, row, piece }) {
+            Ok(reply) => {
+                let_go(reply);
+                Ok(())
+            }
             Err(AllocError) => Err(RowsFault::OutOfMemory),
         }
     }
@@ -240,7 +260,10 @@ impl<'a, J: StepNames, G: Gate + Drop, T: Wait> Rows for SitePass<'a, J, G, T> {
     ) -> Result<(), RowsFault> {
         let region = self.site.region(row.table, row.bytes.list());
         match self.step(alloc, region, &Order::PutMerged { row, qual, value }) {
-            Ok(_) => Ok(()),
+            Ok(reply) => {
+                let_go(reply);
+                Ok(())
+            }
             Err(AllocError) => Err(RowsFault::OutOfMemory),
         }
     }

@@ -8,6 +8,7 @@ use cell_model::answers::{Bumped, Claimed};
 use cell_model::body::Body;
 use cell_model::events::Reply;
 use cell_model::row::{Drops, Row};
+use cell_model::stamp::stamp_column;
 use qual_codec::Bytes;
 use row_key::Table;
 use std::alloc::{AllocError, Global};
@@ -38,6 +39,11 @@ pub enum Order<'a> {
         row: &'a Row,
         qual: &'a Bytes,
         value: &'a Bytes,
+    },
+    AppendPoint {
+        point: &'a Point,
+        row: &'a Row,
+        piece: &'a Bytes,
     },
     PutMerged {
         row: &'a Row,
@@ -83,6 +89,14 @@ pub fn apply<B: Body>(body: &mut B, alloc: Global, order: &Order) -> Result<Repl
             value,
         } => {
             body.put(alloc, row, qual, value)?;
+            Ok(Reply::Written)
+        }
+        Order::AppendPoint {
+            point: _,
+            row,
+            piece,
+        } => {
+            body.append(alloc, row, piece)?;
             Ok(Reply::Written)
         }
         Order::PutMerged { row, qual, value } => {
@@ -150,6 +164,11 @@ pub fn stamp<B: Body>(body: &mut B, order: &Order, reply: &Reply, place: u64)
             qual,
             value: _,
         } => body.stamp(row, qual, place),
+        Order::AppendPoint {
+            point: _,
+            row,
+            piece: _,
+        } => stamp_column(body, row, place),
         Order::PutMerged {
             row,
             qual,

@@ -29,18 +29,20 @@ pub record NameOptions : Type 0 where
   pub auto_tag_value : Bool
   pub patterns : Patterns
 
--- what `stdio` is asked: which names are given ids, and how many bytes the ids of each kind have
+-- what `stdio` is asked: which names are given ids, whether points are appended, and how many bytes the ids of each kind have
 pub record Stdio : Type 0 where
   pub names : NameOptions
+  pub appends : Bool
   pub widths : Widths
 
--- what `serve` is asked: the port, how many daemons, workers of each and regions of data points there are, and which names are given ids
+-- what `serve` is asked: the port, how many daemons, workers of each and regions of data points there are, which names are given ids, and whether points are appended
 pub record Serve : Type 0 where
   pub port : ℕ
   pub daemons : ℕ
   pub workers : ℕ
   pub regions : ℕ
   pub names : NameOptions
+  pub appends : Bool
 
 pub data Asked : Type 0 where
   BatchAsked : Batch → Asked
@@ -95,12 +97,12 @@ names_with rows patterns = record {
 abbrev pub names_in : List Row → Option NameOptions
 names_in rows = if are_names (patterns_in rows) then Some (names_with rows (patterns_in rows)) else None
 
-abbrev pub stdio_with : Option NameOptions → Option Widths → Option Stdio
-stdio_with (Some names) (Some widths) = Some (record { names = names; widths = widths })
-stdio_with _ _ = None
+abbrev pub stdio_with : Option NameOptions → Option Widths → Bool → Option Stdio
+stdio_with (Some names) (Some widths) appends = Some (record { names = names; appends = appends; widths = widths })
+stdio_with _ _ appends = None
 
 abbrev pub stdio_in : List Row → Option Stdio
-stdio_in rows = stdio_with (names_in rows) (widths_said (first_of (codes "widths") rows))
+stdio_in rows = stdio_with (names_in rows) (widths_said (first_of (codes "widths") rows)) (is_given (codes "appends") rows)
 
 abbrev pub within : ℕ → ℕ → ℕ → Option ℕ
 within least most n = if nat_le least n && nat_le n most then Some n else None
@@ -117,14 +119,14 @@ abbrev pub count_of : ℕ → ℕ → Option Text → Option ℕ
 count_of most usual (Some text) = number_within 1 most text
 count_of most usual None = Some usual
 
-abbrev pub serve_with : Option ℕ → Option ℕ → Option ℕ → Option ℕ → Option NameOptions → Option Serve
-serve_with (Some port) (Some daemons) (Some workers) (Some regions) (Some names) = Some (record { port = port; daemons = daemons; workers = workers; regions = regions; names = names })
-serve_with _ _ _ _ _ = None
+abbrev pub serve_with : Option ℕ → Option ℕ → Option ℕ → Option ℕ → Option NameOptions → Bool → Option Serve
+serve_with (Some port) (Some daemons) (Some workers) (Some regions) (Some names) appends = Some (record { port = port; daemons = daemons; workers = workers; regions = regions; names = names; appends = appends })
+serve_with _ _ _ _ _ appends = None
 
 -- 1 to 8 daemons, and 1 where nothing is said, 1 to 16 workers of each, and 4, and 1 to 16 regions, and 4
 abbrev pub serve_in : List Row → Option Serve
 serve_in rows =
-    serve_with (port_in rows) (count_of 8 1 (first_of (codes "daemons") rows)) (count_of 16 4 (first_of (codes "workers") rows)) (count_of 16 4 (first_of (codes "regions") rows)) (names_in rows)
+    serve_with (port_in rows) (count_of 8 1 (first_of (codes "daemons") rows)) (count_of 16 4 (first_of (codes "workers") rows)) (count_of 16 4 (first_of (codes "regions") rows)) (names_in rows) (is_given (codes "appends") rows)
 
 -- of a command's name and what its words are
 abbrev pub asked_by : Text → List Row → Option Asked

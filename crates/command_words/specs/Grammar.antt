@@ -28,17 +28,21 @@ with_auto app = with_rule (with_rule (with_rule app (flag (codes "auto-metric"))
 abbrev pub with_patterns : App → App
 with_patterns app = with_rule (with_rule (with_rule app (valued (codes "allow-metric"))) (valued (codes "allow-tagk"))) (valued (codes "allow-tagv"))
 
--- stdio, both, and [--widths M,K,V]
+-- both, and [--appends]
+abbrev pub with_puts : App → App
+with_puts app = with_rule (with_patterns (with_auto app)) (flag (codes "appends"))
+
+-- stdio, all of these, and [--widths M,K,V]
 abbrev pub stdio_grammar : Shape
-stdio_grammar = (with_rule (with_patterns (with_auto (new_app (codes "stdio")))) (valued (codes "widths"))).top
+stdio_grammar = (with_rule (with_puts (new_app (codes "stdio"))) (valued (codes "widths"))).top
 
 -- serve PORT [--daemons N] [--workers N] [--regions N]
 abbrev pub with_sizes : App
 with_sizes = with_rule (with_rule (with_rule (with_rule (new_app (codes "serve")) (word (codes "port"))) (valued (codes "daemons"))) (valued (codes "workers"))) (valued (codes "regions"))
 
--- and then both
+-- and then those of `stdio` but for the widths
 abbrev pub serve_grammar : Shape
-serve_grammar = (with_patterns (with_auto with_sizes)).top
+serve_grammar = (with_puts with_sizes).top
 
 -- the words begin with a command, the program's name isn't among them
 abbrev pub grammar : App

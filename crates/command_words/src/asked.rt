@@ -30,15 +30,18 @@ pub struct NameOptions<'a> {
     pub patterns: PatternTexts<'a>,
 }
 
-/// What `stdio` is asked: which names are given ids, and how many bytes the ids of each kind have.
+/// What `stdio` is asked: which names are given ids, whether points are appended to the columns of their rows, and how many bytes
+/// the ids of each kind have.
 #[derive(Clone, Copy, Drop)]
 pub struct Stdio<'a> {
     pub names: NameOptions<'a>,
+    pub appends: bool,
     pub widths: Widths,
 }
 
 /// What `serve` is asked: the port to listen on, or 0 for one that the system chooses, how many daemons there are, how many
-/// workers each has, in how many regions data points stand, and which names are given ids.
+/// workers each has, in how many regions data points stand, which names are given ids, and whether points are appended to the
+/// columns of their rows.
 #[derive(Clone, Copy, Drop)]
 pub struct Serve<'a> {
     pub port: u16,
@@ -46,6 +49,7 @@ pub struct Serve<'a> {
     pub workers: u32,
     pub regions: u32,
     pub names: NameOptions<'a>,
+    pub appends: bool,
 }
 
 /// What words ask for.

@@ -4,7 +4,7 @@ ghost use Rattle.clap.specs.Built.{AddsArg};
 ghost use Rattle.clap.specs.Simple.{app_of, shape_of, with_rule};
 ghost use Rattle.clap.specs.Walk.{rule_of};
 ghost use Rattle.clap.specs.declared.builder.command.Command.TheViews.{out-Command as fields_of};
-ghost use Rattle.command_words.specs.Grammar.{grammar, batch_grammar, serve_grammar, stdio_grammar, with_auto, with_patterns, with_sizes, flag, valued, word};
+ghost use Rattle.command_words.specs.Grammar.{grammar, batch_grammar, serve_grammar, stdio_grammar, with_auto, with_patterns, with_puts, with_sizes, flag, valued, word};
 
 use clap::{Arg, ArgAction, Command};
 use std::alloc::{AllocError, Global};
@@ -40,8 +40,7 @@ fn stdio_grammar<'a>(alloc: Global) -> Result<Command<'a>, AllocError>
     ensures shape { IfOk result (λ made. shape_of made ≡ stdio_grammar) }
     ensures local { IfOk result (λ made. (fields_of made).has_globals ≡ false) }
 {
-    let command = with_auto(alloc, Command::new(alloc, "stdio"))?;
-    let command = with_patterns(alloc, command)?;
+    let command = with_puts(alloc, Command::new(alloc, "stdio"))?;
     with_arg(command, valued(alloc, "widths"))
 }
 
@@ -50,8 +49,7 @@ fn serve_grammar<'a>(alloc: Global) -> Result<Command<'a>, AllocError>
     ensures shape { IfOk result (λ made. shape_of made ≡ serve_grammar) }
     ensures local { IfOk result (λ made. (fields_of made).has_globals ≡ false) }
 {
-    let command = with_auto(alloc, with_sizes(alloc)?)?;
-    with_patterns(alloc, command)
+    with_puts(alloc, with_sizes(alloc)?)
 }
 
 /// `serve` with its port and the options that say how large its fleet is.
@@ -64,6 +62,17 @@ fn with_sizes<'a>(alloc: Global) -> Result<Command<'a>, AllocError>
         .arg(valued(alloc, "daemons"))?
         .arg(valued(alloc, "workers"))?
         .arg(valued(alloc, "regions"))
+}
+
+/// A command with the options that say which names are given ids, and whether points are appended.
+fn with_puts<'a>(alloc: Global, command: Command<'a>) -> Result<Command<'a>, AllocError>
+    requires local { (fields_of command).has_globals ≡ false }
+    ensures app { IfOk result (λ made. app_of made ≡ with_puts (app_of command.entry)) }
+    ensures local { IfOk result (λ made. (fields_of made).has_globals ≡ false) }
+{
+    let command = with_auto(alloc, command)?;
+    let command = with_patterns(alloc, command)?;
+    with_arg(command, flag(alloc, "appends"))
 }
 
 /// A command with the options that say of which kinds names are given ids.

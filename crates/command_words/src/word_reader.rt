@@ -40,7 +40,7 @@ const USUAL_REGIONS: u32 = 4;
 /// `batch START END M` may have the option `--ms`, with START and END times as `read_fixed_time` reads them, and END not
 /// below START. An END in seconds is that second's first millisecond. `stdio` may have the options `--auto-metric`,
 /// `--no-auto-tagk` and `--no-auto-tagv`, and with a value `--allow-metric P`, `--allow-tagk P` and `--allow-tagv P`, where P
-/// is the bytes of a name as `Name::read` reads it. `serve PORT` may have these too, and `--daemons N`, `--workers N` and
+/// is the bytes of a name as `Name::read` reads it, and `--appends`. `serve PORT` may have these too, and `--daemons N`, `--workers N` and
 /// `--regions N`, with a port from 0 to 65535, 1 to 8 daemons, 1 to 16 workers of each and 1 to 16 regions, in digits alone.
 /// `stdio` alone may have `--widths M,K,V`, three digits from 2 to 4 with commas between them: how many bytes the ids of metrics, of
 /// tag keys and of tag values have. An option is given at most once, and `clap` says where it may stand.
@@ -107,7 +107,12 @@ fn stdio_in<'a>(alloc: Global, words: &ArgMatches<'a>) -> Option<Stdio<'a>>
 {
     let names = names_in(alloc, words)?;
     let widths = widths_said(text(words, "widths"))?;
-    Some(Stdio { names, widths })
+    let appends = is_given(words, "appends");
+    Some(Stdio {
+        names,
+        appends,
+        widths,
+    })
 }
 
 /// How many bytes the ids of each kind have, by the text that says so, and three where there is none.
@@ -156,12 +161,14 @@ fn serve_in<'a>(alloc: Global, words: &ArgMatches<'a>) -> Option<Serve<'a>>
     let workers = count_of(MOST_WORKERS, USUAL_WORKERS, text(words, "workers"))?;
     let regions = count_of(MOST_REGIONS, USUAL_REGIONS, text(words, "regions"))?;
     let names = names_in(alloc, words)?;
+    let appends = is_given(words, "appends");
     Some(Serve {
         port,
         daemons,
         workers,
         regions,
         names,
+        appends,
     })
 }
 

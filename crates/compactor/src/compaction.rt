@@ -10,9 +10,9 @@ use std::alloc::AllocError;
 /// What was done with a row.
 #[derive(Clone, Copy, Debug, PartialEq, Eq)]
 pub enum Compacted {
-    /// The row has fewer than two cells.
+    /// The row has fewer than two cells beside the column of appends.
     Nothing,
-    /// One cell was written in place of the `before` cells that were read, and `dropped` of these were removed.
+    /// One cell was written in place of the `before` cells that were read beside the column, and `dropped` of these were removed.
     Merged { before: u64, dropped: u64 },
 }
 

@@ -16,7 +16,7 @@ ServedLink = Shut × Served
 
 -- no name is given an id when a point is put
 abbrev pub no_names : Admission
-no_names = record { config = record { auto_metric = false; auto_tag_key = false; auto_tag_value = false }; patterns = record { metric = None; tag_key = None; tag_value = None } }
+no_names = record { config = record { auto_metric = false; auto_tag_key = false; auto_tag_value = false; appends = false }; patterns = record { metric = None; tag_key = None; tag_value = None } }
 
 -- each end of this kind tells its bytes
 abbrev pub AllTell : {E : Type 0} → (E → Option (List ℕ)) → Type 0

@@ -3,7 +3,7 @@ ghost use Rattle.std.specs.Prelude.{◌≡◌, ℕ, ◌+◌, ◌≤◌, Err, IsE
 ghost use Rattle.tsd_base.specs.Points.{data_point};
 ghost use Rattle.tsd_io.specs.Causes.{Rose};
 ghost use Rattle.cell_model.specs.declared.answers.RowsFault.TheVariants.{Stopped as StoppedFault};
-ghost use Rattle.cell_model.specs.declared.events.Step.TheVariants.{Read, NextRow, Bump, Claim, PutPoint, PutMerged, DropCells};
+ghost use Rattle.cell_model.specs.declared.events.Step.TheVariants.{Read, NextRow, Bump, Claim, PutPoint, AppendPoint, PutMerged, DropCells};
 ghost use Rattle.cell_model.specs.declared.events.Reply.TheVariants.{Shown, Next, BumpReply, ClaimReply, Written, Removed};
 ghost use Rattle.cell_model.specs.Ranges.{InOneRange};
 ghost use Rattle.cell_model.specs.Seen.{Waited, Stepped, IsPossible, Knows, RoseIfStopped};
@@ -183,6 +183,32 @@ impl<R: Rows + Drop, H: Halt + Drop> Rows for Fused<R, H> {
             return Err(RowsFault::Stopped);
         }
         self.rows.put_point(alloc, point, row, qual, value)
+    }
+
+    fn append_point(
+        &mut self,
+        alloc: Global,
+        point: &Point,
+        row: &Row,
+        piece: &Bytes,
+    ) -> Result<(), RowsFault>
+        requires knows { Knows (R.seen self.old.rows) (AppendPoint (data_point point.now) row.now piece.now) }
+        // As of all rows.
+        ensures ok { OnOk result (Stepped (R.seen self.old.rows) (AppendPoint (data_point point.now) row.now piece.now) Written (R.seen self.new.rows)) }
+        ensures err { OnErr result (Waited (R.seen self.old.rows) (R.seen self.new.rows)) }
+        ensures possible { OnOk result (IsPossible (R.seen self.new.rows)) }
+        ensures lives { OnErr result (IsPossible (R.seen self.old.rows) → IsPossible (R.seen self.new.rows)) }
+        ensures grows { H.stops self.old.halt + R.stops self.old.rows ≤ H.stops self.new.halt + R.stops self.new.rows }
+        ensures stopped { IfErr result (RoseIfStopped (H.stops self.old.halt + R.stops self.old.rows) (H.stops self.new.halt + R.stops self.new.rows)) }
+        ensures spare { OnOk result (2 ≤ R.spare self.new.rows) }
+
+        // The halt is asked.
+        ensures asked { AsksOnce H.answers H.stops R.stops self.old self.new (result ≡ Err StoppedFault) }
+    {
+        if !self.halt.may_step() {
+            return Err(RowsFault::Stopped);
+        }
+        self.rows.append_point(alloc, point, row, piece)
     }
 
     fn put_merged(

@@ -1,5 +1,5 @@
 -- Which entries the assignment of a text makes.
-use Rattle.std.specs.Prelude.{◌≡◌, ◌↔◌, ℕ, true, List, Contains, Ok}
+use Rattle.std.specs.Prelude.{◌≡◌, ◌↔◌, ℕ, true, false, List, Contains, Ok}
 use Rattle.tsd_base.specs.declared.kinds.Kind.{Kind}
 use Rattle.tsd_hooks.specs.declared.name_patterns.Patterns.{Patterns}
 use Rattle.cell_model.specs.declared.events.Placed.{Placed}
@@ -14,7 +14,7 @@ use Rattle.http_assign.specs.AssignLists.{IdTold, TextAssigned}
 
 -- names of every kind are given ids
 abbrev pub makes_all : Config
-makes_all = record { auto_metric = true; auto_tag_key = true; auto_tag_value = true }
+makes_all = record { auto_metric = true; auto_tag_key = true; auto_tag_value = true; appends = false }
 
 -- names of every kind are given ids where the patterns allow them
 abbrev pub admits_all : Patterns → Admission

@@ -51,6 +51,7 @@ among_more : (own rest all : List Placed) (s : Stored) → all ≡ own ++ rest �
 among_more own rest all s is p = record {
   entry = p.entry;
   among = subst (λ (l : List Placed). Contains l p.entry) (sym is) (Contains-append_left own rest p.entry p.among);
+  appends = p.appends;
   point = p.point;
   qual = p.qual;
   value = p.value;
@@ -62,6 +63,7 @@ among_behind : (own rest all : List Placed) (s : Stored) → all ≡ rest ++ own
 among_behind own rest all s is p = record {
   entry = p.entry;
   among = subst (λ (l : List Placed). Contains l p.entry) (sym is) (Contains-append_right rest own p.entry p.among);
+  appends = p.appends;
   point = p.point;
   qual = p.qual;
   value = p.value;

@@ -1,5 +1,5 @@
 -- What a body answers, and what it becomes.
-use Rattle.std.proofs.Common.{◌≡◌, ◌≢◌, ◌⊎◌, inl, inr, ℕ, zero, suc, ◌+◌, ◌≤◌, ◌<◌, Bool, true, false, cond, T, List, [], ◌∷◌, length, refl, sym, ap, subst, ◌∙◌, arith, nat_eq}
+use Rattle.std.proofs.Common.{◌≡◌, ◌≢◌, ◌⊎◌, inl, inr, ℕ, zero, suc, ◌+◌, ◌≤◌, ◌<◌, Bool, true, false, cond, T, List, [], ◌∷◌, ◌++◌, length, refl, sym, ap, subst, ◌∙◌, arith, nat_eq}
 use Rattle.std.specs.Prelude.{Option, None, Some, unwrap_or, option_map, map, filter, sum_by, ◌&&◌, not, nat_lt, slice_index_or, slice_set}
 use Rattle.std.specs.Prelude as std
 use Rattle.std.specs.Option.{option_map_or}
@@ -17,13 +17,14 @@ use Rattle.row_key.specs.declared.tables.Table.{Table}
 use Rattle.row_key.specs.declared.tables.Table.TheVariants.{Ids, Names, Points}
 use Rattle.tsd_base.specs.declared.kinds.Kind.{Kind}
 use Rattle.qual_codec.specs.declared.cells.Cell.{Cell}
+use Rattle.qual_codec.specs.CellDots.{column_qual}
 use Rattle.cell_model.specs.declared.row.Row.{Row}
 use Rattle.cell_model.specs.declared.row.Found.{Found}
 use Rattle.cell_model.specs.declared.events.Place.{Place}
 use Rattle.cell_model.specs.declared.events.Content.{Content}
 use Rattle.cell_model.specs.declared.answers.Bumped.TheVariants.{Given, Full}
 use Rattle.cell_model.specs.KindWidths.{Widths, greatest}
-use Rattle.cell_model.specs.Store.{Store, row_cmp, place_cmp, table_number, no_cells, with_cells, written, stamped, dropped, cells_of, next_row_of, is_between, cell_of}
+use Rattle.cell_model.specs.Store.{Store, row_cmp, place_cmp, table_number, no_cells, with_cells, or_nothing, value_at, written, appended, stamped, dropped, cells_of, next_row_of, is_between, cell_of}
 use Rattle.list_lemmas.specs.BytesOrder.{bytes_cmp}
 use Rattle.cell_model.specs.Machine.{counter_row, counter_of, kind_qual, bump_reply}
 use Rattle.cell_model.specs.Counts.{point_entries, point_rows}
@@ -41,7 +42,7 @@ use Rattle.map_body.proofs.Counted.{counters_set}
 use Rattle.map_body.proofs.Maps.{tied, untied, same_or_not, no_some}
 use Rattle.map_body.proofs.Flat.{AllSome, flat_entries, filter_flat, cells_of_flat, head_of, find_head, head_flat, length_flat, keys_flat, find_none}
 use Rattle.map_body.proofs.Tables.{sheet, row_of, all_sorted, cells_all, of_table, filter_all, filter_sheet, entries_some, row_of_counters, row_of_other, look}
-use Rattle.map_body.proofs.Changes.{still_no_counters, table_written, table_stamped, table_dropped, counter_written, counter_value}
+use Rattle.map_body.proofs.Changes.{still_no_counters, table_written, table_stamped, table_dropped, counter_written, counter_value, value_is}
 
 below_three : (t : Table) → table_number t < 3
 below_three Ids = omega arith
@@ -72,6 +73,19 @@ module _ (w : Widths) (tables : List Rows) (counters : CellMap) (inv : NoCounter
   written_whole qual value version e =
       ap (λ (l : List Rows). store_in w l counters) set_at
       ∙ table_written w tables counters inv.0 inv.1 t bytes apart new changed at_t qual value version (e ∙ ap (λ (r : Rows). insert (row_in r bytes) qual (value, version)) there)
+
+  pub appended_whole : (piece : List ℕ) → changed ≡ cells.appended (row_in old bytes) piece 0 → store_in w (slice_set tables n new) counters ≡ appended (store_in w tables counters) (record { table = t; bytes = bytes }) piece 0
+  appended_whole piece e = written_whole column_qual (or_nothing (value_at (store_in w tables counters) (record { table = t; bytes = bytes }) column_qual) ++ piece) 0
+      (e ∙ ap (λ (v : List ℕ). insert (row_in old bytes) column_qual (v ++ piece, 0)) stood)
+    where
+      either : (o : Option (List ℕ × ℕ)) → cells.bytes_there o ≡ or_nothing (option_map (λ (c : List ℕ × ℕ). c.0) o)
+      either None = refl
+      either (Some c) = refl
+
+      stood : cells.bytes_there (get (row_in old bytes) column_qual) ≡ or_nothing (value_at (store_in w tables counters) (record { table = t; bytes = bytes }) column_qual)
+      stood = either (get (row_in old bytes) column_qual)
+          ∙ ap (λ (r : Rows). or_nothing (option_map (λ (c : List ℕ × ℕ). c.0) (get (row_in r bytes) column_qual))) there
+          ∙ sym (ap or_nothing (value_is w tables counters (record { table = t; bytes = bytes }) apart column_qual))
 
   pub stamped_whole : (qual : List ℕ) (version : ℕ) → changed ≡ cells.stamped (row_in old bytes) qual version → store_in w (slice_set tables n new) counters ≡ stamped (store_in w tables counters) (record { table = t; bytes = bytes }) qual version
   stamped_whole qual version e =

@@ -1,5 +1,5 @@
 -- The finite map of a table's rows after a change.
-use Rattle.std.proofs.Common.{◌≡◌, ◌≢◌, ◌⊎◌, inl, inr, ℕ, ◌+◌, Bool, true, false, cond, T, List, [], ◌∷◌, refl, sym, ap, subst, ◌∙◌, arith}
+use Rattle.std.proofs.Common.{◌≡◌, ◌≢◌, ◌⊎◌, inl, inr, ℕ, ◌+◌, Bool, true, false, cond, T, List, [], ◌∷◌, ◌++◌, refl, sym, ap, subst, ◌∙◌, arith}
 use Rattle.std.specs.Prelude.{Option, None, Some, unwrap_or, is_some, Result, Ok, Err, OnErr}
 use Rattle.std.specs.declared.cmp.Ordering.{Ordering}
 use Rattle.std.specs.declared.cmp.Ordering.TheVariants.{Less, Equal, Greater}
@@ -12,7 +12,8 @@ use Rattle.std.specs.FinMap.{find, put, is_sorted, entries, from_entries, from_s
 use Rattle.std.specs.FinMap.Entries.{by_order}
 use Rattle.list_lemmas.proofs.BoolTests.{is_equal}
 use Rattle.list_lemmas.specs.BytesOrder.{bytes_cmp}
-use Rattle.packed_cells.specs.Keyed.{CellMap}
+use Rattle.qual_codec.specs.CellDots.{column_qual}
+use Rattle.packed_cells.specs.Keyed.{CellMap, appended, bytes_there}
 use Rattle.row_pages.specs.RowMaps.{Rows}
 use Rattle.map_body.specs.TableRows.{count_of, cells_among, row_in, NoneEmpty, ChangesRow}
 
@@ -82,6 +83,9 @@ written_some cells q c is =
     let here : get (insert cells q c) q ≡ Some c = get-insert nat_list_cmp_total cells q c q ∙ ap (λ b. cond b (Some c) (get cells q)) (tied q) in
     let none : get (insert cells q c) q ≡ None = ap (λ m. get m q) is ∙ get-empty bytes_cmp q in
     cc
+
+pub appended_some : (cells : CellMap) (piece : List ℕ) (version : ℕ) → appended cells piece version ≢ empty
+appended_some cells piece version = written_some cells column_qual (bytes_there (get cells column_qual) ++ piece, version)
 
 -- a row that is there, and one that isn't
 pub row_found : (m : Rows) (k : List ℕ) (v : CellMap) → Some v ≡ get m k → row_in m k ≡ v

@@ -210,6 +210,13 @@ impl Body for MapBody {
         self.put_cell(alloc, row.table, &row.bytes, qual, value)
     }
 
+    #[inline(always)]
+    fn append(&mut self, alloc: Global, row: &Row, piece: &Bytes) -> Result<(), AllocError> {
+        let rows = &mut self.tables[number(row.table)];
+        rows.append(alloc, &row.bytes, piece.list())?;
+        Ok(())
+    }
+
     fn drop_cells(&mut self, row: &Row, which: &Drops) -> u64 {
         let rows = &mut self.tables[number(row.table)];
         rows.drop_cells(&row.bytes, which.list())

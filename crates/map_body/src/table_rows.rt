@@ -5,7 +5,7 @@ ghost use Rattle.std.specs.FinMap.{empty, get, insert, len, entries};
 ghost use Rattle.std.specs.Ordering.{is_lt};
 ghost use Rattle.cell_model.specs.Rising.{LinesRise};
 ghost use Rattle.list_lemmas.specs.BytesOrder.{bytes_cmp};
-ghost use Rattle.packed_cells.specs.Keyed.{CellMap, stamped};
+ghost use Rattle.packed_cells.specs.Keyed.{CellMap, appended, stamped};
 ghost use Rattle.map_body.specs.TableRows.{count_of, row_in, NoneEmpty, ChangesRow, left, gone, is_within, cells_among};
 ghost use Rattle.row_pages.specs.RowMaps.{Rows, rows_below, rows_from};
 ghost use Rattle.map_body.specs.Whole.{lines_in};
@@ -158,6 +158,22 @@ impl TableRows {
         Ok(())
     }
 
+    /// Adds a piece to the column of a row, behind what stands there, and gives it version 0. Once the row has a column, the piece
+    /// alone is copied.
+    #[inline(always)]
+    pub fn append(&mut self, alloc: Global, row: &Bytes, piece: &[u8]) -> Result<(), AllocError>
+        ensures ok { OnOk result (ChangesRow self.old self.new row.now (appended (row_in self.old row.now) piece.now 0)) }
+        ensures err { OnErr result (self.new ≡ self.old) }
+    {
+        if self.count == u64::MAX {
+            return Err(AllocError);
+        }
+        if append_to(&mut self.rows, alloc, row, piece)? {
+            self.count += 1;
+        }
+        Ok(())
+    }
+
     /// Removes each cell of a row that is named and has a version not above the one named, and answers how many.
     pub fn drop_cells(&mut self, row: &Bytes, which: &[(Bytes, u64)]) -> u64
         ensures count { result ≡ gone (row_in self.old row.now) which.now }
@@ -252,6 +268,62 @@ fn put_first(
     let mut cells = RowCells::make(alloc);
     cells.put(qual, value, 0)?;
     rows.insert(row.again(alloc)?, cells)?;
+    Ok(())
+}
+
+// Adds a piece to the column of a row, which then has version 0, and answers whether there was none.
+#[inline(always)]
+fn append_to(
+    rows: &mut RowPages,
+    alloc: Global,
+    row: &Bytes,
+    piece: &[u8],
+) -> Result<bool, AllocError>
+    ensures ok { OnOk result (rows.new ≡ insert rows.old row.now (appended (row_in rows.old row.now) piece.now 0)) }
+    ensures count { IfOk result (λ added. count_of rows.new ≡ count_of rows.old + (if added then 1 else 0)) }
+    ensures err { OnErr result (rows.new ≡ rows.old) }
+{
+    match rows.get_mut(row) {
+        Some(cells) => {
+            let added = append_more(cells, alloc, piece)?;
+            Ok(added)
+        }
+        None => {
+            append_first(rows, alloc, row, piece)?;
+            Ok(true)
+        }
+    }
+}
+
+// Adds a piece to the column among the cells of its row, and answers whether there was none.
+#[tactic(auto, using(crate::proofs::CellLemmas::len_put))]
+#[inline(always)]
+fn append_more(cells: &mut RowCells, alloc: Global, piece: &[u8]) -> Result<bool, AllocError>
+    ensures ok { OnOk result (cells.new ≡ appended cells.old piece.now 0) }
+    ensures count { IfOk result (λ added. len cells.new ≡ len cells.old + (if added then 1 else 0)) }
+    ensures err { OnErr result (cells.new ≡ cells.old) }
+{
+    let before = cells.len();
+    cells.append(alloc, piece, 0)?;
+    Ok(cells.len() > before)
+}
+
+// Writes a row with a column that is this piece, with version 0.
+#[inline(never)]
+fn append_first(
+    rows: &mut RowPages,
+    alloc: Global,
+    row: &Bytes,
+    piece: &[u8],
+) -> Result<(), AllocError>
+    requires { get rows.old row.now ≡ None }
+    ensures ok { OnOk result (rows.new ≡ insert rows.old row.now (appended empty piece.now 0)) }
+    ensures count { OnOk result (count_of rows.new ≡ count_of rows.old + 1) }
+    ensures err { OnErr result (rows.new ≡ rows.old) }
+{
+    let mut first = RowCells::make(alloc);
+    first.append(alloc, piece, 0)?;
+    rows.insert(row.again(alloc)?, first)?;
     Ok(())
 }
 

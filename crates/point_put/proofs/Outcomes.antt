@@ -56,7 +56,7 @@ put_failed c point old new e p = (p.list, p.made, λ h l f. at h l f e p.answere
     at h l f Stopped x = entries h f
 
 -- they were, and then the cell was put or not
-pub put_done : (c : Admission) (point : DataPoint) (old mid new : Seen) (key : RowKey) (r : Result Stored PutFault) → NamesAsked {T = RowKey} c (names_of point) old (Ok key) mid → StoreMade point mid r new → PutSays c point old r new
+pub put_done : (c : Admission) (point : DataPoint) (old mid new : Seen) (key : RowKey) (r : Result Stored PutFault) → NamesAsked {T = RowKey} c (names_of point) old (Ok key) mid → StoreMade c.config.appends point mid r new → PutSays c point old r new
 put_done c point old mid new key (Ok stored) p (d, made, did, base) =
     let all = made_joined old mid new p.list (d ∷ []) p.made made in
     (p.list ++ d ∷ [], all, λ h l f. record { names = p.list; put = d; list_is = refl; entries = entries_at c (names_of point) old new p.list h all.since.extends.base f p.entries; did = did h l f; base = base })
@@ -104,7 +104,7 @@ Few point list = length list ≤ 4 * (1 + 2 * length point.tags) + 1
 pub few_failed : {T : Type 0} (c : Admission) (point : DataPoint) (old new : Seen) (r : Result T PutFault) → NamesAsked {T = T} c (names_of point) old r new → MadeSo old (Few point) new
 few_failed c point old new r p = (p.list, p.made, let n = few old.base.widths c point p.list p.entries in omega (arith, n))
 
-pub few_done : (c : Admission) (point : DataPoint) (old mid new : Seen) (key : RowKey) (r : Result Stored PutFault) → NamesAsked {T = RowKey} c (names_of point) old (Ok key) mid → StoreMade point mid r new → MadeSo old (Few point) new
+pub few_done : (c : Admission) (point : DataPoint) (old mid new : Seen) (key : RowKey) (r : Result Stored PutFault) → NamesAsked {T = RowKey} c (names_of point) old (Ok key) mid → StoreMade c.config.appends point mid r new → MadeSo old (Few point) new
 few_done c point old mid new key (Ok stored) p (d, made, did, base) =
     (p.list ++ d ∷ [], made_joined old mid new p.list (d ∷ []) p.made made, let n = few old.base.widths c point p.list p.entries in let m = length-append p.list (d ∷ []) in omega (arith, n, m))
 few_done c point old mid new key (Err (Unknown kind name)) p s = absurd s

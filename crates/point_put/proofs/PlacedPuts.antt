@@ -64,26 +64,26 @@ pub refilled_as : (p q : PlacedPoint) (time : ℕ) (fine : Bool) (value value' :
 refilled_as p q time fine value value' same r = subst (λ v. IsRefilled p time fine v q) same r
 
 -- a put whose names were all shown takes one step
-pub put_shown : (c : Admission) (point : DataPoint) (old new : Seen) (key : RowKey) (r : Result Stored PutFault) → AllShown old (names_of point) → StoreMade point old r new → PutSays c point old r new
+pub put_shown : (c : Admission) (point : DataPoint) (old new : Seen) (key : RowKey) (r : Result Stored PutFault) → AllShown old (names_of point) → StoreMade c.config.appends point old r new → PutSays c point old r new
 put_shown c point old new key r all made = put_done c point old old new key r (record { list = []; made = nothing_made old; entries = none_for old.base.widths c (names_of point); answered = all }) made
 
 -- a step of a put loses nothing
-pub stored_later : (point : DataPoint) (old new : Seen) (r : Result Stored PutFault) → StoreMade point old r new → IsLater old new
-stored_later point old new (Ok stored) (d, made, did, base) = (made.since.extends, made.since.lives)
-stored_later point old new (Err (fault.Unknown kind name)) s = absurd s
-stored_later point old new (Err (fault.Filtered kind name)) s = absurd s
-stored_later point old new (Err (fault.Exhausted kind)) s = absurd s
-stored_later point old new (Err fault.OutOfMemory) s = (s.since.extends, s.since.lives)
-stored_later point old new (Err fault.Stopped) s = (s.since.extends, s.since.lives)
+pub stored_later : (appends : Bool) (point : DataPoint) (old new : Seen) (r : Result Stored PutFault) → StoreMade appends point old r new → IsLater old new
+stored_later appends point old new (Ok stored) (d, made, did, base) = (made.since.extends, made.since.lives)
+stored_later appends point old new (Err (fault.Unknown kind name)) s = absurd s
+stored_later appends point old new (Err (fault.Filtered kind name)) s = absurd s
+stored_later appends point old new (Err (fault.Exhausted kind)) s = absurd s
+stored_later appends point old new (Err fault.OutOfMemory) s = (s.since.extends, s.since.lives)
+stored_later appends point old new (Err fault.Stopped) s = (s.since.extends, s.since.lives)
 
 -- and makes one entry at most
-pub one_made : (point : DataPoint) (old new : Seen) (r : Result Stored PutFault) → StoreMade point old r new → MadeSo old (λ list. length list ≤ 1) new
-one_made point old new (Ok stored) (d, made, did, base) = (d ∷ [], made, omega arith)
-one_made point old new (Err (fault.Unknown kind name)) s = absurd s
-one_made point old new (Err (fault.Filtered kind name)) s = absurd s
-one_made point old new (Err (fault.Exhausted kind)) s = absurd s
-one_made point old new (Err fault.OutOfMemory) s = ([], s, omega arith)
-one_made point old new (Err fault.Stopped) s = ([], s, omega arith)
+pub one_made : (appends : Bool) (point : DataPoint) (old new : Seen) (r : Result Stored PutFault) → StoreMade appends point old r new → MadeSo old (λ list. length list ≤ 1) new
+one_made appends point old new (Ok stored) (d, made, did, base) = (d ∷ [], made, omega arith)
+one_made appends point old new (Err (fault.Unknown kind name)) s = absurd s
+one_made appends point old new (Err (fault.Filtered kind name)) s = absurd s
+one_made appends point old new (Err (fault.Exhausted kind)) s = absurd s
+one_made appends point old new (Err fault.OutOfMemory) s = ([], s, omega arith)
+one_made appends point old new (Err fault.Stopped) s = ([], s, omega arith)
 
 pub one_is_few : (point : DataPoint) (old new : Seen) → MadeSo old (λ list. length list ≤ 1) new → MadeSo old (IsFewFor point) new
 one_is_few point old new (list, made, one) = (list, made, omega (arith, one))
@@ -92,14 +92,14 @@ pub none_made : (s : Seen) → MadeSo s (λ list. length list ≤ 1) s
 none_made s = ([], nothing_made s, omega arith)
 
 -- the next point of a series was put
-pub next_says : (c : Admission) (old mid : Seen) (p q : PlacedPoint) (time : ℕ) (fine : Bool) (value : ℤ) (r : Result (Unit {0}) PutFault) → IsTime time fine → IsRefilled p time fine value q → IsPlaced old p → StoreMade (data_point q.point) old (answer_at r (place_of q)) mid
+pub next_says : (c : Admission) (appends : Bool) (old mid : Seen) (p q : PlacedPoint) (time : ℕ) (fine : Bool) (value : ℤ) (r : Result (Unit {0}) PutFault) → c.config.appends ≡ appends → IsTime time fine → IsRefilled p time fine value q → IsPlaced old p → StoreMade appends (data_point q.point) old (answer_at r (place_of q)) mid
     → PutSays c (point_at (data_point p.point) time fine value) old (answer_at r (place_of q)) mid
-next_says c old mid p q time fine value r t f h made =
+next_says c appends old mid p q time fine value r same t f h made =
     subst (λ d. PutSays c d old (answer_at r (place_of q)) mid) f.point
-    (put_shown c (data_point q.point) old mid h.key (answer_at r (place_of q)) (refilled old p q time fine value t f h).names made)
+    (put_shown c (data_point q.point) old mid h.key (answer_at r (place_of q)) (refilled old p q time fine value t f h).names (subst (λ b. StoreMade b (data_point q.point) old (answer_at r (place_of q)) mid) (sym same) made))
 
-pub next_placed : (old mid : Seen) (p q : PlacedPoint) (time : ℕ) (fine : Bool) (value : ℤ) (r : Result (Unit {0}) PutFault) → IsTime time fine → IsRefilled p time fine value q → IsPlaced old p → StoreMade (data_point q.point) old (answer_at r (place_of q)) mid → IsPlaced mid q
-next_placed old mid p q time fine value r t f h made = placed_kept old mid q (stored_later (data_point q.point) old mid (answer_at r (place_of q)) made) (refilled old p q time fine value t f h)
+pub next_placed : (appends : Bool) (old mid : Seen) (p q : PlacedPoint) (time : ℕ) (fine : Bool) (value : ℤ) (r : Result (Unit {0}) PutFault) → IsTime time fine → IsRefilled p time fine value q → IsPlaced old p → StoreMade appends (data_point q.point) old (answer_at r (place_of q)) mid → IsPlaced mid q
+next_placed appends old mid p q time fine value r t f h made = placed_kept old mid q (stored_later appends (data_point q.point) old mid (answer_at r (place_of q)) made) (refilled old p q time fine value t f h)
 
 -- without memory for its row it wasn't
 pub not_refilled : (c : Admission) (s : Seen) (p : PlacedPoint) (point : DataPoint) → names_of point ≡ names_of (data_point p.point) → IsPlaced s p → PutSays c point s (Err fault.OutOfMemory) s

@@ -1,9 +1,10 @@
 -- What a put is answered, by the entries that its caller makes for it.
-use Rattle.std.specs.Prelude.{◌≡◌, ℕ, List, [], ◌∷◌, ◌++◌, Some, Result, Ok, Err}
+use Rattle.std.specs.Prelude.{◌≡◌, ℕ, Bool, true, false, List, [], ◌∷◌, ◌++◌, Some, Result, Ok, Err}
 use Rattle.tsd_base.specs.Points.{DataPoint}
 use Rattle.cell_model.specs.declared.answers.Stored.{Stored}
 use Rattle.cell_model.specs.declared.row.Row.{Row}
-use Rattle.cell_model.specs.declared.events.Step.TheVariants.{PutPoint}
+use Rattle.cell_model.specs.declared.events.Step.{Step}
+use Rattle.cell_model.specs.declared.events.Step.TheVariants.{PutPoint, AppendPoint}
 use Rattle.cell_model.specs.declared.events.Reply.TheVariants.{Written}
 use Rattle.cell_model.specs.declared.events.Placed.{Placed}
 use Rattle.cell_model.specs.Layout.{names_of, base_time}
@@ -18,34 +19,39 @@ use Rattle.point_put.specs.declared.fault.PutFault.TheVariants.{Unknown, Filtere
 use Rattle.point_put.specs.Admissions.{Admission}
 use Rattle.point_put.specs.Entries.{ForNames, WasUnknown, WasFiltered, WasExhausted, Before}
 
--- the entry puts the point in this row, in the layout with the ids that its names have after the history
-pub record DidPut (h : History) (point : DataPoint) (row : Row) (d : Placed) : Type 0 where
+-- the step that stores a point in this row: with appends it adds the qualifier and then the value to the row's column, else it puts them as a cell
+abbrev pub store_step : Bool → DataPoint → Row → List ℕ → List ℕ → Step
+store_step true point row qual value = AppendPoint point row (qual ++ value)
+store_step false point row qual value = PutPoint point row qual value
+
+-- the entry puts the point in this row, or with appends it appends it there, in the layout with the ids that its names have after the history
+pub record DidStore (appends : Bool) (h : History) (point : DataPoint) (row : Row) (d : Placed) : Type 0 where
   pub qual : List ℕ
   pub value : List ℕ
-  pub did : Did d (PutPoint point row qual value) Written
+  pub did : Did d (store_step appends point row qual value) Written
   pub layout : PointBasis (store_after h).widths (λ kind name id. id_of h kind name ≡ Some id) point row qual value
 
--- the entries for the names, and one more, which puts the point
+-- the entries for the names, and one more, which puts or appends the point
 pub record WasStored (c : Admission) (point : DataPoint) (h : History) (list : List Placed) (stored : Stored) : Type 0 where
   pub names : List Placed
   pub put : Placed
   pub list_is : list ≡ names ++ put ∷ []
   pub entries : ForNames (store_after h).widths c (names_of point) names
-  pub did : DidPut h point stored.row put
+  pub did : DidStore c.config.appends h point stored.row put
   pub base : stored.base ≡ base_time point.time
 
 -- what the last step of a put makes
-abbrev pub StoreMade : DataPoint → Seen → Result Stored PutFault → Seen → Type 0
-StoreMade point old (Ok stored) new =
-    (d : Placed) × Made old (d ∷ []) new × InEach new (λ h. DidPut (first new.length h) point stored.row d) × (stored.base ≡ base_time point.time)
-StoreMade point old (Err (Unknown kind name)) new = ⊥
-StoreMade point old (Err (Filtered kind name)) new = ⊥
-StoreMade point old (Err (Exhausted kind)) new = ⊥
-StoreMade point old (Err OutOfMemory) new = Made old [] new
-StoreMade point old (Err Stopped) new = Made old [] new
+abbrev pub StoreMade : Bool → DataPoint → Seen → Result Stored PutFault → Seen → Type 0
+StoreMade appends point old (Ok stored) new =
+    (d : Placed) × Made old (d ∷ []) new × InEach new (λ h. DidStore appends (first new.length h) point stored.row d) × (stored.base ≡ base_time point.time)
+StoreMade appends point old (Err (Unknown kind name)) new = ⊥
+StoreMade appends point old (Err (Filtered kind name)) new = ⊥
+StoreMade appends point old (Err (Exhausted kind)) new = ⊥
+StoreMade appends point old (Err OutOfMemory) new = Made old [] new
+StoreMade appends point old (Err Stopped) new = Made old [] new
 
--- A point was asked, by these entries of its caller and the history as long as the caller has seen it. Accepted, they have one put, of the point;
--- refused, they have none, and the names before the one that is told are resolved; without memory or stopped, they have none.
+-- A point was asked, by these entries of its caller and the history as long as the caller has seen it. Accepted, they have one put, or with appends
+-- one append, of the point; refused, they have neither, and the names before the one that is told are resolved; without memory or stopped, they have neither.
 abbrev pub PointAsked : Admission → DataPoint → History → List Placed → Result Stored PutFault → Type 0
 PointAsked c point h list (Ok stored) = WasStored c point h list stored
 PointAsked c point h list (Err (Unknown kind name)) = ForNames (store_after h).widths c (names_of point) list × WasUnknown c kind name list × Before (names_of point) kind name (AllResolved h)

@@ -43,7 +43,7 @@ pub fn put_first<R: Rows + Drop>(
     let Ok(placed) = place(alloc, point, &key, names.widths()) else {
         return Err(PutFault::OutOfMemory);
     };
-    match store_placed(names, alloc, &placed) {
+    match store_placed(names, alloc, config, &placed) {
         Ok(()) => Ok(placed),
         Err(fault) => Err(fault),
     }
@@ -69,14 +69,15 @@ fn place(
     })
 }
 
-/// Puts another point of the series, which takes the place of the one before. One step writes its cell, and nothing is asked: an id of
-/// each of its names was seen.
+/// Puts another point of the series, which takes the place of the one before. One step writes it, as [`put`](crate::put) does, and
+/// nothing is asked: an id of each of its names was seen.
 ///
-/// Where there was no memory or the caller was stopped, no cell was written, and the next point may be put all the same.
+/// Where there was no memory or the caller was stopped, nothing was written, and the next point may be put all the same.
 #[inline]
 pub fn put_next<R: Rows + Drop>(
     alloc: Global,
     names: &mut Uids<R>,
+    config: &Config,
     placed: &mut PlacedPoint,
     time: u64,
     fine: bool,
@@ -84,7 +85,7 @@ pub fn put_next<R: Rows + Drop>(
 ) -> Result<(), PutFault>
     requires timed { IsTime time fine }
     requires placed { IsPlaced (R.seen names.old) placed.old }
-    ensures says { (c : Admission) → PutSays c (point_at (data_point placed.old.point) time fine value) (R.seen names.old) (answer_at result (place_of placed.new)) (R.seen names.new) }
+    ensures says { (c : Admission) → c.config.appends ≡ config.now.appends → PutSays c (point_at (data_point placed.old.point) time fine value) (R.seen names.old) (answer_at result (place_of placed.new)) (R.seen names.new) }
     ensures placed { IsPlaced (R.seen names.new) placed.new }
     ensures metric { placed.new.point.metric ≡ placed.old.point.metric }
     ensures tags { placed.new.point.tags ≡ placed.old.point.tags }
@@ -94,5 +95,5 @@ pub fn put_next<R: Rows + Drop>(
     let Ok(()) = placed.refill(alloc, time, fine, value) else {
         return Err(PutFault::OutOfMemory);
     };
-    store_placed(names, alloc, placed)
+    store_placed(names, alloc, config, placed)
 }

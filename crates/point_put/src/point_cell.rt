@@ -1,10 +1,12 @@
 //! The cell of a point: the row of its key, its qualifier and its value.
-ghost use Rattle.std.specs.Prelude.{◌≡◌, ◌%◌, [], ◌∷◌, length, IfOk};
+ghost use Rattle.std.specs.Prelude.{◌≡◌, ◌+◌, ◌≤◌, ◌%◌, [], ◌∷◌, ◌++◌, length, IfOk};
+ghost use Rattle.arrayvec.specs.ArrayVec.{array_vec_len};
 ghost use Rattle.row_key.specs.Key.{IsKey, key_bytes};
 ghost use Rattle.qual_codec.specs.CellDots.{IsDots};
 ghost use Rattle.qual_codec.specs.Spelling.{IsShortest, dot_of};
 ghost use Rattle.cell_model.specs.Readings.{point_row};
 
+use arrayvec::ArrayVec;
 use cell_model::row::Row;
 use qual_codec::{Bytes, Item, laws, pack_item, pack_value};
 use row_hours::HOUR_MILLIS;
@@ -44,4 +46,28 @@ pub fn qualifier_of(point: &Point, value: &[u8]) -> Bytes
         len: value.len() as u8,
     });
     Bytes::short(bytes.as_slice())
+}
+
+/// A qualifier and behind it a value of so few bytes, as they are appended to a column. They take no memory.
+#[inline]
+pub fn piece_of(qual: &[u8], value: &[u8]) -> Bytes
+    requires { length qual.now + length value.now ≤ 12 }
+    ensures { result ≡ qual.now ++ value.now }
+{
+    let mut bytes = ArrayVec::new();
+    add(&mut bytes, qual);
+    add(&mut bytes, value);
+    Bytes::short(bytes.as_slice())
+}
+
+/// Adds bytes, for which there is room.
+#[inline]
+fn add(bytes: &mut ArrayVec<u8, 12>, more: &[u8])
+    requires room { array_vec_len bytes.old + length more.now ≤ 12 }
+    ensures items { bytes.new.items ≡ bytes.old.items ++ more.now }
+    ensures len { array_vec_len bytes.new ≡ array_vec_len bytes.old + length more.now }
+{
+    let Ok(()) = bytes.try_extend_from_slice(more) else {
+        unreachable!()
+    };
 }

@@ -1,18 +1,24 @@
 //! Puts a point by the ids of its key, or in its row.
+ghost use Rattle.std.specs.Prelude.{◌≤◌, OnOk, OnErr, IfErr};
 ghost use Rattle.tsd_base.specs.Points.{data_point};
+ghost use Rattle.cell_model.specs.declared.events.Step.TheVariants.{PutPoint};
+ghost use Rattle.cell_model.specs.declared.events.Reply.TheVariants.{Written};
 ghost use Rattle.cell_model.specs.Layout.{names_of};
-ghost use Rattle.cell_model.specs.Seen.{IsPossible};
+ghost use Rattle.cell_model.specs.Seen.{IsPossible, Knows, RoseIfStopped, Stepped, Waited};
 ghost use Rattle.cell_model.specs.Calls.{Leaves};
 ghost use Rattle.uid_table.specs.PlacedPoints.{IsPlaced};
 ghost use Rattle.point_put.specs.PutFaults.{is_stop};
 ghost use Rattle.point_put.specs.ShownIds.{AllShown, KeyShown};
-ghost use Rattle.point_put.specs.PutPoint.{StoreMade};
+ghost use Rattle.point_put.specs.PutPoint.{StoreMade, store_step};
 ghost use Rattle.point_put.specs.StoredTexts.{answer_at, place_of};
 
+use crate::config::Config;
 use crate::fault::PutFault;
-use crate::point_cell::{qualifier_of, row_of, value_of};
-use cell_model::answers::Stored;
+use crate::point_cell::{piece_of, qualifier_of, row_of, value_of};
+use cell_model::answers::{RowsFault, Stored};
+use cell_model::row::Row;
 use cell_model::rows::Rows;
+use qual_codec::Bytes;
 use row_key::RowKey;
 use std::alloc::Global;
 use tsd_base::points::Point;
@@ -23,19 +29,20 @@ use uid_table::uids::Uids;
 pub fn store<R: Rows + Drop>(
     names: &mut Uids<R>,
     alloc: Global,
+    config: &Config,
     point: &Point,
     key: &RowKey,
 ) -> Result<Stored, PutFault>
     requires key { KeyShown (R.seen names.old) (data_point point.now) key.now }
     requires names { AllShown (R.seen names.old) (names_of (data_point point.now)) }
     requires possible { IsPossible (R.seen names.old) }
-    ensures made { StoreMade (data_point point.now) (R.seen names.old) result (R.seen names.new) }
+    ensures made { StoreMade config.now.appends (data_point point.now) (R.seen names.old) result (R.seen names.new) }
     ensures leaves { Leaves is_stop result (R.seen names.new) (R.stops names.old) (R.stops names.new) }
 {
     let row = row_of(alloc, key, names.widths())?;
     let value = value_of(point);
     let qual = qualifier_of(point, value.list());
-    names.put_point(alloc, point, &row, &qual, &value)?;
+    write_point(names, alloc, config.appends, point, &row, &qual, &value)?;
     Ok(Stored {
         row,
         base: key.base,
@@ -47,15 +54,51 @@ pub fn store<R: Rows + Drop>(
 pub fn store_placed<R: Rows + Drop>(
     names: &mut Uids<R>,
     alloc: Global,
+    config: &Config,
     placed: &PlacedPoint,
 ) -> Result<(), PutFault>
     requires { IsPlaced (R.seen names.old) placed.now }
-    ensures made { StoreMade (data_point placed.now.point) (R.seen names.old) (answer_at result (place_of placed.now)) (R.seen names.new) }
+    ensures made { StoreMade config.now.appends (data_point placed.now.point) (R.seen names.old) (answer_at result (place_of placed.now)) (R.seen names.new) }
     ensures leaves { Leaves is_stop result (R.seen names.new) (R.stops names.old) (R.stops names.new) }
 {
     let point = &placed.point;
     let value = value_of(point);
     let qual = qualifier_of(point, value.list());
-    names.put_point(alloc, point, &placed.row, &qual, &value)?;
+    write_point(
+        names,
+        alloc,
+        config.appends,
+        point,
+        &placed.row,
+        &qual,
+        &value,
+    )?;
     Ok(())
+}
+
+/// Stores a point whose put is known to be allowed: as a cell, or where points are appended behind what stands in its row's column.
+#[inline(always)]
+fn write_point<R: Rows + Drop>(
+    names: &mut Uids<R>,
+    alloc: Global,
+    appends: bool,
+    point: &Point,
+    row: &Row,
+    qual: &Bytes,
+    value: &Bytes,
+) -> Result<(), RowsFault>
+    requires { Knows (R.seen names.old) (PutPoint (data_point point.now) row.now qual.now value.now) }
+    ensures ok { OnOk result (Stepped (R.seen names.old) (store_step appends (data_point point.now) row.now qual.now value.now) Written (R.seen names.new)) }
+    ensures err { OnErr result (Waited (R.seen names.old) (R.seen names.new)) }
+    ensures possible { OnOk result (IsPossible (R.seen names.new)) }
+    ensures lives { OnErr result (IsPossible (R.seen names.old) → IsPossible (R.seen names.new)) }
+    ensures grows { R.stops names.old ≤ R.stops names.new }
+    ensures stopped { IfErr result (RoseIfStopped (R.stops names.old) (R.stops names.new)) }
+{
+    if appends {
+        let piece = piece_of(qual.list(), value.list());
+        names.append_point(alloc, point, row, &piece)
+    } else {
+        names.put_point(alloc, point, row, qual, value)
+    }
 }

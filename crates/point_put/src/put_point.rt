@@ -22,7 +22,8 @@ use uid_table::uids::Uids;
 ///
 /// The names are the metric, then each tag in byte order of its key, key before value. One that has no id is given one where names of
 /// its kind are and the rule allows it, else it refuses the point; a name that has an id is never asked of the rule. Then one step
-/// writes the cell of the point. A fault writes no cell, and names that were given ids before it keep them.
+/// writes the point: it puts a cell, or where points are appended it adds to the column of the row. A fault writes neither, and names that
+/// were given ids before it keep them.
 pub fn put<R: Rows + Drop>(
     alloc: Global,
     names: &mut Uids<R>,
@@ -35,5 +36,5 @@ pub fn put<R: Rows + Drop>(
     ensures leaves { Leaves is_stop result (R.seen names.new) (R.stops names.old) (R.stops names.new) }
 {
     let key = key_for(names, alloc, rule, config, point)?;
-    store(names, alloc, point, &key)
+    store(names, alloc, config, point, &key)
 }

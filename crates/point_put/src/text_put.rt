@@ -66,7 +66,7 @@ fn put_parts<R: Rows + Drop>(
     ensures leaves { Leaves is_text_stop result (R.seen names.new) (R.stops names.old) (R.stops names.new) }
 {
     match names.take_series(parts.metric, parts.tags) {
-        Some(series) => put_known(alloc, names, text, parts, series),
+        Some(series) => put_known(alloc, names, config, text, parts, series),
         None => put_new(alloc, names, rule, config, text, parts),
     }
 }
@@ -76,6 +76,7 @@ fn put_parts<R: Rows + Drop>(
 fn put_known<R: Rows + Drop>(
     alloc: Global,
     names: &mut Uids<R>,
+    config: &Config,
     text: &[u8],
     parts: &TextParts<'_>,
     series: Box<KnownSeries>,
@@ -84,7 +85,7 @@ fn put_known<R: Rows + Drop>(
     requires shown { IsShownSeries (R.seen names.old) series.value }
     requires metric { series.value.metric ≡ parts.now.metric.now }
     requires tags { series.value.tags ≡ parts.now.tags.now }
-    ensures says { (c : Admission) → TextSays c text.now (R.seen names.old) result (R.seen names.new) }
+    ensures says { (c : Admission) → c.config.appends ≡ config.now.appends → TextSays c text.now (R.seen names.old) result (R.seen names.new) }
     ensures kept { IfOk result (MayBeKept (R.seen names.new)) }
     ensures few { MadeSo (R.seen names.old) (λ list. length list ≤ 1) (R.seen names.new) }
     ensures leaves { Leaves is_text_stop result (R.seen names.new) (R.stops names.old) (R.stops names.new) }
@@ -93,6 +94,7 @@ fn put_known<R: Rows + Drop>(
     match put_next(
         alloc,
         names,
+        config,
         &mut series.placed,
         parts.time,
         parts.fine,

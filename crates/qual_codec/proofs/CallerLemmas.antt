@@ -4,11 +4,11 @@ use Rattle.std.specs.Prelude.{Ok, Result}
 use Rattle.qual_codec.specs.declared.cells.Item.{Item}
 use Rattle.qual_codec.specs.declared.cells.Dot.{Dot}
 use Rattle.qual_codec.specs.declared.cells.CellFault.{CellFault}
-use Rattle.qual_codec.specs.CellDots.{IsDots}
+use Rattle.qual_codec.specs.CellDots.{HoldsDots}
 use Rattle.qual_codec.specs.CellFaults.{CellsReadOnce}
 use Rattle.qual_codec.specs.Order.{BelowExtends, IsAsGood, IsAtMost, IsBelow, ItemsAreUnique}
 use Rattle.qual_codec.proofs.Bits as bits
-use Rattle.qual_codec.proofs.OneReading.{reads_once}
+use Rattle.qual_codec.proofs.Columns.{dots_once, reads_once}
 use Rattle.qual_codec.proofs.Ordering.{below_extends}
 -- ---- the bits of an item
 -- an item's fields have its bits
@@ -19,6 +19,15 @@ pub use Rattle.qual_codec.proofs.Bits.{coarse, fine_number}
 pub use Rattle.qual_codec.proofs.Bits.{coarse_high, fine_high}
 -- an item has two bytes at least, and items have an even number of bytes
 pub use Rattle.qual_codec.proofs.Progress.{even_items, long_fields}
+-- ---- the column
+-- its qualifier is no list of items, and a cell that has its dots by items has them so alone
+pub use Rattle.qual_codec.proofs.Columns.{by_items, items_no_column}
+-- the cell of one item is a piece; pieces stand behind pieces, and those at the front are the first ones
+pub use Rattle.qual_codec.proofs.Columns.{piece_of_cell, pieces_front, pieces_more, pieces_once}
+-- the pieces that were read so far: none yet, one more, which leaves less, and all of them
+pub use Rattle.qual_codec.proofs.ColumnSteps.{HasPieces, all_pieces, none_yet, piece_on, shorter}
+-- a dot of a cell has an item, and its value fits
+pub use Rattle.qual_codec.proofs.Merges.{dot_good}
 -- ---- values at an offset
 -- a dot's value stands at its offset, and a value that stands at an offset is a dot's
 pub use Rattle.qual_codec.proofs.Values.{DotAt, dot_value, value_dot}
@@ -47,12 +56,9 @@ items_once = bits.items_once
 cells_once : CellsReadOnce
 cells_once = reads_once
 
-same_ok : (a b : List Dot) → ◌≡◌ {A = Result (List Dot) CellFault} (Ok a) (Ok b) → a ≡ b
-same_ok a b e = cc
-
 -- a cell has one list of data points
-pub one_dots : (qual value : List ℕ) (a b : List Dot) → IsDots qual value a → IsDots qual value b → a ≡ b
-one_dots qual value a b x y = same_ok a b (cells_once qual value (Ok a) (Ok b) x y)
+pub one_dots : (qual value : List ℕ) (a b : List Dot) → HoldsDots qual value a → HoldsDots qual value b → a ≡ b
+one_dots = dots_once
 
 -- ---- the order of qualifiers
 

@@ -1,4 +1,4 @@
--- A cell reads as one thing alone.
+-- A cell reads as one thing alone, by its items.
 use Rattle.std.proofs.Common.{◌≡◌, ℕ, ◌+◌, ◌-◌, ◌%◌, ◌^◌, ◌≤◌, ◌<◌, Bool, true, false, cond, List, [], ◌∷◌, ◌++◌, length, get_or, drop, Option, None, Some, Result, Ok, Err, refl, sym, ap, subst, ◌∙◌, arith, append_assoc}
 use Rattle.std.proofs.lemmas.Bool.{eq-eqb, le-ltb, lt-leb}
 use Rattle.std.proofs.lemmas.List.{append-nil, drop_at, get_or_at, get_or_append_left, length-append}
@@ -21,26 +21,25 @@ use Rattle.qual_codec.specs.declared.cells.CellFault.TheVariants.{OddLength, Cut
 use Rattle.qual_codec.specs.Items.{IsLength, IsItem, IsItems, Rises, Fields, AreFields, fields_of, field_bytes, item_bytes}
 use Rattle.qual_codec.specs.Items.IsLength.{one, two, four, eight}
 use Rattle.qual_codec.specs.CellDots.{IsDots, items_of, value_bytes, number_bytes, width_of, tail_of, tail_for, has_both}
-use Rattle.qual_codec.specs.CellFaults.{HasWholePairs, Begins, IsCut, is_length, item_fault, values_length, value_fault, tail_fault, IsFirstFault, ReadsAs}
-use Rattle.qual_codec.specs.CellFaults.IsFirstFault.{odd, cut, item, values}
+use Rattle.qual_codec.specs.CellFaults.{HasWholePairs, Begins, IsCut, is_length, item_fault, values_length, value_fault, tail_fault}
 use Rattle.qual_codec.proofs.Bits.{length_low, length_high, are_fields, fields_once, item_once, items_once, some_bytes, coarse, fine_number, coarse_high}
 use Rattle.qual_codec.proofs.Progress.{Fits, even_items, long_fields}
 
 -- ---- where the items of a qualifier end
 
 -- no item is next: the bytes end, or one is cut, or the bits are no next item's
-data Ends (items : List Item) (at : ℕ) (rest : List ℕ) : Option CellFault → Type 0 where
+pub data Ends (items : List Item) (at : ℕ) (rest : List ℕ) : Option CellFault → Type 0 where
   done : rest ≡ [] → Ends items at rest None
   at_cut : IsCut rest → Ends items at rest (Some (CutItem at))
   at_bits : (f : Fields) (after : List ℕ) (fault : CellFault) → rest ≡ field_bytes f ++ after → AreFields f → item_fault items at f ≡ Some fault → Ends items at rest (Some fault)
 
-abbrev none_of : Option CellFault
+abbrev pub none_of : Option CellFault
 none_of = None
 
 abbrev bits_of : Bool → Fields → List ℕ
 bits_of b f = if b then to_be_bytes w32 (fine_number f.offset f.reserved f.flags) else to_be_bytes w16 (coarse f.offset f.flags)
 
-cut_fields : (f : Fields) (rest x : List ℕ) → AreFields f → IsCut rest → rest ≡ field_bytes f ++ x → ⊥
+pub cut_fields : (f : Fields) (rest x : List ℕ) → AreFields f → IsCut rest → rest ≡ field_bytes f ++ x → ⊥
 cut_fields f rest x are c e = at f.fine refl (ap (λ l. slice_index l 0) e) (ap (λ (l : List ℕ). length l) e)
   where
     at : (b : Bool) → f.fine ≡ b → slice_index rest 0 ≡ slice_index (bits_of b f ++ x) 0 → length rest ≡ length (bits_of b f ++ x) → ⊥
@@ -57,7 +56,7 @@ tests_length _ four = refl
 tests_length _ eight = refl
 
 -- an item behind lower ones has no fault
-no_fault : (before : List Item) (at : ℕ) (i : Item) → IsItem i → All (λ (j : Item). j.offset < i.offset) before → item_fault before at (fields_of i) ≡ None
+pub no_fault : (before : List Item) (at : ℕ) (i : Item) → IsItem i → All (λ (j : Item). j.offset < i.offset) before → item_fault before at (fields_of i) ≡ None
 no_fault before at i is low =
     let most = is.offset in
     let high = length_high i.len is.len in
@@ -65,7 +64,7 @@ no_fault before at i is low =
     let late = list_any_none (λ (j : Item). nat_le i.offset j.offset) before (λ k d lt. lt-leb i.offset (get_or before k d).offset (low k d lt)) in
     (λ k. cond (le-ltb LAST_OFFSET i.offset most k) (Some (OffsetTooLarge at)) (cond (lt-leb 8 (i.len - 1) (omega (arith, high, l1)) k) (Some (FloatFlag at)) (cond (not (tests_length i.len is.len k)) (Some (BadLength at (i.len - 1 + 1))) (cond (late k) (Some (NotRising at)) none_of))))
 
-some_is : (f g : CellFault) → Some f ≡ Some g → f ≡ g
+pub some_is : (f g : CellFault) → Some f ≡ Some g → f ≡ g
 some_is f g e = cc
 
 -- where no item is next, none is
@@ -136,7 +135,7 @@ some_length : (items : List Item) → 1 ≤ length items → 1 ≤ length (flat_
 some_length [] some = absurd (omega (arith, some))
 some_length (i ∷ items) some = let two = long_fields (fields_of i) in omega (arith, two, length-append (item_bytes i) (flat_map item_bytes items))
 
-whole_pairs : (qual : List ℕ) (items : List Item) → IsItems qual items → HasWholePairs qual
+pub whole_pairs : (qual : List ℕ) (items : List Item) → IsItems qual items → HasWholePairs qual
 whole_pairs qual items is =
     let len = ap (λ (l : List ℕ). length l) is.qual_is in
     let some = some_length items is.some in
@@ -155,7 +154,7 @@ same_length _ two n m = refl
 same_length _ four n m = refl
 same_length _ eight n m = refl
 
-number_length : (len : ℕ) → IsLength len → (v : ℤ) → length (number_bytes len v) ≡ len
+pub number_length : (len : ℕ) → IsLength len → (v : ℤ) → length (number_bytes len v) ≡ len
 number_length _ one v = refl
 number_length _ two v = refl
 number_length _ four v = refl
@@ -170,7 +169,7 @@ number_once _ n m two a b e = sym (from_be_bytes-to_be_bytes_2 n a) ∙ ap (from
 number_once _ n m four a b e = sym (from_be_bytes-to_be_bytes_4 n a) ∙ ap (from_be_bytes w32) e ∙ from_be_bytes-to_be_bytes_4 m b
 number_once _ n m eight a b e = sym (from_be_bytes-to_be_bytes_8 n a) ∙ ap (from_be_bytes w64) e ∙ from_be_bytes-to_be_bytes_8 m b
 
-value_once : (len : ℕ) (v w : ℤ) (x y : List ℕ) → IsLength len → FitsSigned (width_of len) v → FitsSigned (width_of len) w → number_bytes len v ++ x ≡ number_bytes len w ++ y → (v ≡ w) × (x ≡ y)
+pub value_once : (len : ℕ) (v w : ℤ) (x y : List ℕ) → IsLength len → FitsSigned (width_of len) v → FitsSigned (width_of len) w → number_bytes len v ++ x ≡ number_bytes len w ++ y → (v ≡ w) × (x ≡ y)
 value_once len v w x y l f g e =
     let p = prefix_one (number_bytes len v) (number_bytes len w) x y (same_length len l (cast_unsigned (width_of len) v) (cast_unsigned (width_of len) w)) e in
     let n = number_once len _ _ l (bounded len v f) (bounded len w g) p.0 in
@@ -222,21 +221,11 @@ value_is_right qual value dots is =
 -- ---- one answer
 
 -- what a cell reads as, by where its items end
-data Kind (qual value : List ℕ) : Result (List Dot) CellFault → Type 0 where
+pub data Kind (qual value : List ℕ) : Result (List Dot) CellFault → Type 0 where
   no_pairs : (HasWholePairs qual → ⊥) → Kind qual value (Err OddLength)
   stops : (items : List Item) (at : ℕ) (rest : List ℕ) (fault : CellFault) → Begins qual items at rest → Ends items at rest (Some fault) → Kind qual value (Err fault)
   is_dots : (dots : List Dot) → IsDots qual value dots → Kind qual value (Ok dots)
   bad_value : (items : List Item) (fault : CellFault) → IsItems qual items → value_fault (values_length items) (tail_of items) value ≡ Some fault → Kind qual value (Err fault)
-
-kind_of_fault : (qual value : List ℕ) (fault : CellFault) → IsFirstFault qual value fault → Kind qual value (Err fault)
-kind_of_fault qual value _ (odd h) = no_pairs h
-kind_of_fault qual value _ (cut items at rest b c) = stops items at rest (CutItem at) b (at_cut c)
-kind_of_fault qual value _ (item items at f after fault b are e) = stops items at (field_bytes f ++ after) fault b (at_bits f after fault refl are e)
-kind_of_fault qual value _ (values items fault is e) = bad_value items fault is e
-
-kind_of : (qual value : List ℕ) (a : Result (List Dot) CellFault) → ReadsAs qual value a → Kind qual value a
-kind_of qual value (Ok dots) r = is_dots dots r
-kind_of qual value (Err fault) r = kind_of_fault qual value fault r
 
 ended : (qual : List ℕ) (a b : List Item) (at : ℕ) (rest : List ℕ) (fault : CellFault) → Begins qual a at rest → Ends a at rest (Some fault) → IsItems qual b → ⊥
 ended qual a b at rest fault begins ends is =
@@ -249,7 +238,7 @@ right_and_wrong qual value dots items fault d is bad =
     let conflict : Some fault ≡ none_of = sym bad ∙ ap (λ l. value_fault (values_length l) (tail_of l) value) same ∙ value_is_right qual value dots d in
     cc
 
-kinds_once : (qual value : List ℕ) (a b : Result (List Dot) CellFault) → Kind qual value a → Kind qual value b → a ≡ b
+pub kinds_once : (qual value : List ℕ) (a b : Result (List Dot) CellFault) → Kind qual value a → Kind qual value b → a ≡ b
 kinds_once qual value _ _ (no_pairs h) (no_pairs g) = refl
 kinds_once qual value _ _ (no_pairs h) (stops b bt rb g bb eb) = absurd (h bb.pairs)
 kinds_once qual value _ _ (no_pairs h) (is_dots d p) = absurd (h (whole_pairs qual (items_of d) p.items))
@@ -268,6 +257,3 @@ kinds_once qual value _ _ (bad_value a f is e) (is_dots d q) = absurd (right_and
 kinds_once qual value _ _ (bad_value a f is e) (bad_value b g js h) =
     let same = items_once qual a b is js in
     ap Err (some_is f g (sym e ∙ ap (λ l. value_fault (values_length l) (tail_of l) value) same ∙ h))
-
-pub reads_once : (qual value : List ℕ) (a b : Result (List Dot) CellFault) → ReadsAs qual value a → ReadsAs qual value b → a ≡ b
-reads_once qual value a b x y = kinds_once qual value a b (kind_of qual value a x) (kind_of qual value b y)

@@ -1,5 +1,5 @@
 -- The first thing that is wrong with a cell which doesn't read.
-use Rattle.std.specs.Prelude.{◌≡◌, ℕ, ◌+◌, ◌%◌, ◌<◌, ◌≤◌, Bool, not, ◌||◌, List, ◌∷◌, ◌++◌, length, drop, Option, None, Some, Result, Ok, Err, All, slice_index, nat_lt, nat_eq, nat_le, if◌then◌else◌}
+use Rattle.std.specs.Prelude.{◌≡◌, ◌⊎◌, ℕ, ◌+◌, ◌%◌, ◌<◌, ◌≤◌, Bool, false, not, ◌||◌, List, [], ◌∷◌, ◌++◌, length, drop, Option, None, Some, Result, Ok, Err, All, slice_index, nat_lt, nat_eq, nat_le, if◌then◌else◌}
 use Rattle.std.specs.List.{flat_map, list_any, sum_by}
 use Rattle.row_hours.specs.declared.hours.TheConstants.{LAST_OFFSET}
 use Rattle.qual_codec.specs.declared.cells.Item.{Item}
@@ -7,7 +7,7 @@ use Rattle.qual_codec.specs.declared.cells.Dot.{Dot}
 use Rattle.qual_codec.specs.declared.cells.CellFault.{CellFault}
 use Rattle.qual_codec.specs.declared.cells.CellFault.TheVariants.{OddLength, CutItem, OffsetTooLarge, FloatFlag, ReservedBits, BadLength, NotRising, ValueShort, ValueLong, BadTail}
 use Rattle.qual_codec.specs.Items.{IsItem, Fields, AreFields, IsItems, Rises, field_bytes, item_bytes}
-use Rattle.qual_codec.specs.CellDots.{IsDots, tail_of}
+use Rattle.qual_codec.specs.CellDots.{IsPiece, HoldsDots, column_qual, piece_bytes, tail_of}
 
 -- the qualifier has a length that a qualifier may have
 abbrev pub HasWholePairs : List ℕ → Type 0
@@ -60,16 +60,39 @@ value_fault len tail value =
     else if nat_lt need (length value) then Some (ValueLong need)
     else tail_fault tail (drop len value)
 
--- The first thing that is wrong with a cell: the length of the qualifier, else the first item that is none, else the value.
+-- the bytes begin with these pieces, and `rest` are those from place `at` on
+pub record BeginsPieces (bytes : List ℕ) (dots : List Dot) (at : ℕ) (rest : List ℕ) : Type 0 where
+  pub each : All IsPiece dots
+  pub bytes_are : bytes ≡ flat_map piece_bytes dots ++ rest
+  pub at_is : at ≡ length (flat_map piece_bytes dots)
+
+-- an item begins here, and its end is missing
+abbrev pub IsCutPiece : List ℕ → Type 0
+IsCutPiece rest = (1 ≤ length rest) × ((length rest < 2) ⊎ IsCut rest)
+
+-- the first thing that is wrong with a piece that begins at place `at`: the end of its item, its bits, the end of its value
+pub data IsBadPiece (at : ℕ) (rest : List ℕ) : CellFault → Type 0 where
+  cut_piece : IsCutPiece rest → IsBadPiece at rest (CutItem at)
+  bad_bits : (f : Fields) (after : List ℕ) (fault : CellFault) → rest ≡ field_bytes f ++ after → AreFields f → bits_fault at false f ≡ Some fault → IsBadPiece at rest fault
+  short_value : (i : Item) (after : List ℕ) → rest ≡ item_bytes i ++ after → IsItem i → length after < i.len → IsBadPiece at rest (ValueShort (at + length (item_bytes i) + i.len))
+
+-- the first thing that is wrong with the column's value: it is empty, else its first piece that is none
+pub data IsColumnFault (value : List ℕ) : CellFault → Type 0 where
+  no_piece : value ≡ [] → IsColumnFault value (CutItem 0)
+  piece : (dots : List Dot) (at : ℕ) (rest : List ℕ) (fault : CellFault) → BeginsPieces value dots at rest → IsBadPiece at rest fault → IsColumnFault value fault
+
+-- The first thing that is wrong with a cell: the length of the qualifier, else the first item that is none, else the value. Of the column, which
+-- has its items in its value, it is the first thing that is wrong there.
 pub data IsFirstFault (qual value : List ℕ) : CellFault → Type 0 where
-  odd : (HasWholePairs qual → ⊥) → IsFirstFault qual value OddLength
+  odd : (qual ≡ column_qual → ⊥) → (HasWholePairs qual → ⊥) → IsFirstFault qual value OddLength
   cut : (items : List Item) (at : ℕ) (rest : List ℕ) → Begins qual items at rest → IsCut rest → IsFirstFault qual value (CutItem at)
   item : (items : List Item) (at : ℕ) (f : Fields) (after : List ℕ) (fault : CellFault) → Begins qual items at (field_bytes f ++ after) → AreFields f → item_fault items at f ≡ Some fault → IsFirstFault qual value fault
   values : (items : List Item) (fault : CellFault) → IsItems qual items → value_fault (values_length items) (tail_of items) value ≡ Some fault → IsFirstFault qual value fault
+  column : (fault : CellFault) → qual ≡ column_qual → IsColumnFault value fault → IsFirstFault qual value fault
 
 -- what a cell reads as: its dots, else its first fault
 abbrev pub ReadsAs : List ℕ → List ℕ → Result (List Dot) CellFault → Type 0
-ReadsAs qual value (Ok dots) = IsDots qual value dots
+ReadsAs qual value (Ok dots) = HoldsDots qual value dots
 ReadsAs qual value (Err fault) = IsFirstFault qual value fault
 
 -- a cell reads as one thing alone

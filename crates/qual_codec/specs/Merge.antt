@@ -6,13 +6,13 @@ use Rattle.qual_codec.specs.declared.cells.Cell.{Cell}
 use Rattle.qual_codec.specs.declared.cells.Dot.{Dot}
 use Rattle.qual_codec.specs.declared.cells.MergeFault.{MergeFault}
 use Rattle.qual_codec.specs.declared.cells.MergeFault.TheVariants.{Conflict, OutOfMemory}
-use Rattle.qual_codec.specs.CellDots.{IsDots}
+use Rattle.qual_codec.specs.CellDots.{HoldsDots, IsDots}
 use Rattle.qual_codec.specs.Order.{IsAsGood}
 
--- these are the dots of the cells, one cell after the other
+-- these are the dots of the cells, one cell after the other, and within the column in its order
 abbrev pub AreDots : List Cell → List Dot → Type 0
 AreDots [] all = all ≡ []
-AreDots (c ∷ cells) all = (dots : List Dot) × (rest : List Dot) × IsDots c.qual c.value dots × AreDots cells rest × (all ≡ dots ++ rest)
+AreDots (c ∷ cells) all = (dots : List Dot) × (rest : List Dot) × HoldsDots c.qual c.value dots × AreDots cells rest × (all ≡ dots ++ rest)
 
 abbrev pub offset_of : Dot → ℕ
 offset_of d = d.item.offset

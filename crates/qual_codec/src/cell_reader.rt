@@ -1,11 +1,11 @@
 //! Reading a cell.
-ghost use Rattle.std.specs.Prelude.{◌≡◌, ◌⊎◌, ◌+◌, ◌%◌, ◌<◌, ◌≤◌, ◌++◌, ◌∷◌, [], List, length, IfOk, IfErr, IfSome, OnOk, Result, Ok, Err, MatchResult, FitsSigned, nat_lt};
+ghost use Rattle.std.specs.Prelude.{◌≡◌, ◌↔◌, ◌⊎◌, ◌+◌, ◌%◌, ◌<◌, ◌≤◌, ◌++◌, ◌∷◌, [], List, length, IfOk, IfErr, IfSome, IsTrue, OnOk, Result, Ok, Err, MatchResult, FitsSigned, nat_lt};
 ghost use Rattle.qual_codec.specs.declared.cells.CellFault.TheVariants.{OutOfMemory};
 ghost use Rattle.qual_codec.specs.Items.{IsLength, Fields};
-ghost use Rattle.qual_codec.specs.CellDots.{IsDots, number_bytes, tail_for, width_of};
-ghost use Rattle.qual_codec.specs.CellFaults.{HasWholePairs, IsFirstFault, ReadsAs, bits_fault, value_fault, is_length as tests_length};
+ghost use Rattle.qual_codec.specs.CellDots.{HoldsDots, IsDots, column_qual, number_bytes, tail_for, width_of};
+ghost use Rattle.qual_codec.specs.CellFaults.{HasWholePairs, IsBadPiece, IsColumnFault, IsFirstFault, ReadsAs, bits_fault, value_fault, is_length as tests_length};
 ghost use Rattle.qual_codec.specs.MergeSteps.{AddsDots};
-ghost use Rattle.qual_codec.specs.CellSteps.{AddsPoints, IsNextFault, IsNextItem, bytes_in, fine_unless, item_unless};
+ghost use Rattle.qual_codec.specs.CellSteps.{AddsPieces, AddsPoints, IsNextFault, IsNextItem, IsNextPiece, bytes_in, fine_unless, item_unless};
 
 use crate::cells::{CellFault, Dot, Item};
 use row_hours::LAST_OFFSET;
@@ -186,8 +186,10 @@ fn check_value(value: &[u8], len: usize, tail: Option<u8>) -> Result<(), CellFau
     Ok(())
 }
 
-/// Adds the data points of a cell, by offset, behind those of other cells. After a fault some of them may have been added.
-pub(crate) fn read_onto(qual: &[u8], value: &[u8], dots: &mut Vec<Dot>) -> Result<(), CellFault>
+/// Adds the data points of a cell that isn't the column, by offset, behind those of other cells. After a fault some of them may have been
+/// added.
+fn read_items(qual: &[u8], value: &[u8], dots: &mut Vec<Dot>) -> Result<(), CellFault>
+    requires { qual.now ≡ column_qual → ⊥ }
     ensures dots { OnOk result (AddsDots qual.now value.now dots.old.items dots.new.items) }
     ensures fault { IfErr result (λ e. (e ≡ OutOfMemory) ⊎ IsFirstFault qual.now value.now e) }
 {
@@ -199,20 +201,88 @@ pub(crate) fn read_onto(qual: &[u8], value: &[u8], dots: &mut Vec<Dot>) -> Resul
     check_value(value, len, tail_byte(dots.len() - before, both))
 }
 
-/// The data points of a cell, by offset.
+/// Whether the qualifier is that of the column to which points are appended.
+#[inline]
+pub fn is_column(qual: &[u8]) -> bool
+    ensures { IsTrue result ↔ (qual.now ≡ column_qual) }
+{
+    qual == [5, 0, 0].as_slice()
+}
+
+/// The data point whose item and value stand at the front, which is place `at`, and the bytes behind them.
+#[inline]
+pub fn next_piece(bytes: &[u8], at: usize) -> Result<(Dot, &[u8]), CellFault>
+    requires some { 1 ≤ length bytes.now }
+    requires fits { at + length bytes.now ≤ 9223372036854775807 }
+    ensures piece { IfOk result (λ r. IsNextPiece bytes.now r.0 r.1.now) }
+    ensures fault { IfErr result (IsBadPiece at bytes.now) }
+{
+    if bytes.len() < 2 {
+        return Err(CellFault::CutItem { at });
+    }
+    let (item, after) = next_item(bytes, at, 0)?;
+    if after.len() < usize::from(item.len) {
+        let need = at + (bytes.len() - after.len()) + usize::from(item.len);
+        return Err(CellFault::ValueShort { need });
+    }
+    let (value, behind) = next_value(after, item.len);
+    Ok((Dot { item, value }, behind))
+}
+
+/// Adds the data points of the column's value, in the order in which they stand. After a fault some of them may have been added.
+fn read_pieces(value: &[u8], dots: &mut Vec<Dot>) -> Result<(), CellFault>
+    ensures dots { OnOk result (AddsPieces value.now dots.old.items dots.new.items) }
+    ensures fault { IfErr result (λ e. (e ≡ OutOfMemory) ⊎ IsColumnFault value.now e) }
+{
+    if value.is_empty() {
+        return Err(CellFault::CutItem { at: 0 });
+    }
+    let mut rest = value;
+    'pieces: while !rest.is_empty() {
+        let at = value.len() - rest.len();
+        let (dot, behind) = next_piece(rest, at)?;
+        dots.push(dot)?;
+        rest = behind;
+    }
+    Ok(())
+}
+
+/// Adds the data points of a cell behind those of other cells: by offset, and those of the column as they stand. After a fault some of them
+/// may have been added.
+pub(crate) fn read_onto(qual: &[u8], value: &[u8], dots: &mut Vec<Dot>) -> Result<(), CellFault>
+    ensures dots { OnOk result (AddsDots qual.now value.now dots.old.items dots.new.items) }
+    ensures fault { IfErr result (λ e. (e ≡ OutOfMemory) ⊎ IsFirstFault qual.now value.now e) }
+{
+    if is_column(qual) {
+        return read_pieces(value, dots);
+    }
+    read_items(qual, value, dots)
+}
+
+/// For how many data points there is to be room, so that those of a cell that reads fit.
+#[inline]
+pub fn most_dots(qual: &[u8], value: &[u8]) -> usize {
+    if is_column(qual) {
+        value.len() / 3
+    } else {
+        qual.len() / 2
+    }
+}
+
+/// The data points of a cell, by offset; those of the column, whose qualifier is `05 00 00`, in the order in which they stand.
 ///
 /// Where it doesn't read, the error is the first thing that is wrong, in the order of [`CellFault`].
 /// `OutOfMemory` comes only for want of memory; no memory is taken but the answer's.
 pub fn read_cell(alloc: Global, qual: &[u8], value: &[u8]) -> Result<Vec<Dot>, CellFault>
     // The answer is what the cell reads as, unless memory runs out.
     ensures reads { MatchResult result
-        (λ v. IsDots qual.now value.now v.items)
+        (λ v. HoldsDots qual.now value.now v.items)
         (λ e. (e ≡ OutOfMemory) ⊎ IsFirstFault qual.now value.now e) }
     // It reads as nothing else.
     ensures alone { (answer : Result (List Dot) CellFault) → ReadsAs qual.now value.now answer
         → MatchResult result (λ v. answer ≡ Ok v.items) (λ e. (e ≡ OutOfMemory) ⊎ (answer ≡ Err e)) }
 {
-    let mut dots = Vec::with_capacity(alloc, qual.len() / 2)?;
+    let mut dots = Vec::with_capacity(alloc, most_dots(qual, value))?;
     read_onto(qual, value, &mut dots)?;
     Ok(dots)
 }

@@ -3,13 +3,13 @@ ghost use Rattle.std.specs.Prelude.{◌≡◌, ◌++◌, ◌<◌, ◌≤◌, tru
 ghost use Rattle.std.specs.List.Sorted.{IsNonDecreasingBy};
 ghost use Rattle.qual_codec.specs.declared.cells.Dot.{Dot};
 ghost use Rattle.qual_codec.specs.Items.{IsItem, IsLength, item_bytes};
-ghost use Rattle.qual_codec.specs.CellDots.{IsDots, Reads, number_bytes, value_bytes, width_of};
+ghost use Rattle.qual_codec.specs.CellDots.{IsDots, Reads, ReadsByItems, number_bytes, value_bytes, width_of};
 ghost use Rattle.qual_codec.specs.Order.{IsAtMost};
 ghost use Rattle.qual_codec.specs.CellSteps.{bytes_in};
 ghost use Rattle.qual_codec.specs.Merge.{AreDots, ConflictsAt, IsMerged, TellsConflict, Keeps, is_within as tests_within, offset_of};
 ghost use Rattle.qual_codec.specs.MergeSteps.{AddsDots, AddsWithin, AreOfCell, AreSorted, CannotAdd, ConflictsIn, EndsAt, EndsElsewhere, KeepsAll, is_as_good as tests_good};
 
-use crate::cell_reader::{read_onto, short_dot, tail_byte};
+use crate::cell_reader::{most_dots, read_onto, short_dot, tail_byte};
 use crate::cells::{CellFault, CellRef, Dot, Item, MergeFault, Merged};
 use crate::pack::pack_item;
 use row_hours::LAST_OFFSET;
@@ -160,10 +160,10 @@ pub fn merge_dots(mut dots: Vec<Dot>, first: u32, last: u32) -> Result<Vec<Dot>,
 }
 
 /// For how many data points there is to be room, so that those of the cells fit.
-fn most_dots(cells: &[CellRef]) -> usize {
+fn room_for(cells: &[CellRef]) -> usize {
     let mut most = 0usize;
     for cell in cells {
-        most = most.saturating_add(cell.qual.len() / 2);
+        most = most.saturating_add(most_dots(cell.qual, cell.value));
     }
     most
 }
@@ -173,7 +173,7 @@ fn gather(alloc: Global, cells: &[CellRef]) -> Result<Vec<Dot>, AllocError>
     requires { All (λ c. Reads c.qual c.value) cells.now }
     ensures { IfOk result (λ dots. AreDots cells.now dots.items) }
 {
-    let mut dots = Vec::with_capacity(alloc, most_dots(cells))?;
+    let mut dots = Vec::with_capacity(alloc, room_for(cells))?;
     for cell in cells {
         add_dots(cell.qual, cell.value, &mut dots)?;
     }
@@ -248,13 +248,14 @@ fn write_cell(alloc: Global, dots: &[Dot]) -> Result<Merged, AllocError>
 }
 
 /// The one cell that several cells of a row become: of each offset that they have it keeps the best item, with its value. One of two
-/// bytes is better than one of four, and of one form one with a longer value. Its qualifier is at least that of each cell.
+/// bytes is better than one of four, and of one form one with a longer value. Its qualifier is at least that of each cell. None of the cells is the
+/// column.
 ///
 /// `Conflict` comes exactly where two cells have different values at one offset. It names the least such offset, the value of the
 /// first cell that has it, and that of the first later cell that differs.
 pub fn merge_cells(alloc: Global, cells: &[CellRef]) -> Result<Merged, MergeFault>
     requires some { 1 ≤ length cells.now }
-    requires read { All (λ c. Reads c.qual c.value) cells.now }
+    requires read { All (λ c. ReadsByItems c.qual c.value) cells.now }
     ensures merged { IfOk result (λ m. IsMerged cells.now m.qual m.value) }
     ensures at_least { IfOk result (λ m. All (λ c. IsAtMost c.qual m.qual) cells.now) }
     ensures conflict { IfErr result (TellsConflict cells.now 0 LAST_OFFSET) }

@@ -14,7 +14,7 @@ use Rattle.cell_model.specs.declared.events.Placed.{Placed}
 use Rattle.cell_model.specs.declared.events.Reply.{Reply}
 use Rattle.cell_model.specs.declared.events.Reply.TheVariants.{Next, Shown}
 use Rattle.cell_model.specs.declared.events.Step.{Step}
-use Rattle.cell_model.specs.declared.events.Step.TheVariants.{Open, Read, NextRow, Bump, Claim, PutPoint, PutMerged, DropCells}
+use Rattle.cell_model.specs.declared.events.Step.TheVariants.{Open, Read, NextRow, Bump, Claim, PutPoint, AppendPoint, PutMerged, DropCells}
 use Rattle.cell_model.specs.Deeds.{before_first}
 use Rattle.cell_model.specs.History.{History, first, store_after, entry_at}
 use Rattle.cell_model.specs.IdRows.{id_number, id_of, name_of, name_row}
@@ -85,6 +85,7 @@ found_cells s place (NextRow table from to) f e = cells_found s _ f e
 found_cells s place (Bump kind) f e = absurd cc
 found_cells s place (Claim row qual value) f e = absurd cc
 found_cells s place (PutPoint point row qual value) f e = absurd cc
+found_cells s place (AppendPoint point row piece) f e = absurd cc
 found_cells s place (PutMerged row qual value) f e = absurd cc
 found_cells s place (DropCells row which) f e = absurd cc
 

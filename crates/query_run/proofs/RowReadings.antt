@@ -14,7 +14,7 @@ use Rattle.row_key.specs.declared.widths.Widths.{Widths}
 use Rattle.row_key.specs.declared.keys.RowKey.{RowKey}
 use Rattle.qual_codec.specs.declared.cells.Cell.{Cell}
 use Rattle.qual_codec.specs.declared.cells.Dot.{Dot}
-use Rattle.qual_codec.specs.CellDots.{IsDots}
+use Rattle.qual_codec.specs.CellDots.{HoldsDots}
 use Rattle.cell_model.specs.declared.row.Row.{Row}
 use Rattle.cell_model.specs.declared.row.Found.{Found}
 use Rattle.cell_model.specs.Layout.{base_time}
@@ -71,7 +71,7 @@ pub record CellOf (cells : List Cell) (x : Dot) : Type 0 where
   pub cell : Cell
   pub among : Contains cells cell
   pub dots : List Dot
-  pub reads : IsDots cell.qual cell.value dots
+  pub reads : HoldsDots cell.qual cell.value dots
   pub there : Contains dots x
 
 pub cell_of_dot : (cells : List Cell) (all : List Dot) (x : Dot) → AreDots cells all → Contains all x → CellOf cells x
@@ -82,13 +82,13 @@ cell_of_dot (k ∷ cells) all x are c =
       | inr r ↦ (let w = cell_of_dot cells are.1 x are.3 r in record { cell = w.cell; among = lower.there k w.cell cells w.among; dots = w.dots; reads = w.reads; there = w.there })
     ]
 
-pub dot_of_cell : (cells : List Cell) (all : List Dot) (cell : Cell) (dots : List Dot) (x : Dot) → AreDots cells all → Contains cells cell → IsDots cell.qual cell.value dots → Contains dots x → Contains all x
+pub dot_of_cell : (cells : List Cell) (all : List Dot) (cell : Cell) (dots : List Dot) (x : Dot) → AreDots cells all → Contains cells cell → HoldsDots cell.qual cell.value dots → Contains dots x → Contains all x
 dot_of_cell [] all cell dots x are c is i = absurd (lower.not_in cell c)
 dot_of_cell (k ∷ cells) all cell dots x are c is i = subst (λ (l : List Dot). Contains l x) (sym are.4) (at (lower.split k cell cells c) (dot_of_cell cells are.1 cell dots x are.3))
   where
-    at : (k ≡ cell) ⊎ Contains cells cell → (Contains cells cell → IsDots cell.qual cell.value dots → Contains dots x → Contains are.1 x) → Contains (are.0 ++ are.1) x
+    at : (k ≡ cell) ⊎ Contains cells cell → (Contains cells cell → HoldsDots cell.qual cell.value dots → Contains dots x → Contains are.1 x) → Contains (are.0 ++ are.1) x
     at (inl same) go =
-        let one = lower.one_dots cell.qual cell.value dots are.0 is (subst (λ (z : Cell). IsDots z.qual z.value are.0) same are.2) in
+        let one = lower.one_dots cell.qual cell.value dots are.0 is (subst (λ (z : Cell). HoldsDots z.qual z.value are.0) same are.2) in
         Contains-append_left are.0 are.1 x (subst (λ (l : List Dot). Contains l x) one i)
     at (inr later) go = Contains-append_right are.0 are.1 x (go later is i)
 

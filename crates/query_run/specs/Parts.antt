@@ -64,7 +64,7 @@ pub record FirstUnknown (names : List NameOf) (n : NameOf) (own : List Placed) (
   pub resolved : AllResolved h before
   pub none : FoundNone own n
 
--- at a time that is asked for the cells of a point row have two values: a in the first cell that has one, b in the first behind it that has another
+-- at a time that is asked for the cells of a point row have two values: a is the first, b the first behind it that differs, cell by cell and within the column in its order
 pub record HasConflict (widths : Widths) (names : Kind → ℕ → Option (List ℕ)) (wanted : Reading → Bool) (found : Found) (time : ℕ) (a b : ℤ) : Type 0 where
   pub key : RowKey
   pub is_key : IsKey widths key

@@ -15,8 +15,8 @@ pub enum AskFault {
     TooManyBuckets { count: u64 },
     /// A name of this kind that the sub query has is no series' name. Those before it in its text are.
     Unknown { kind: Kind, name: Name },
-    /// A row that was read and passes the filters has two values at this time: the first cell that has one has `a`, and the first behind it that has
-    /// another has `b`. It is the first such row, and its least such time. Each row below it with a reading that is asked for, which
+    /// A row that was read and passes the filters has two values at this time: `a` is that of the first data point there, and `b` that of the first
+    /// behind it with another value, cell by cell and within the column of appends in its order. It is the first such row, and its least such time. Each row below it with a reading that is asked for, which
     /// was there before the sub query's first step, was read before it.
     Duplicate { time: u64, a: i64, b: i64 },
     /// A sum leaves `i64`. Of the first group that has such a sum it is the least bucket of one of its series, and where there is none

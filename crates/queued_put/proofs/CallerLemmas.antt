@@ -28,7 +28,7 @@ may_follow before mid after rows later has may = record { kept = λ s had. may.k
     at s (inl had) = inl (before' s had)
     at s (inr put) = inr put
 
--- rows of puts among the entries
+-- rows of puts and appends among the entries
 pub may_put : (before rows after : List Stored) (later : List Placed) → HasRows before rows after → ((s : Stored) → Contains rows s → IsPutRow later s) → MayHaveRows before [] later after
 may_put before rows after later has put = record { kept = λ s had. (has s).1 (inl (old s had)); most = λ s there. at s ((has s).0 there) }
   where
@@ -40,11 +40,12 @@ may_put before rows after later has put = record { kept = λ s had. (has s).1 (i
     at s (inl had) = inl (inl had)
     at s (inr row) = inr (put s row)
 
--- the row of a point that was accepted is that of its put
+-- the row of a point that was accepted is that of its put or append
 pub put_row : (c : Admission) (point : DataPoint) (h : History) (own : List Placed) (stored : Stored) → WasStored c point h own stored → IsPutRow own stored
 put_row c point h own stored w = record {
   entry = w.put;
   among = subst (λ (l : List Placed). Contains l w.put) (sym w.list_is) (Contains-append_right w.names (w.put ∷ []) w.put (here w.put []));
+  appends = c.config.appends;
   point = point;
   qual = w.did.qual;
   value = w.did.value;

@@ -1,6 +1,6 @@
 -- The widths that are made.
 use Rattle.std.specs.Prelude.{◌≡◌, ℕ, Option, Some, None}
-use Rattle.std.proofs.Common.{arith}
+use Rattle.std.proofs.Common.{lit≤}
 use Rattle.row_key.specs.IdWidths.{IsWidth}
 use Rattle.row_key.specs.declared.widths.Widths.{Widths}
 
@@ -17,4 +17,4 @@ Makes metric tag_key tag_value (Some w) = Has metric tag_key tag_value w
 
 -- three bytes for each kind
 abbrev pub three : Widths
-three = record { metric = 3; tag_key = 3; tag_value = 3; metric_fits = (omega arith, omega arith); key_fits = (omega arith, omega arith); value_fits = (omega arith, omega arith) }
+three = record { metric = 3; tag_key = 3; tag_value = 3; metric_fits = (lit≤ tt, lit≤ tt); key_fits = (lit≤ tt, lit≤ tt); value_fits = (lit≤ tt, lit≤ tt) }

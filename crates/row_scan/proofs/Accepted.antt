@@ -17,7 +17,7 @@ use Rattle.row_scan.specs.RowReadings.{RowReads}
 use Rattle.row_scan.specs.Laws.{ScanGives}
 use Rattle.row_scan.proofs.CellsOf.{cell_at}
 use Rattle.row_scan.proofs.Whole.{begins_firsts}
-use Rattle.row_scan.proofs.Lower.{first_lawful, entry_at-more, had_cell, had_accepted, Begins, whole, longer}
+use Rattle.row_scan.proofs.Lower.{first_lawful, entry_at-more, stood_accepted, Begins, whole, longer}
 
 -- a cell of a row that was found stood at some length
 pub record ShownCell (h : History) (end : ℕ) (f : Found) (cell : Cell) : Type 0 where
@@ -51,6 +51,5 @@ accepted_begins names r (longer {h = h} {e = e} b) a = more (accepted_begins nam
 pub shown_accepted : (h : History) (end : ℕ) (f : Found) (r : Reading) → IsLawful h → (x : RowReads (store_after (first end h)).widths (name_of (first end h)) f r) → ShownCell h end f x.cell → Accepted (first end h) r
 shown_accepted h end f r l x s =
     let row = point_row f.row.bytes in
-    let had = had_cell (first s.when h) row x.cell.qual x.cell.value (first_lawful h s.when l) refl s.stands in
     let b = begins_firsts s.when end h s.up_to in
-    accepted_begins (name_of (first end h)) r b (had_accepted (first s.when h) (first end h) b (first_lawful h end l) row x.cell.qual x.cell.value r refl had x.reads)
+    accepted_begins (name_of (first end h)) r b (stood_accepted (first s.when h) (first end h) b (first_lawful h end l) row x.cell.qual x.cell.value r refl s.stands x.reads)

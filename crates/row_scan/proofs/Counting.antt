@@ -10,7 +10,7 @@ use Rattle.row_key.specs.declared.widths.Widths.{Widths}
 use Rattle.cell_model.specs.declared.row.Row.{Row}
 use Rattle.cell_model.specs.declared.row.Found.{Found}
 use Rattle.cell_model.specs.declared.events.Step.{Step}
-use Rattle.cell_model.specs.declared.events.Step.TheVariants.{Open, Read, NextRow, Bump, Claim, PutPoint, PutMerged, DropCells}
+use Rattle.cell_model.specs.declared.events.Step.TheVariants.{Open, Read, NextRow, Bump, Claim, PutPoint, AppendPoint, PutMerged, DropCells}
 use Rattle.cell_model.specs.declared.events.Reply.TheVariants.{Next}
 use Rattle.cell_model.specs.declared.events.Placed.{Placed}
 use Rattle.cell_model.specs.Store.{Store}
@@ -61,6 +61,7 @@ other_shows s place (NextRow table from to) f o e = o
 other_shows s place (Bump kind) f o e = cc
 other_shows s place (Claim row qual value) f o e = cc
 other_shows s place (PutPoint point row qual value) f o e = cc
+other_shows s place (AppendPoint point row piece) f o e = cc
 other_shows s place (PutMerged row qual value) f o e = cc
 other_shows s place (DropCells row which) f o e = cc
 

@@ -17,9 +17,9 @@ use Rattle.row_scan.specs.Laws.{ScanGives}
 use Rattle.row_scan.proofs.CellsOf.{cell_in}
 use Rattle.list_lemmas.proofs.BoolTests.{same_Some}
 use Rattle.row_scan.proofs.Names.{metric_id, row_stood}
-use Rattle.row_scan.proofs.Offsets.{dot_offset, same_offset, hour_is}
-use Rattle.row_scan.proofs.Whole.{begins_firsts, stays, row_stays}
-use Rattle.row_scan.proofs.Lower.{begins_first, carry, first_lawful, name_keeps, cell_by, each_reads, accepted_times_stand}
+use Rattle.row_scan.proofs.Offsets.{dot_offset, hour_is}
+use Rattle.row_scan.proofs.Whole.{begins_firsts, row_stays}
+use Rattle.row_scan.proofs.Lower.{begins_first, carry, first_lawful, name_keeps, cell_by, offset_stands, accepted_times_stand}
 
 -- a reading that stood at a length, by the names of a later one
 pub record StoodReading (h : History) (start end : ℕ) (r : Reading) : Type 0 where
@@ -77,18 +77,16 @@ shown_reading : (h : History) (start end when : ℕ) (s : Reading) (f : Found) �
     → (q : Reading) × RowReads (store_after (first end h)).widths (name_of (first end h)) f q × Meets s q
 shown_reading h start end when s f l x le row_is cells =
     let store = store_after (first when h) in
-    let k = stays h start when (point_row x.row) x.qual x.value l refl le x.stands in
-    let there = each_reads (first when h) (point_row x.row) k.other k.value (first_lawful h when l) refl k.stands in
     let c = x.reads in
     let d = c.dot_reads in
-    let dot = same_offset x.qual x.value k.other k.value c.dots there.0 c.reads there.1 k.at_least c.dot c.among in
-    let q : Reading = record { metric = s.metric; tags = s.tags; time = s.time; value = dot.0.value } in
+    let k = offset_stands (first start h) (first when h) (point_row x.row) x.qual x.value (begins_firsts start when h le) (first_lawful h when l) refl x.stands c.dots c.reads c.dot c.among in
+    let q : Reading = record { metric = s.metric; tags = s.tags; time = s.time; value = k.dot.value } in
     let reads : CellReads (store_after (first end h)).widths (name_of (first end h)) x.row k.other k.value q = record {
-      dots = there.0;
-      reads = there.1;
-      dot = dot.0;
-      among = dot.1;
-      dot_reads = record { key = d.key; is_key = d.is_key; row_is = d.row_is; metric_is = d.metric_is; tags_are = d.tags_are; time_is = d.time_is ∙ ap (λ n. d.key.base * 1000 + n) (sym dot.2); value_is = refl };
+      dots = k.dots;
+      reads = k.reads;
+      dot = k.dot;
+      among = k.among;
+      dot_reads = record { key = d.key; is_key = d.is_key; row_is = d.row_is; metric_is = d.metric_is; tags_are = d.tags_are; time_is = d.time_is ∙ ap (λ n. d.key.base * 1000 + n) (sym k.offset_is); value_is = refl };
     } in
     let such = cell_in store f.row k.other k.value (ap (λ (r : Row). value_at store r k.other) row_is ∙ k.stands) in (
       q,

@@ -17,15 +17,14 @@ use Rattle.list_lemmas.specs.BytesOrder.{bytes_cmp}
 use Rattle.cell_model.specs.Store.{is_between, value_at, cells_of, next_row_of}
 use Rattle.cell_model.specs.Machine.{reply_of}
 use Rattle.cell_model.specs.History.{History, first, store_after, entry_at}
-use Rattle.cell_model.specs.History.History.{Then}
-use Rattle.cell_model.specs.Lawful.{IsLawful, HadCell}
+use Rattle.cell_model.specs.Lawful.{IsLawful}
 use Rattle.cell_laws.specs.Laws.{Kept}
 use Rattle.cell_model.specs.Deeds.{InOrder, before_first}
 use Rattle.row_scan.specs.Scans.{Left, IsNext, IsRowOf, behind, Wanting, IsWanted, Skips, Scanned, HasCell}
 use Rattle.row_scan.specs.Scans.Scanned.{ended, found, other, skipped}
 use Rattle.row_scan.specs.Laws.{ScanIsWhole}
 use Rattle.list_lemmas.proofs.OrderedBytes.{less_behind, less_or_not, from_on_from_on, below_from_on, below_behind, not_back}
-use Rattle.row_scan.proofs.Lower.{first_first, all_of, first_lawful, each_entry, Begins, whole, longer, carry, here, there, split, not_in, pairs_in, entry_at-more, had_cell, keep, begins_first}
+use Rattle.row_scan.proofs.Lower.{first_first, all_of, first_lawful, each_entry, Begins, carry, here, there, split, not_in, pairs_in, kept_later, begins_first}
 use Rattle.row_scan.proofs.NextRow.{Between, between, between_is, next_cells, next_none, next_least, next_has}
 use Rattle.row_scan.proofs.Turning.{HasKey, found_key}
 
@@ -34,17 +33,9 @@ use Rattle.row_scan.proofs.Turning.{HasKey, found_key}
 pub begins_firsts : (n m : ℕ) (h : History) → n ≤ m → Begins (first n h) (first m h)
 begins_firsts n m h le = subst (λ x. Begins x (first m h)) (first_first n m h le) (begins_first n (first m h))
 
-had_begins : {a h : History} (row : Row) (q v : List ℕ) → Begins a h → HadCell a row q v → HadCell h row q v
-had_begins row q v whole c = c
-had_begins row q v (longer {h = h} {e = x} b) c = more (had_begins row q v b c)
-  where
-    more : HadCell h row q v → HadCell (Then h x) row q v
-    more (inl based) = inl based
-    more (inr w) = inr (w.0, (w.1.0, entry_at-more h x w.0 w.1.0 w.1.1), w.2)
-
 -- what stood at one length stands at a later one, or something above it
 pub stays : (h : History) (n m : ℕ) (row : Row) (qual value : List ℕ) → IsLawful h → row.table ≡ Points → n ≤ m → value_at (store_after (first n h)) row qual ≡ Some value → Kept (store_after (first m h)) row qual
-stays h n m row qual value l t le is = keep (first m h) row qual value (first_lawful h m l) t (had_begins row qual value (begins_firsts n m h le) (had_cell (first n h) row qual value (first_lawful h n l) t is))
+stays h n m row qual value l t le is = kept_later row qual value (begins_firsts n m h le) (first_lawful h m l) t is
 
 pub row_stays : (h : History) (n m : ℕ) (row : Row) → IsLawful h → row.table ≡ Points → n ≤ m → HasCell (store_after (first n h)) row → HasCell (store_after (first m h)) row
 row_stays h n m row l t le c = let k = stays h n m row c.0 c.1 l t le c.2 in (k.other, k.value, k.stands)

@@ -3,14 +3,14 @@ ghost use Rattle.std.specs.Prelude.{◌≡◌, ◌+◌, ◌*◌, ◌<◌, ◌++�
 ghost use Rattle.qual_codec.specs.CellDots.{Reads};
 ghost use Rattle.qual_codec.specs.Merge.{TellsConflict, is_within as tests_within};
 ghost use Rattle.tsd_base.specs.Dots.{IsAboveAll};
-ghost use Rattle.row_scan.specs.RowTimes.{KeepsPoints, dot_at};
+ghost use Rattle.row_scan.specs.RowTimes.{IsColumnRead, KeepsPoints, dot_at};
 
 use crate::merged_points::row_points;
 use cell_model::Cells;
 use packed_cells::small_value::SmallValue;
 use packed_cells::strip::Strip;
 use qual_codec::merge::is_within;
-use qual_codec::{Dot, MergeFault, short_dot};
+use qual_codec::{Dot, MergeFault, is_column, next_piece, short_dot};
 use std::alloc::{AllocError, Global};
 use tsd_base::dots::Dots;
 
@@ -88,10 +88,61 @@ fn strip_points(
     }
 }
 
+/// The points of a column's value, with offsets that rise from item to item, and None for other values.
+fn piece_points(
+    alloc: Global,
+    value: &[u8],
+    base: u32,
+    first: u32,
+    last: u32,
+) -> Result<Option<Dots>, AllocError>
+    ensures { IfOk result (λ answer. IfSome answer (IsColumnRead value.now base first last)) }
+{
+    if value.is_empty() {
+        return Ok(None);
+    }
+    let mut points = Dots::with_room(alloc, value.len() / 3)?;
+    let mut rest = value;
+    let mut least = 0;
+    'pieces: while !rest.is_empty() {
+        let Ok((dot, behind)) = next_piece(rest, 0) else {
+            return Ok(None);
+        };
+        let offset = dot.item.offset as u64;
+        if offset < least {
+            return Ok(None);
+        }
+        add_within(&mut points, base, dot, first, last)?;
+        least = offset + 1;
+        rest = behind;
+    }
+    Ok(Some(points))
+}
+
+/// The points of cells that are the column alone, with offsets that rise from item to item, and None for other cells.
+fn column_points(
+    alloc: Global,
+    cells: &Cells,
+    base: u32,
+    first: u32,
+    last: u32,
+) -> Result<Option<Dots>, AllocError>
+    ensures { IfOk result (λ answer. IfSome answer (KeepsPoints cells.now base first last)) }
+{
+    if cells.len() != 1 {
+        return Ok(None);
+    }
+    let cell = cells.cell(0);
+    if !is_column(cell.qual) {
+        return Ok(None);
+    }
+    piece_points(alloc, cell.value, base, first, last)
+}
+
 /// The points of a row's cells whose offset is from `first` to `last`, both included, at rising times in milliseconds: those that
 /// [`row_points`] gives, where the row's hour begins at the second `base`. `Conflict` comes as it comes there.
 ///
-/// Cells of a strip, with offsets that rise, are read straight into the points.
+/// Cells of a strip, with offsets that rise, are read straight into the points. So is a column that is alone in its row.
 pub fn timed_points(
     alloc: Global,
     cells: &Cells,
@@ -104,6 +155,9 @@ pub fn timed_points(
     ensures conflict { IfErr result (TellsConflict cells.now first last) }
 {
     if let Some(points) = strip_points(alloc, cells, base, first, last)? {
+        return Ok(points);
+    }
+    if let Some(points) = column_points(alloc, cells, base, first, last)? {
         return Ok(points);
     }
     let dots = row_points(alloc, cells, first, last)?;

@@ -5,7 +5,7 @@ use Rattle.std.proofs.lemmas.List.Elements.{Contains-append_cases, Contains-appe
 use Rattle.list_lemmas.proofs.BoolTests.{not_Some, nat_eq_is}
 use Rattle.list_lemmas.proofs.ListMembers.{here, there, split, not_in}
 use Rattle.cell_model.specs.declared.events.Step.{Step}
-use Rattle.cell_model.specs.declared.events.Step.TheVariants.{Open, Read, NextRow, Bump, Claim, PutPoint, PutMerged, DropCells}
+use Rattle.cell_model.specs.declared.events.Step.TheVariants.{Open, Read, NextRow, Bump, Claim, PutPoint, AppendPoint, PutMerged, DropCells}
 use Rattle.cell_model.specs.declared.events.Entry.{Entry}
 use Rattle.cell_model.specs.declared.events.Placed.{Placed}
 use Rattle.cell_model.specs.Machine.{reply_of}
@@ -68,6 +68,7 @@ opened_low h caller (NextRow table from to) o may low = let l = low o.0 (opening
 opened_low h caller (Bump kind) o may low = let l = low o.0 (opening caller) o.1 in omega (arith, l)
 opened_low h caller (Claim row qual value) o may low = let l = low o.0 (opening caller) o.1 in omega (arith, l)
 opened_low h caller (PutPoint point row qual value) o may low = let l = low o.0 (opening caller) o.1 in omega (arith, l)
+opened_low h caller (AppendPoint point row piece) o may low = let l = low o.0 (opening caller) o.1 in omega (arith, l)
 opened_low h caller (PutMerged row qual value) o may low = let l = low o.0 (opening caller) o.1 in omega (arith, l)
 opened_low h caller (DropCells row which) o may low = let l = low o.0 (opening caller) o.1 in omega (arith, l)
 
@@ -154,6 +155,7 @@ both_regions D j k (NextRow table from to) a b = sym (nat_eq_is _ _ a) ∙ nat_e
 both_regions D j k (Bump kind) a b = sym (nat_eq_is _ _ a) ∙ nat_eq_is _ _ b
 both_regions D j k (Claim row qual value) a b = sym (nat_eq_is _ _ a) ∙ nat_eq_is _ _ b
 both_regions D j k (PutPoint point row qual value) a b = sym (nat_eq_is _ _ a) ∙ nat_eq_is _ _ b
+both_regions D j k (AppendPoint point row piece) a b = sym (nat_eq_is _ _ a) ∙ nat_eq_is _ _ b
 both_regions D j k (PutMerged row qual value) a b = sym (nat_eq_is _ _ a) ∙ nat_eq_is _ _ b
 both_regions D j k (DropCells row which) a b = sym (nat_eq_is _ _ a) ∙ nat_eq_is _ _ b
 
@@ -168,6 +170,7 @@ has_opened h caller (NextRow table from to) had = had
 has_opened h caller (Bump kind) had = had
 has_opened h caller (Claim row qual value) had = had
 has_opened h caller (PutPoint point row qual value) had = had
+has_opened h caller (AppendPoint point row piece) had = had
 has_opened h caller (PutMerged row qual value) had = had
 has_opened h caller (DropCells row which) had = had
 

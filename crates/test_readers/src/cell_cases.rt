@@ -1,10 +1,10 @@
 //! What the bytes of keys and cells are read as, and how they are written.
 
 ghost use Rattle.std.specs.Prelude.{All, OnOk};
-ghost use Rattle.qual_codec.specs.CellDots.{Reads};
+ghost use Rattle.qual_codec.specs.CellDots.{ReadsByItems};
 
 use crate::text::{Bad, first_word, hex, widths};
-use qual_codec::{CellFault, CellRef, Dot, MergeFault, Merged, merge_cells, read_cell};
+use qual_codec::{CellFault, CellRef, Dot, MergeFault, Merged, is_column, merge_cells, read_cell};
 use row_key::{KeyFault, RowKey, Widths, read_key, write_key};
 use std::alloc::Global;
 
@@ -129,16 +129,19 @@ fn cell_pairs(alloc: Global, text: &str) -> Result<Vec<(Vec<u8>, Vec<u8>)>, Bad>
     Ok(pairs)
 }
 
-/// Adds a cell, where it reads.
+/// Adds a cell, where it reads by its items.
 fn add_cell<'a>(
     alloc: Global,
     cells: &mut Vec<CellRef<'a>>,
     qual: &'a [u8],
     value: &'a [u8],
 ) -> Result<(), Bad>
-    requires { All (λ c. Reads c.qual c.value) cells.old.items }
-    ensures { OnOk result (All (λ c. Reads c.qual c.value) cells.new.items) }
+    requires { All (λ c. ReadsByItems c.qual c.value) cells.old.items }
+    ensures { OnOk result (All (λ c. ReadsByItems c.qual c.value) cells.new.items) }
 {
+    if is_column(qual) {
+        return Err(Bad::Line("the column, which isn't merged"));
+    }
     let Ok(_) = read_cell(alloc, qual, value) else {
         return Err(Bad::Line("a cell that doesn't read"));
     };

@@ -3,11 +3,11 @@ use Rattle.std.proofs.Common.{◌≡◌, ◌⊎◌, inl, inr, ℕ, zero, suc, �
 use Rattle.std.proofs.lemmas.List.{get_or_default}
 use Rattle.std.proofs.lemmas.Bool.{false≢true}
 use Rattle.std.specs.Cmp.Lexicographic.{nat_list_eq_equiv}
-use Rattle.std.specs.Prelude.{Contains, slice_index_or, Option, None, Some, IfSome}
+use Rattle.std.specs.Prelude.{Contains, slice_index_or, Option, None, Some, IfSome, IsTrue, ◌↔◌}
 use Rattle.row_key.specs.declared.tables.Table.TheVariants.{Points}
 use Rattle.qual_codec.specs.declared.cells.Dot.{Dot}
 use Rattle.qual_codec.specs.declared.cells.Item.{Item}
-use Rattle.qual_codec.specs.CellDots.{IsDots, items_of}
+use Rattle.qual_codec.specs.CellDots.{HoldsDots, IsDots, column_qual, items_of}
 use Rattle.qual_codec.specs.Order.{IsAsGood, IsBelow}
 use Rattle.cell_model.specs.declared.row.Row.{Row}
 use Rattle.cell_model.specs.Lawful.{MergedBasis, DropBasis}
@@ -37,6 +37,11 @@ next_too {X = X} P xs i e within before here k d lt = at (at_or_below k i lt)
 -- and so of all
 pub of_all : {X : Type 0} (P : X → Type 0) (xs : List X) (i : ℕ) → length xs ≤ i → ((k : ℕ) (d : X) → k < i → P (slice_index_or xs k d)) → (d : X) → Contains xs d → P d
 of_all P xs i most each d c = subst P c.2 (each c.0 d (let lt = c.1 in omega (arith, most, lt)))
+
+-- a cell that reads and isn't the column has its data points by its items
+pub not_column : (qual value : List ℕ) (dots : List Dot) → (IsTrue false ↔ (qual ≡ column_qual)) → HoldsDots qual value dots → IsDots qual value dots
+not_column qual value dots other (inl by_items) = by_items
+not_column qual value dots other (inr column) = absurd (false≢true (other.1 column.qual_is))
 
 as_good : (i : Item) → IsAsGood i i
 as_good i = record { offset = refl; better = inr (refl, omega arith) }

@@ -7,7 +7,7 @@ use Rattle.row_key.specs.declared.tables.Table.TheVariants.{Ids, Names, Points}
 use Rattle.tsd_base.specs.Points.{DataPoint}
 use Rattle.cell_model.specs.declared.row.Row.{Row}
 use Rattle.cell_model.specs.declared.events.Step.{Step}
-use Rattle.cell_model.specs.declared.events.Step.TheVariants.{Claim, PutPoint, PutMerged, DropCells}
+use Rattle.cell_model.specs.declared.events.Step.TheVariants.{Claim, PutPoint, AppendPoint, PutMerged, DropCells}
 use Rattle.cell_model.specs.declared.events.Reply.{Reply}
 use Rattle.cell_model.specs.declared.events.Entry.{Entry}
 use Rattle.cell_model.specs.declared.events.Placed.{Placed}
@@ -83,6 +83,9 @@ put_waits a b point row qual value w k = subst May (ap (λ (s : Store). s.widths
   where
     May : Widths → Type 0
     May u = PointBasis u (λ kind name id. KnowsCell b (name_row name) (kind_qual kind) (kind_bytes u kind id) × (id ≤ greatest u kind)) point row qual value
+
+pub append_waits : (a b : Seen) (point : DataPoint) (row : Row) (piece : List ℕ) → Waited a b → Knows a (AppendPoint point row piece) → Knows b (AppendPoint point row piece)
+append_waits a b point row piece w k = record { qual = k.qual; value = k.value; piece_is = k.piece_is; put = put_waits a b point row k.qual k.value w k.put }
 
 pub merge_waits : (a b : Seen) (row : Row) (qual value : List ℕ) → Waited a b → Knows a (PutMerged row qual value) → Knows b (PutMerged row qual value)
 merge_waits a b row qual value w k = record {

@@ -1,5 +1,5 @@
 -- A put of a point of one tag is allowed by the ids that facts show of its names.
-use Rattle.std.proofs.Common.{◌≡◌, ◌⊎◌, inl, inr, ℕ, ◌≤◌, ◌%◌, List, [], ◌∷◌, length, refl, sym, ap, subst, ◌∙◌, arith}
+use Rattle.std.proofs.Common.{◌≡◌, ◌⊎◌, inl, inr, ℕ, ◌≤◌, ◌%◌, List, [], ◌∷◌, ◌++◌, length, refl, sym, ap, subst, ◌∙◌, arith}
 use Rattle.std.specs.Prelude.{Contains, AllPairs, ◌<◌}
 use Rattle.std.proofs.lemmas.List.Elements.{All-contains_itself}
 use Rattle.row_hours.specs.declared.hours.TheConstants.{HOUR_MILLIS}
@@ -16,7 +16,7 @@ use Rattle.cell_model.specs.declared.row.Row.{Row}
 use Rattle.cell_model.specs.Machine.{kind_qual}
 use Rattle.cell_model.specs.IdRows.{name_row}
 use Rattle.cell_model.specs.Layout.{HasKey, names_of}
-use Rattle.cell_model.specs.Lawful.{PointBasis}
+use Rattle.cell_model.specs.Lawful.{PointBasis, AppendBasis}
 use Rattle.cell_model.specs.Readings.{point_row}
 use Rattle.cell_model.specs.Seen.{Seen, KnowsCell}
 use Rattle.test_rows.specs.declared.fact.Fact.{Fact}
@@ -110,3 +110,14 @@ put_known w s facts p key row qual value list all k same row_is dot shortest = r
   where
     known : {r : Row} {q v : List ℕ} → IsShown facts r q v → KnowsCell s r q v
     known shown = shown_known s facts _ _ _ all shown
+
+-- and so is an append of its qualifier and its value
+pub append_known : (w : Widths) (s : Seen) (facts : List Fact) (p : DataPoint) (key : RowKey) (row : Row) (qual value list q v piece : List ℕ) → AllHold s facts → ShowsKey w facts p key → list ≡ value → q ≡ qual → v ≡ value → piece ≡ q ++ v
+    → row ≡ point_row (key_bytes w key) → IsDots qual list (dot_of (p.time % HOUR_MILLIS) p.fine p.value (length list) ∷ []) → IsShortest p.value value
+    → AppendBasis w (Seen_id w s) p row piece
+append_known w s facts p key row qual value list q v piece all k same q_is v_is piece_is row_is dot shortest = record {
+  qual = qual;
+  value = value;
+  piece_is = piece_is ∙ (λ i. q_is i ++ v_is i);
+  put = put_known w s facts p key row qual value list all k same row_is dot shortest;
+}

@@ -18,6 +18,8 @@ pub enum Act {
     Claim { row: Row, qual: Bytes, value: Bytes },
     /// It puts a point of one tag, whose names were shown to have ids.
     Put { point: Point },
+    /// It appends a point of one tag, whose names were shown to have ids, to the column of its row.
+    Append { point: Point },
     /// It writes a cell that merges others of its point row.
     Merge { row: Row, qual: Bytes, value: Bytes },
     /// It drops the cells of these qualifiers, up to the versions that were read.
@@ -35,7 +37,7 @@ pub enum Acted {
     Bumped { bumped: Bumped },
     /// Whether the cell was claimed.
     Claimed { claimed: Claimed },
-    /// The cell was written.
+    /// The cell was written, or the point was appended.
     Written,
     /// So many cells were dropped.
     Dropped { count: u64 },

@@ -8,9 +8,9 @@ ghost use Rattle.test_rows.specs.Facts.{AllHold};
 ghost use Rattle.test_rows.specs.Merges.{AllBelow, HasAbove, ShowsAbove};
 
 use crate::fact::{Fact, last_value, last_version};
-use crate::merge_step::{all_within, dots_in, is_points};
+use crate::merge_step::{all_within, dots_by_items, dots_in, is_points};
 use cell_model::{Drops, Row};
-use qual_codec::{Bytes, Dot, read_cell};
+use qual_codec::{Bytes, Dot};
 use std::alloc::{AllocError, Global};
 
 /// Whether a fact shows a cell of the row of another qualifier that has each of these data points.
@@ -37,7 +37,7 @@ fn has_above(alloc: Global, facts: &[Fact], row: &Row, qual: &[u8]) -> bool
     let Some(value) = last_value(facts, row, qual) else {
         return false;
     };
-    let Ok(low) = read_cell(alloc, qual, value) else {
+    let Some(low) = dots_by_items(alloc, qual, value) else {
         return false;
     };
     for fact in facts {

@@ -10,7 +10,7 @@ ghost use Rattle.test_rows.specs.Merges.{AllWithin, ShowsDots, StandsIn};
 
 use crate::fact::Fact;
 use cell_model::Row;
-use qual_codec::{Dot, read_cell};
+use qual_codec::{Dot, is_column, read_cell};
 use row_key::Table;
 use std::alloc::Global;
 
@@ -53,7 +53,20 @@ pub fn all_within(low: &[Dot], high: &[Dot]) -> bool
     true
 }
 
-/// The data points of a cell of the row that a fact shows.
+/// The data points that a cell has by its items, if it reads and isn't the column of appends.
+pub fn dots_by_items(alloc: Global, qual: &[u8], value: &[u8]) -> Option<Vec<Dot>>
+    ensures { IfSome result (λ dots. IsDots qual.now value.now dots.items) }
+{
+    if is_column(qual) {
+        return None;
+    }
+    match read_cell(alloc, qual, value) {
+        Ok(dots) => Some(dots),
+        Err(_) => None,
+    }
+}
+
+/// The data points of a cell of the row that a fact shows, if it isn't the column.
 pub fn dots_in(alloc: Global, fact: &Fact, row: &Row) -> Option<Vec<Dot>>
     ensures { IfSome result (λ dots. ShowsDots fact.now row.now dots.items) }
 {
@@ -63,10 +76,7 @@ pub fn dots_in(alloc: Global, fact: &Fact, row: &Row) -> Option<Vec<Dot>>
             qual,
             value,
             ..
-        } if *of == *row => match read_cell(alloc, qual.list(), value.list()) {
-            Ok(dots) => Some(dots),
-            Err(_) => None,
-        },
+        } if *of == *row => dots_by_items(alloc, qual.list(), value.list()),
         _ => None,
     }
 }
@@ -96,15 +106,16 @@ fn all_stand(alloc: Global, facts: &[Fact], row: &Row, dots: &[Dot]) -> bool
     true
 }
 
-/// Whether the facts show that a cell may be merged into its row: it reads, and each of its data points stood there.
+/// Whether the facts show that a cell may be merged into its row: it reads by its items, and each of its data points stood there in a
+/// cell that does.
 pub fn may_merge(facts: &[Fact], alloc: Global, row: &Row, qual: &[u8], value: &[u8]) -> bool
     ensures { IsTrue result → (s : Seen) → AllHold s facts.now → MergedBasis (KnowsCell s row.now) row.now qual.now value.now }
 {
     if !is_points(row) {
         return false;
     }
-    match read_cell(alloc, qual, value) {
-        Ok(dots) => all_stand(alloc, facts, row, dots.as_slice()),
-        Err(_) => false,
+    match dots_by_items(alloc, qual, value) {
+        Some(dots) => all_stand(alloc, facts, row, dots.as_slice()),
+        None => false,
     }
 }

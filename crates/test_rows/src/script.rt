@@ -4,7 +4,7 @@ ghost use Rattle.test_rows.specs.Sharing.{IsOneStep, Passes};
 
 use crate::act::{Act, Acted};
 use crate::sharing::{CALLERS, Shared};
-use crate::step::{bump, claim, drop_cells, find, merge, put, read};
+use crate::step::{append, bump, claim, drop_cells, find, merge, put, read};
 use std::alloc::{AllocError, Global};
 
 /// An act of a caller, and what became of it.
@@ -41,6 +41,7 @@ fn make(shared: &mut Shared, alloc: Global, act: &Act) -> Result<Acted, AllocErr
         Act::Bump { kind } => Ok(bump(shared, *kind)),
         Act::Claim { row, qual, value } => claim(shared, alloc, row, qual, value),
         Act::Put { point } => put(shared, alloc, point),
+        Act::Append { point } => append(shared, alloc, point),
         Act::Merge { row, qual, value } => merge(shared, alloc, row, qual, value),
         Act::Drop { row, quals } => drop_cells(shared, alloc, row, quals.as_slice()),
     }

@@ -156,6 +156,19 @@ impl Rows for Scripted {
         self.shared.put_point(alloc, point, row, qual, value)
     }
 
+    fn append_point(
+        &mut self,
+        alloc: Global,
+        point: &Point,
+        row: &Row,
+        piece: &Bytes,
+    ) -> Result<(), RowsFault> {
+        let Ok(()) = self.let_others() else {
+            return Err(RowsFault::OutOfMemory);
+        };
+        self.shared.append_point(alloc, point, row, piece)
+    }
+
     fn put_merged(
         &mut self,
         alloc: Global,

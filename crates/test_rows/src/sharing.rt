@@ -4,7 +4,7 @@ ghost use Rattle.tsd_base.specs.Points.{data_point};
 ghost use Rattle.cell_model.specs.Ranges.{InOneRange};
 ghost use Rattle.cell_model.specs.Seen.{IsPossible, Knows};
 ghost use Rattle.cell_model.specs.declared.answers.RowsFault.TheVariants.{OutOfMemory};
-ghost use Rattle.cell_model.specs.declared.events.Step.TheVariants.{Read, NextRow, Bump, Claim, PutPoint, PutMerged, DropCells};
+ghost use Rattle.cell_model.specs.declared.events.Step.TheVariants.{Read, NextRow, Bump, Claim, PutPoint, AppendPoint, PutMerged, DropCells};
 ghost use Rattle.cell_model.specs.declared.events.Reply.TheVariants.{Shown, Next, BumpReply, ClaimReply, Written, Removed};
 ghost use Rattle.cell_solo.specs.Turns.{sight, Steps, Stays};
 ghost use Rattle.test_rows.specs.Facts.{AllHold};
@@ -218,6 +218,32 @@ impl Rows for Shared {
             Ok(()) => {
                 self.room = ROOM;
                 note_cell(&mut self.facts, alloc, row, qual.list(), value.list(), None);
+                Ok(())
+            }
+            Err(fault) => {
+                self.room = 0;
+                Err(fault)
+            }
+        }
+    }
+
+    // It shows no value of the column, so nothing is noted.
+    fn append_point(
+        &mut self,
+        alloc: Global,
+        point: &Point,
+        row: &Row,
+        piece: &Bytes,
+    ) -> Result<(), RowsFault>
+        requires knows { Knows (sight self.old.solo) (AppendPoint (data_point point.now) row.now piece.now) }
+        ensures steps { OnOk result (Steps self.old.solo (AppendPoint (data_point point.now) row.now piece.now) Written self.new.solo) }
+        ensures stays { OnErr result (Stays self.old.solo self.new.solo) }
+        ensures memory { IfErr result (λ fault. fault ≡ OutOfMemory) }
+        ensures room { OnOk result (self.new.room ≡ 8) }
+    {
+        match self.solo.append_point(alloc, point, row, piece) {
+            Ok(()) => {
+                self.room = ROOM;
                 Ok(())
             }
             Err(fault) => {

@@ -1,5 +1,5 @@
 //! One step of a caller, where the facts show that it is allowed.
-ghost use Rattle.std.specs.Prelude.{IsTrue};
+ghost use Rattle.std.specs.Prelude.{◌≡◌, ◌++◌, IfOk, IsTrue};
 ghost use Rattle.cell_model.specs.Ranges.{SameMetric};
 ghost use Rattle.tsd_base.specs.Points.{data_point};
 ghost use Rattle.cell_solo.specs.Turns.{sight};
@@ -128,6 +128,43 @@ fn store(
         Ok(()) => Ok(Acted::Written),
         Err(_) => Err(AllocError),
     }
+}
+
+/// Appends a point of one tag.
+pub fn append(shared: &mut Shared, alloc: Global, point: &Point) -> Result<Acted, AllocError>
+    ensures { IsOneStep shared.old.solo shared.new.solo }
+{
+    let widths = shared.widths();
+    match known_key(shared.facts(), alloc, point, widths)? {
+        Some(key) => add(shared, alloc, point, &key),
+        None => Ok(Acted::NotAllowed),
+    }
+}
+
+/// Appends a point in the row of its key.
+fn add(shared: &mut Shared, alloc: Global, point: &Point, key: &RowKey) -> Result<Acted, AllocError>
+    requires key { ShowsKey (sight shared.old.solo).base.widths shared.old.facts (data_point point.now) key.now }
+    ensures { IsOneStep shared.old.solo shared.new.solo }
+{
+    // For the proof: the facts hold.
+    let _ = shared.facts();
+    let row = row_of(alloc, key, shared.widths())?;
+    let value = value_of(point);
+    let qual = qualifier_of(point, value.list());
+    let piece = joined(alloc, qual.list(), value.list())?;
+    match shared.append_point(alloc, point, &row, &piece) {
+        Ok(()) => Ok(Acted::Written),
+        Err(_) => Err(AllocError),
+    }
+}
+
+/// A qualifier, and behind it a value.
+fn joined(alloc: Global, qual: &[u8], value: &[u8]) -> Result<Bytes, AllocError>
+    ensures { IfOk result (λ piece. piece ≡ qual.now ++ value.now) }
+{
+    let mut bytes = Vec::from_slice(alloc, qual)?;
+    bytes.extend_from_slice(value)?;
+    Bytes::of(alloc, bytes.as_slice())
 }
 
 /// Writes a cell that merges others.

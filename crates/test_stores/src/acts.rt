@@ -9,6 +9,7 @@ use test_readers::text::{Bad, bytes, first_word, hex, kind, small};
 use test_rows::act::{Act, Acted};
 use test_rows::claim::{bytes_of_id, qualifier};
 use tsd_base::point_text::read_point;
+use tsd_base::points::Point;
 
 /// Bytes of hexadecimal digits.
 fn hex_bytes(alloc: Global, word: &str) -> Result<Bytes, Bad> {
@@ -60,6 +61,12 @@ fn claim(alloc: Global, text: &str, widths: Widths) -> Result<Act, Bad> {
     })
 }
 
+/// The point of a line.
+fn point(alloc: Global, text: &str) -> Result<Point, Bad> {
+    let line = bytes(alloc, text)?;
+    read_point(alloc, line.as_slice()).map_err(|_| Bad::Line("no point"))
+}
+
 /// `merges ROW QUALIFIER VALUE`.
 fn merge(alloc: Global, text: &str) -> Result<Act, Bad> {
     let (word, text) = first_word(text);
@@ -98,11 +105,12 @@ pub fn act(alloc: Global, text: &str, widths: Widths) -> Result<Act, Bad> {
         },
         "bumps" => Act::Bump { kind: kind(word)? },
         "claims" => claim(alloc, text, widths)?,
-        "puts" => {
-            let line = bytes(alloc, text)?;
-            let point = read_point(alloc, line.as_slice()).map_err(|_| Bad::Line("no point"))?;
-            Act::Put { point }
-        }
+        "puts" => Act::Put {
+            point: point(alloc, text)?,
+        },
+        "appends" => Act::Append {
+            point: point(alloc, text)?,
+        },
         "merges" => merge(alloc, text)?,
         "drops" => drops(alloc, text)?,
         _ => return Err(Bad::Line("no verb of another caller")),

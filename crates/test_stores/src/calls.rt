@@ -136,12 +136,19 @@ pub fn tell_rows_fault(out: &mut String, fault: RowsFault) -> Result<(), Bad> {
     }
 }
 
-/// Which names are given ids, and the line, of `[--auto-metric] LINE`.
+/// How a point is put, and the line, of `[--auto-metric] [--appends] LINE`.
 fn config_and_line(text: &str) -> (Config, &str) {
     let mut config = Config::usual();
-    match text.strip_prefix("--auto-metric ") {
-        Some(line) => {
+    let text = match text.strip_prefix("--auto-metric ") {
+        Some(rest) => {
             config.auto_metric = true;
+            rest
+        }
+        None => text,
+    };
+    match text.strip_prefix("--appends ") {
+        Some(line) => {
+            config.appends = true;
             (config, line)
         }
         None => (config, text),
@@ -153,7 +160,7 @@ fn tell_stored(out: &mut String, base: u32, row: &Row) -> Result<(), Bad> {
     tell_hex(out, row.bytes.list())
 }
 
-/// `put [--auto-metric] LINE`: the row of the point.
+/// `put [--auto-metric] [--appends] LINE`: the row of the point.
 fn put_line<R: Rows + Drop>(
     alloc: Global,
     names: &mut Uids<R>,
@@ -170,7 +177,7 @@ fn put_line<R: Rows + Drop>(
     }
 }
 
-/// `put_text [--auto-metric] LINE`: the row of the point, which is put by its text.
+/// `put_text [--auto-metric] [--appends] LINE`: the row of the point, which is put by its text.
 fn put_line_text<R: Rows + Drop>(
     alloc: Global,
     names: &mut Uids<R>,

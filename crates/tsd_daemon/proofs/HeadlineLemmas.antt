@@ -28,6 +28,7 @@ use Rattle.point_put.specs.Admissions.{Admission}
 use Rattle.point_put.specs.declared.fault.PutFault.{PutFault}
 use Rattle.point_put.specs.declared.fault.PutFault.TheVariants as fault
 use Rattle.point_put.specs.PutPoint.{PointAsked}
+use Rattle.point_put.proofs.CallerLemmas.{step_puts}
 use Rattle.json_reply.specs.Replies.{Group}
 use Rattle.query_text.specs.declared.queries.Query.{Query}
 use Rattle.query_text.specs.declared.queries.Sub.{Sub}
@@ -213,7 +214,7 @@ module _ (c : Admission) (h : History) (caller n n2 : ℕ) where
   put_accepted point (Ok row) reply stored asked told nothing =
       let put = asked.put in
       let d = deeds_each h caller n n2 put (subst (λ (l : List Placed). Contains l put) (sym asked.list_is) (Contains-append_right asked.names (put ∷ []) put (here put []))) in
-      inr (put.entry, (put.place, entry_among n2 h put.place put.entry d.within d.stands), subst (λ (s : Step). IsPut s (reading_of point)) (sym asked.did.did.0) refl)
+      inr (put.entry, (put.place, entry_among n2 h put.place put.entry d.within d.stands), subst (λ (s : Step). IsPut s (reading_of point)) (sym asked.did.did.0) (step_puts c.config.appends point row.row asked.did.qual asked.did.value))
   put_accepted point (Err (fault.Unknown kind name)) reply stored asked told nothing = absurd (not_line _ (sym nothing ∙ told.0))
   put_accepted point (Err (fault.Filtered kind name)) reply stored asked told nothing = absurd (not_line _ (sym nothing ∙ told.0))
   put_accepted point (Err (fault.Exhausted kind)) reply stored asked told nothing = absurd (not_line _ (sym nothing ∙ told.0))

@@ -15,7 +15,7 @@ use Rattle.tsd_run.proofs.StdioLemmas.{runs_unread}
 
 -- a fleet served as the words say
 pub served_by : (s : Serve) (c : Admission) (result : FleetEnd) (status : Status) {inlets_tell outlets_tell : Type 0} {moments : Option (List ℕ)} {back : Option (List Shut)} (back' : Option (List Shut)) {counts : Counts} (counts' : Counts) {faults : ℕ} (faults' : ℕ) {held : Option (List ℕ)} (held' : Option (List ℕ))
-    → c ≡ admission_of s.names → status ≡ status_of result → RunsFleet result s.port inlets_tell outlets_tell c moments back back' counts counts' faults faults' held held'
+    → c ≡ admission_of s.names s.appends → status ≡ status_of result → RunsFleet result s.port inlets_tell outlets_tell c moments back back' counts counts' faults faults' held held'
     → ServesFleet s inlets_tell outlets_tell moments back back' counts counts' faults faults' held held' status
 served_by s c result status {inlets_tell = inlets_tell} {outlets_tell = outlets_tell} {moments = moments} {back = back} back' {counts = counts} counts' {faults = faults} faults' {held = held} held' same is runs =
     inr (result, is, subst (λ (a : Admission). RunsFleet result s.port inlets_tell outlets_tell a moments back back' counts counts' faults faults' held held') same runs)

@@ -166,7 +166,7 @@ module _ (inlets_tell outlets_tell : Type 0) (moments : Option (List ℕ)) (back
         ids = one_id_each stands.history stands.lawful;
         callers = stands.callers;
         given_back = stands.given.doors;
-        each = all_headline inlets_tell outlets_tell (admission_of s.names) moments stands.history stands.lawful stands.callers stands.served;
+        each = all_headline inlets_tell outlets_tell (admission_of s.names s.appends) moments stands.history stands.lawful stands.callers stands.served;
         printed = λ is.
             let all = runs.prints.whole (ended_done w.0 (sym is ∙ w.1)) in
             (runs.tally, subst (λ (store : Store). IsTally store runs.tally) stands.store_is runs.serves.tally_is, (runs.links, listening_line all.0, subst (Appends held held') all.2 runs.prints.gives));

@@ -1,5 +1,5 @@
 -- Connections that are served as the words say, and runs whose words, or whose rule for new names, had no memory.
-use Rattle.std.proofs.Common.{◌≡◌, ℕ, List, [], false, refl, subst, ap, ◌∙◌}
+use Rattle.std.proofs.Common.{◌≡◌, ℕ, Bool, List, [], false, refl, subst, ap, ◌∙◌}
 use Rattle.std.specs.Prelude.{Option, None, Some}
 use Rattle.std.proofs.KnownBytes.{Appends-nil, Consumes-nil}
 use Rattle.command_words.specs.CommandWords.{Batch, NameOptions, Stdio, Asked}
@@ -18,11 +18,11 @@ use Rattle.tsd_run.specs.Runs.{HasStatus, Runs, RunsPrinted, ServesStdio, admiss
 use Rattle.tsd_run.proofs.RunLemmas.{nothing_taken}
 
 -- of these kinds and with these patterns names are given ids as the words say
-pub admitted : (s : NameOptions) (config : Config) (patterns : Patterns) → config ≡ (admission_of s).config → patterns ≡ s.patterns → admission config patterns ≡ admission_of s
-admitted s config patterns is same = ap (λ (c : Config). admission c patterns) is ∙ ap (admission (admission_of s).config) same
+pub admitted : (s : NameOptions) (appends : Bool) (config : Config) (patterns : Patterns) → config ≡ (admission_of s appends).config → patterns ≡ s.patterns → admission config patterns ≡ admission_of s appends
+admitted s appends config patterns is same = ap (λ (c : Config). admission c patterns) is ∙ ap (admission (admission_of s appends).config) same
 
 -- a connection was served as the words say
-pub served_by : (s : Stdio) (c : Admission) (taken taken' left left' held held' moments moments' : Option (List ℕ)) (result : Served) (status : Status) → c ≡ admission_of s.names → HasStatus result status
+pub served_by : (s : Stdio) (c : Admission) (taken taken' left left' held held' moments moments' : Option (List ℕ)) (result : Served) (status : Status) → c ≡ admission_of s.names s.appends → HasStatus result status
     → Passes taken taken' left left' held held' moments moments' (ServesAlone s.widths c result) → Passes taken taken' left left' held held' moments moments' (ServesStdio s status)
 served_by s c taken taken' left left' held held' moments moments' result status is how p = record {
   input = p.input;
@@ -49,7 +49,7 @@ module _ (taken left held moments : Option (List ℕ)) where
     leaves = Consumes-nil left;
     gives = Appends-nil held;
     ticks = refl;
-    so = (served.OutOfMemory, (none_served s.widths (admission_of s.names), nothing_fills), is);
+    so = (served.OutOfMemory, (none_served s.widths (admission_of s.names s.appends), nothing_fills), is);
   }
 
   -- there was no memory for the words

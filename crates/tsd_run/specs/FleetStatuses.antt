@@ -24,7 +24,7 @@ status_of end.OutOfMemory = Memory
 abbrev pub ServesFleet : Serve → (inlets_tell outlets_tell : Type 0) → (moments : Option (List ℕ)) → (back back' : Option (List Shut)) → (counts counts' : Counts) → (faults faults' : ℕ) → (held held' : Option (List ℕ)) → Status → Type 0
 ServesFleet s inlets_tell outlets_tell moments back back' counts counts' faults faults' held held' status =
     ((status ≡ Memory) × (held' ≡ held) × (back' ≡ back) × (counts' ≡ counts))
-    ⊎ ((result : FleetEnd) × (status ≡ status_of result) × RunsFleet result s.port inlets_tell outlets_tell (admission_of s.names) moments back back' counts counts' faults faults' held held')
+    ⊎ ((result : FleetEnd) × (status ≡ status_of result) × RunsFleet result s.port inlets_tell outlets_tell (admission_of s.names s.appends) moments back back' counts counts' faults faults' held held')
 
 -- the words ask for a fleet, and then it is so, or for something else
 abbrev pub RunsAny : Option Asked → Type 0 → (Serve → Type 0) → Type 0

@@ -102,14 +102,14 @@ HasStatus served.Stopped status = status ≡ Halted
 HasStatus served.SessionFull status = status ≡ SessionFull
 HasStatus served.OutOfMemory status = status ≡ Memory
 
--- of which kinds names that have no id are given one, and how these must begin
-abbrev pub admission_of : NameOptions → Admission
-admission_of s = admission (record { auto_metric = s.auto_metric; auto_tag_key = s.auto_tag_key; auto_tag_value = s.auto_tag_value }) s.patterns
+-- of which kinds names that have no id are given one, and how these must begin; and whether points are appended
+abbrev pub admission_of : NameOptions → Bool → Admission
+admission_of s appends = admission (record { auto_metric = s.auto_metric; auto_tag_key = s.auto_tag_key; auto_tag_value = s.auto_tag_value; appends = appends }) s.patterns
 
 -- One connection was served over an empty store of the widths that are asked for, which nobody else steps: these bytes were taken and these given, the clock gave these moments, and the
 -- status is that of its end.
 abbrev pub ServesStdio : Stdio → Status → List ℕ → List ℕ → List ℕ → Type 0
-ServesStdio s status input output times = (result : Served) × ServesAlone s.widths (admission_of s.names) result input output times × HasStatus result status
+ServesStdio s status input output times = (result : Served) × ServesAlone s.widths (admission_of s.names s.appends) result input output times × HasStatus result status
 
 -- the words ask for a connection
 abbrev pub is_stdio : Option Asked → Bool

@@ -1,4 +1,4 @@
-//! Which names are given ids, as words say.
+//! Which names are given ids, and how points are stored, as words say.
 ghost use Rattle.std.specs.Prelude.{◌≡◌, IfOk};
 ghost use Rattle.command_words.specs.PlainAsked.{plain_names, plain_pattern, plain_patterns};
 ghost use Rattle.tsd_run.specs.Runs.{admission_of};
@@ -9,14 +9,15 @@ use short_bytes::short::Bytes;
 use std::alloc::{AllocError, Global};
 use tsd_hooks::Patterns;
 
-/// Of which kinds names that have no id are given one.
-pub fn config_of(names: &NameOptions<'_>) -> Config
-    ensures { result ≡ (admission_of (plain_names names.now)).config }
+/// Of which kinds names that have no id are given one, and whether points are appended.
+pub fn config_of(names: &NameOptions<'_>, appends: bool) -> Config
+    ensures { result ≡ (admission_of (plain_names names.now) appends).config }
 {
     Config {
         auto_metric: names.auto_metric,
         auto_tag_key: names.auto_tag_key,
         auto_tag_value: names.auto_tag_value,
+        appends,
     }
 }
 

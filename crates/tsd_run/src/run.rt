@@ -201,7 +201,7 @@ fn run_by_rule<T: Threads + Wait + Sync, K: Sink, C: Clock + Send + Drop, H: Hal
     ensures none_left { result.status ≡ Status.Done → IsNoneLeft (D.waiting doors.old) (D.waiting doors.new) }
     ensures heeded { result.status ≢ Status.Stopped → result.status ≢ Status.Memory → H.stops result.halt ≡ H.stops halt }
 {
-    let config = config_of(&asked.names);
+    let config = config_of(&asked.names, asked.appends);
     let fleet = Fleet {
         port: asked.port,
         daemons: asked.daemons,

@@ -73,10 +73,11 @@ struct Decided<H> {
 /// then the first line that is refused, then too many buckets, a name that no point has, two values of one series at one
 /// time, or a sum outside `i64`.
 ///
-/// `stdio [--auto-metric] [--no-auto-tagk] [--no-auto-tagv] [--allow-metric P] [--allow-tagk P] [--allow-tagv P] [--widths M,K,V]`
-/// serves one connection over an empty store, whose requests come from the input and whose replies go to the output. A name that has
-/// no id is given one only where it begins with the P of its kind, if there is one. The ids of metrics have M bytes, those of tag keys
-/// K and those of tag values V, each 2 to 4, and three where nothing is said.
+/// `stdio [--auto-metric] [--no-auto-tagk] [--no-auto-tagv] [--allow-metric P] [--allow-tagk P] [--allow-tagv P] [--appends]
+/// [--widths M,K,V]` serves one connection over an empty store, whose requests come from the input and whose replies go to the output. A
+/// name that has no id is given one only where it begins with the P of its kind, if there is one. With `--appends` a point is added to the
+/// column of its row, and else it gets a cell. The ids of metrics have M bytes, those of tag keys K and those of tag values V, each 2 to 4,
+/// and three where nothing is said.
 ///
 /// Words that are no command print the usage line, and so does `serve`, which waits for connections. No command but `stdio` asks the clock.
 pub fn run_alone<S: Source, K: Sink, C: Clock, H: Halt + Drop>(
@@ -209,7 +210,7 @@ fn serve_by<S: Source, K: Sink, C: Clock, H: Halt + Drop>(
     ensures clock_fault { result.status ≡ Status.ClockFault → Rose (C.faults clock.old) (C.faults clock.new) }
     ensures stopped { result.status ≡ Status.Stopped → Rose (H.stops halt) (H.stops result.halt) }
 {
-    let config = config_of(&stdio.names);
+    let config = config_of(&stdio.names, stdio.appends);
     let Finished { served, halt } = serve_alone(
         alloc,
         stdio.widths,

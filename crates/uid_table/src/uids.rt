@@ -392,6 +392,17 @@ impl<R: Rows + Drop> Rows for Uids<R> {
         self.rows.put_point(alloc, point, row, qual, value)
     }
 
+    #[inline(always)]
+    fn append_point(
+        &mut self,
+        alloc: Global,
+        point: &Point,
+        row: &Row,
+        piece: &Bytes,
+    ) -> Result<(), RowsFault> {
+        self.rows.append_point(alloc, point, row, piece)
+    }
+
     fn put_merged(
         &mut self,
         alloc: Global,

@@ -1,3 +1,4 @@
+use Rattle.std.proofs.Common.{refl}
 use Rattle.tsd_base.specs.Points.{data_point}
 use Rattle.point_put.specs.Admissions.{admission}
 use Rattle.point_put.specs.StoredTexts.{place_of}
@@ -5,7 +6,7 @@ use Rattle.batch_job.proofs.Puts.{put_adds, never_exhausted, never_filtered}
 use Rattle.batch_job.proofs.pending_puts.put_one.Goals as goal
 
 pub returns-in-Ok-clause-adds : goal.returns-in-Ok-clause-adds
-returns-in-Ok-clause-adds g c = put_adds (g.R.Rows.seen c.args.store.now) (g.R.Rows.seen c.put_first.new.names) _ (data_point c.args.point) c.requires.resolved (place_of c.in-Ok.placed) c.in-Ok.ensures.says
+returns-in-Ok-clause-adds g c = put_adds (g.R.Rows.seen c.args.store.now) (g.R.Rows.seen c.put_first.new.names) _ (data_point c.args.point) c.requires.resolved (place_of c.in-Ok.placed) c.in-Ok.ensures.says refl
 
 pub unreachable-requires-in-Err-Exhausted : goal.unreachable-requires-in-Err-Exhausted
 unreachable-requires-in-Err-Exhausted g c =

@@ -11,17 +11,17 @@ pub row_of-requires : goal.row_of-requires
 row_of-requires g c = subst (λ (w : Widths). IsKey w c.args.key.now) (sym c.widths.ensures) c.requires.key.is_key
 
 pub returns-in_err-row-clause-made : goal.returns-in_err-row-clause-made
-returns-in_err-row-clause-made g c = no_memory _ (data_point c.args.point.now) c.from_residual.result c.from_residual.ensures.1 (nothing_made _)
+returns-in_err-row-clause-made g c = no_memory c.args.config.now.appends _ (data_point c.args.point.now) c.from_residual.result c.from_residual.ensures.1 (nothing_made _)
 
-pub put_point-requires : goal.put_point-requires
-put_point-requires g c =
+pub write_point-requires : goal.write_point-requires
+write_point-requires g c =
     let cell = laid (g.R.Rows.seen c.args.names.now) (data_point c.args.point.now) c.args.key.now c.in_ok-row.row c.qualifier_of-qual.result c.value_of-value.result _ c.list.ensures c.requires.key c.requires.names c.requires.possible (c.in_ok-row.ensures ∙ ap (λ (w : Widths). point_row (key_bytes w c.args.key.now)) c.widths.ensures) c.qualifier_of-qual.ensures c.value_of-value.ensures in
-    record { knows = knows_put (g.R.Rows.seen c.args.names.now) (data_point c.args.point.now) c.args.key.now c.in_ok-row.row c.qualifier_of-qual.result c.value_of-value.result cell }
+    knows_put (g.R.Rows.seen c.args.names.now) (data_point c.args.point.now) c.args.key.now c.in_ok-row.row c.qualifier_of-qual.result c.value_of-value.result cell
 
-pub returns-in_err-put_point-clause-made : goal.returns-in_err-put_point-clause-made
-returns-in_err-put_point-clause-made g c = not_stored _ _ (data_point c.args.point.now) c.in_err-put_point.field-0.0 c.from_residual-in_err-put_point.result c.from_residual-in_err-put_point.ensures.1 c.in_err-put_point.ensures.err c.in_err-put_point.ensures.lives
+pub returns-in_err-write_point-clause-made : goal.returns-in_err-write_point-clause-made
+returns-in_err-write_point-clause-made g c = not_stored c.args.config.now.appends _ _ (data_point c.args.point.now) c.in_err-write_point.field-0.0 c.from_residual-in_err-write_point.result c.from_residual-in_err-write_point.ensures.1 c.in_err-write_point.ensures.err c.in_err-write_point.ensures.lives
 
 pub returns-clause-made : goal.returns-clause-made
 returns-clause-made g c =
     let cell = laid (g.R.Rows.seen c.args.names.now) (data_point c.args.point.now) c.args.key.now c.in_ok-row.row c.qualifier_of-qual.result c.value_of-value.result _ c.list.ensures c.requires.key c.requires.names c.requires.possible (c.in_ok-row.ensures ∙ ap (λ (w : Widths). point_row (key_bytes w c.args.key.now)) c.widths.ensures) c.qualifier_of-qual.ensures c.value_of-value.ensures in
-    stored _ _ (data_point c.args.point.now) c.args.key.now c.in_ok-row.row c.qualifier_of-qual.result c.value_of-value.result cell c.in_ok-put_point.ensures.ok c.in_ok-put_point.ensures.possible
+    stored c.args.config.now.appends _ _ (data_point c.args.point.now) c.args.key.now c.in_ok-row.row c.qualifier_of-qual.result c.value_of-value.result cell c.in_ok-write_point.ensures.ok c.in_ok-write_point.ensures.possible

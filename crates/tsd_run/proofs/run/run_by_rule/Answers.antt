@@ -13,7 +13,7 @@ returns-clause-serves g c =
     let served = c.serve_fleet-end in
     let d = g.D.Doors in
     served_by (plain_serve c.args.asked.now) (admission config patterns) served.result.end c.status_of-status.result (d.back served.new.doors) (d.counts served.new.doors) (g.C.Clock.faults served.new.clock) (g.K.Sink.held served.new.output)
-    (admitted (plain_names c.args.asked.now.names) config patterns c.config_of-config.ensures c.requires.rule) c.status_of-status.ensures.status served.ensures.runs
+    (admitted (plain_names c.args.asked.now.names) c.args.asked.now.appends config patterns c.config_of-config.ensures c.requires.rule) c.status_of-status.ensures.status served.ensures.runs
 
 pub returns-clause-heeded : goal.returns-clause-heeded
 returns-clause-heeded g c = λ no_stop enough.

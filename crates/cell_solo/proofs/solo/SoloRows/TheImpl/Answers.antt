@@ -12,3 +12,14 @@ put_point-tells = λ g c. record {
   stopped = if_err c.result stopped_never c.ensures.memory;
   spare = on_ok c.result (λ eight. omega (arith, eight)) c.ensures.room;
 }
+
+pub append_point-tells : goal.append_point-tells
+append_point-tells = λ g c. record {
+  ok = on_ok c.result (λ s. s.stepped) c.ensures.steps;
+  err = if_err c.result (λ e. stayed c.args.self.now c.new.self.now) c.ensures.stays;
+  possible = on_ok c.result (λ s. s.possible) c.ensures.steps;
+  lives = if_err c.result (λ e. lives_on c.args.self.now c.new.self.now) c.ensures.stays;
+  grows = omega arith;
+  stopped = if_err c.result stopped_never c.ensures.memory;
+  spare = on_ok c.result (λ eight. omega (arith, eight)) c.ensures.room;
+}
