@@ -221,6 +221,22 @@ impl LineList {
         }
     }
 
+    /// Lines that rise, which are moved.
+    pub fn of(lines: Vec<ListLine>) -> LineList
+        requires { LinesRise lines.items }
+        ensures { result ≡ lines.items }
+    {
+        LineList { list: lines }
+    }
+
+    /// The lines, which are moved.
+    pub fn into_lines(self) -> Vec<ListLine>
+        ensures lines { result.items ≡ self }
+        ensures rising { LinesRise self }
+    {
+        self.list
+    }
+
     /// Adds a line behind the last one, and answers true. A line that isn't above the last one, or a part of which is empty,
     /// isn't added, and the answer is false. It fails only for want of memory, and then nothing changes.
     pub fn add(

@@ -2,7 +2,7 @@
 use Rattle.std.proofs.Common.{◌≡◌, ℕ, ◌+◌, ◌<◌, false, List, [], ◌∷◌, ◌++◌, length, take, drop, refl, sym, ap, ◌∙◌, append_assoc, append-nil}
 use Rattle.std.specs.Prelude.{slice_index}
 use Rattle.line_stream.specs.Lines.{Line, Splits, has_line_end, last_line, lines_of, whole_line}
-use Rattle.line_stream.proofs.FirstLines.{lines_cut, lines_rest}
+use Rattle.line_stream.proofs.FirstLines.{lines_cut, lines_line, lines_rest}
 
 -- before anything was read: no line, and all is left
 pub splits_none : (bytes : List ℕ) → Splits bytes [] bytes
@@ -28,3 +28,7 @@ lines_of_front rest none = lines_rest rest none
 pub lines_at_end : (bytes rest : List ℕ) (lines : List Line) → Splits bytes lines rest → has_line_end rest ≡ false → lines_of bytes ≡ lines ++ last_line rest ∷ []
 lines_at_end bytes rest lines s none =
     ap lines_of (sym (append-nil bytes)) ∙ s [] ∙ ap (λ ls. lines ++ ls) (ap lines_of (append-nil rest) ∙ lines_rest rest none)
+
+-- a line that an LF ends, and what stands behind it
+pub splits_cut : (line rest : List ℕ) → has_line_end line ≡ false → Splits (line ++ 10 ∷ rest) (whole_line line ∷ []) rest
+splits_cut line rest none more = ap lines_of (append_assoc line (10 ∷ rest) more) ∙ lines_line line (rest ++ more) none

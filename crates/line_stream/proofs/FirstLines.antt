@@ -5,7 +5,6 @@ use Rattle.std.proofs.lemmas.List.{take-append-drop, length-take-le}
 use Rattle.std.proofs.Math.Seq.{drop-cons}
 use Rattle.std.proofs.Common.{add-one, get_or}
 use Rattle.std.specs.List.{onto_first, slice_split}
-use Rattle.line_stream.specs.declared.line.TheConstants.{LONGEST_LINE}
 use Rattle.line_stream.specs.Lines.{Line, has_line_end, last_line, lines_in, lines_of, whole_line}
 use Rattle.line_stream.specs.Reads.{IsFirstTooLong}
 
@@ -100,13 +99,13 @@ lines_cut xs more n lt none ten =
     ap lines_of (ap (λ t. t ++ more) (cut_at xs n lt ten) ∙ append_assoc (take n xs) (10 ∷ drop (n + 1) xs) more) ∙ lines_line (take n xs) (drop (n + 1) xs ++ more) none
 
 -- a first line that is too long, with its LF or without
-pub long_line : (xs more : List ℕ) (n : ℕ) → n < length xs → has_line_end (take n xs) ≡ false → slice_index xs n ≡ 10 → LONGEST_LINE < n → IsFirstTooLong (lines_of (xs ++ more))
-long_line xs more n lt none ten long = record {
+pub long_line : (longest : ℕ) (xs more : List ℕ) (n : ℕ) → n < length xs → has_line_end (take n xs) ≡ false → slice_index xs n ≡ 10 → longest < n → IsFirstTooLong longest (lines_of (xs ++ more))
+long_line longest xs more n lt none ten long = record {
   line = whole_line (take n xs);
   others = lines_of (drop (n + 1) xs ++ more);
   is = lines_cut xs more n lt none ten;
   long = (let l = length-take-le n xs (omega (arith, lt)) in omega (arith, l, long));
 }
 
-pub long_front : (xs more : List ℕ) → has_line_end xs ≡ false → LONGEST_LINE < length xs → IsFirstTooLong (lines_of (xs ++ more))
-long_front xs more none long = let b = begins xs more none in record { line = b.line; others = b.others; is = b.is; long = (let l = b.long in omega (arith, l, long)) }
+pub long_front : (longest : ℕ) (xs more : List ℕ) → has_line_end xs ≡ false → longest < length xs → IsFirstTooLong longest (lines_of (xs ++ more))
+long_front longest xs more none long = let b = begins xs more none in record { line = b.line; others = b.others; is = b.is; long = (let l = b.long in omega (arith, l, long)) }

@@ -2,7 +2,7 @@
 ghost use Rattle.std.specs.Prelude.{◌≡◌};
 ghost use Rattle.line_stream.specs.Lines.{is_blank, text_of, without_cr};
 
-/// The most bytes that a line has, without its LF and with its CR.
+/// The most bytes that a line of a point or of a request has, without its LF and with its CR.
 pub const LONGEST_LINE: usize = 8192;
 
 /// The text of a line of these bytes, of which an LF followed or not: one CR before an LF is left out.

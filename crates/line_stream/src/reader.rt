@@ -1,11 +1,10 @@
 //! The lines of a source, one after the other, to its end.
-ghost use Rattle.std.specs.Prelude.{◌≡◌, ◌+◌, ◌^◌, ◌<◌, ◌≤◌, length, Err, IfOk};
+ghost use Rattle.std.specs.Prelude.{◌≡◌, ◌+◌, ◌^◌, ◌<◌, ◌≤◌, length, Err, IfOk, MatchBool};
 ghost use Rattle.tsd_io.specs.Causes.{Rose};
-ghost use Rattle.line_stream.specs.Reads.{Feeds, FirstLine, NextLineIs, TakesPiece, front, line_to, no_bytes, without_line};
+ghost use Rattle.line_stream.specs.Reads.{Feeds, FirstLine, NextLineIs, SkipsLast, SkipsLine, SkipsWhole, TakesPiece, front, line_to, no_bytes, without_line};
 ghost use Rattle.line_stream.specs.declared.reader.InputFault.TheVariants as fault;
 
 use crate::buffer::LineBuffer;
-use crate::line::LONGEST_LINE;
 use std::alloc::{AllocError, Global};
 use std::marker::Model;
 use tsd_io::ports::{Failed, Source};
@@ -24,7 +23,7 @@ pub enum NextLine {
     /// The input has ended, and the last line is all that was left. Where the input is empty or its last byte is an LF,
     /// this line has no bytes.
     Last,
-    /// A line of more than 8,192 bytes, which may not have come whole.
+    /// A line of more bytes than the longest has, which may not have come whole.
     TooLong,
 }
 
@@ -62,6 +61,7 @@ pub struct LineReader {
     piece: Vec<u8>,
     lines: u64,
     taken: u64,
+    longest: usize,
 }
 
 impl Model for LineReader {
@@ -70,7 +70,7 @@ impl Model for LineReader {
 
     ghost Value = { Reading };
 
-    ghost view = { λ r. record { bytes = r.buffer; lines = r.lines; taken = r.taken } };
+    ghost view = { λ r. record { longest = r.longest; bytes = r.buffer; lines = r.lines; taken = r.taken } };
 
     ghost invariant = { λ r. record {
       piece : length r.piece.items ≡ 65536;
@@ -80,15 +80,16 @@ impl Model for LineReader {
 }
 
 impl LineReader {
-    /// Nothing was taken.
-    pub fn make(alloc: Global) -> Result<LineReader, AllocError>
-        ensures { IfOk result (λ reader. reader ≡ no_bytes) }
+    /// Nothing was taken. The longest line has so many bytes, without its LF and with its CR.
+    pub fn make(alloc: Global, longest: usize) -> Result<LineReader, AllocError>
+        ensures { IfOk result (λ reader. reader ≡ no_bytes longest) }
     {
         Ok(LineReader {
             buffer: LineBuffer::make(alloc),
             piece: vec![in alloc; 0u8; PIECE]?,
             lines: 0,
             taken: 0,
+            longest,
         })
     }
 
@@ -134,15 +135,53 @@ impl LineReader {
         self.lines += 1;
     }
 
-    /// The line with which the bytes begin. None where they may be the front of one.
-    fn first_line(&mut self) -> Option<NextLine>
-        ensures same { self.new ≡ self.old }
-        ensures line { FirstLine self.old.bytes result }
+    /// Uses up a line whatever its length, for which bytes of the source are taken to its LF, or to the input's end. The answer is
+    /// whether an LF ended it. It is for a line that is too long: no more of it is kept than a piece.
+    pub fn skip_to_end<S: Source>(&mut self, source: &mut S) -> Result<bool, InputFault>
+        ensures skips { SkipsLine (S.taken source.old) (S.taken source.new) (S.left source.old) (S.left source.new) self.old result self.new }
+        ensures later { S.faults source.old ≤ S.faults source.new }
+        ensures failed { result ≡ Err InputFault.Failed → Rose (S.faults source.old) (S.faults source.new) }
+    {
+        loop {
+            if self.skip_within() {
+                return Ok(true);
+            }
+            if self.taken == LONGEST_INPUT {
+                return Err(InputFault::Full);
+            }
+            if self.take_piece(source)? == 0 {
+                return Ok(false);
+            }
+        }
+    }
+
+    /// Uses up the first line, if its LF has come; else all bytes, which are of one line. The answer is whether its LF had come.
+    fn skip_within(&mut self) -> bool
+        ensures skips { MatchBool result (SkipsWhole self.old self.new) (SkipsLast self.old self.new) }
         ensures most { self.new.taken ≤ 2 ^ 40 }
     {
         match self.buffer.line_end() {
-            Some(end) => Some(line_to(end)),
-            None => front(self.buffer.bytes()),
+            Some(end) => {
+                self.skip_line(end);
+                true
+            }
+            None => {
+                let count = self.buffer.bytes().len();
+                self.buffer.skip(count);
+                false
+            }
+        }
+    }
+
+    /// The line with which the bytes begin. None where they may be the front of one.
+    fn first_line(&mut self) -> Option<NextLine>
+        ensures same { self.new ≡ self.old }
+        ensures line { FirstLine self.old.longest self.old.bytes result }
+        ensures most { self.new.taken ≤ 2 ^ 40 }
+    {
+        match self.buffer.line_end() {
+            Some(end) => Some(line_to(self.longest, end)),
+            None => front(self.longest, self.buffer.bytes()),
         }
     }
 
@@ -161,10 +200,10 @@ impl LineReader {
 }
 
 /// A line that an LF ends behind so many bytes.
-fn line_to(end: usize) -> NextLine
-    ensures { result ≡ line_to end }
+fn line_to(longest: usize, end: usize) -> NextLine
+    ensures { result ≡ line_to longest end }
 {
-    if end > LONGEST_LINE {
+    if end > longest {
         NextLine::TooLong
     } else {
         NextLine::Whole { end }
@@ -172,10 +211,10 @@ fn line_to(end: usize) -> NextLine
 }
 
 /// What bytes without LF are known to begin.
-fn front(bytes: &[u8]) -> Option<NextLine>
-    ensures { result ≡ front bytes.now }
+fn front(longest: usize, bytes: &[u8]) -> Option<NextLine>
+    ensures { result ≡ front longest bytes.now }
 {
-    if bytes.len() > LONGEST_LINE {
+    if bytes.len() > longest {
         Some(NextLine::TooLong)
     } else {
         None

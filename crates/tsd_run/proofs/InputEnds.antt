@@ -1,9 +1,10 @@
 -- How the reading of an input ends.
-use Rattle.std.proofs.Common.{◌≡◌, ℕ, ◌+◌, ◌^◌, ◌<◌, ◌≤◌, true, false, List, ◌++◌, length, take, refl, ◌∙◌, arith}
+use Rattle.std.proofs.Common.{◌≡◌, ℕ, ◌+◌, ◌^◌, ◌<◌, ◌≤◌, true, false, List, ◌++◌, length, take, refl, ◌∙◌, arith, subst}
 use Rattle.std.specs.Prelude.{Option, Some, None, Result, Ok, Err, IfOk, IfErr, codes}
 use Rattle.line_stream.specs.declared.reader.NextLine.{NextLine}
 use Rattle.std.specs.Io.KnownBytes.{IsAtEnd}
 use Rattle.std.proofs.lemmas.Bool.{false≢true}
+use Rattle.line_stream.specs.declared.line.TheConstants.{LONGEST_LINE}
 use Rattle.line_stream.specs.Lines.{last_line, whole_line}
 use Rattle.line_stream.specs.LineReadings.{Reading}
 use Rattle.line_stream.specs.Reads.{BeginsTooLong, BeginsWithLine, Finds, IsFront, NextLineIs, with_bytes}
@@ -37,12 +38,12 @@ module _ (taken taken' left left' : Option (List ℕ)) (c : SoFar) (r : Reading)
   bad_line d bad is = record { input = h.input; ended = false; takes = h.takes; leaves = h.leaves; end = λ e. absurd (false≢true e); most = size_most; early = λ e. absurd (false≢true e); reads = is }
 
   -- a whole line is refused
-  pub line_refused : (d : SoFar) (bad : BadLine) (end : ℕ) → BeginsWithLine r.bytes end → ReadsLine (whole_line (take end r.bytes)) (r.lines + 1) c d (Some bad) → ReadsInputTo taken taken' left left' d (Ok (Some bad))
-  line_refused d bad end t one = bad_line d bad (refuse_on h.input r.bytes end c d r.lines bad t h.reads one)
+  pub line_refused : (d : SoFar) (bad : BadLine) (end : ℕ) → BeginsWithLine r.longest r.bytes end → ReadsLine (whole_line (take end r.bytes)) (r.lines + 1) c d (Some bad) → ReadsInputTo taken taken' left left' d (Ok (Some bad))
+  line_refused d bad end t one = bad_line d bad (refuse_on h.input r.bytes end c d r.lines bad (subst (λ (n : ℕ). BeginsWithLine n r.bytes end) h.longest t) h.reads one)
 
   -- a line is too long
-  pub line_too_long : (bad : BadLine) → BeginsTooLong r.bytes → bad.text.items ≡ codes "line too long" → bad.number ≡ r.lines + 1 → ReadsInputTo taken taken' left left' c (Ok (Some bad))
-  line_too_long bad long text number = bad_line c bad (too_long_further h.input r.bytes r.lines c bad h.reads long text number)
+  pub line_too_long : (bad : BadLine) → BeginsTooLong r.longest r.bytes → bad.text.items ≡ codes "line too long" → bad.number ≡ r.lines + 1 → ReadsInputTo taken taken' left left' c (Ok (Some bad))
+  line_too_long bad long text number = bad_line c bad (too_long_further h.input r.bytes r.lines c bad h.reads (subst (λ (n : ℕ). BeginsTooLong n r.bytes) h.longest long) text number)
 
   -- there is no next line
   pub no_line : (f : InputFault) → Finds left' r (Err f) → ReadsInputTo taken taken' left left' c (Err (of_input f))
@@ -54,7 +55,7 @@ module _ (taken taken' left left' : Option (List ℕ)) (c : SoFar) (r : Reading)
     end = λ e. absurd (false≢true e);
     most = size_most;
     early = λ e. absurd (false≢true e);
-    reads = (unrefused h.input r.bytes r.lines c h.reads f.0, (let s = h.size in let some = f.1 in omega (arith, s, some)));
+    reads = (unrefused h.input r.bytes r.lines c h.reads (subst (λ (n : ℕ). IsFront n r.bytes) h.longest f.0), (let s = h.size in let some = f.1 in omega (arith, s, some)));
   }
   no_line fault.Full f = record {
     input = h.input;
@@ -64,7 +65,7 @@ module _ (taken taken' left left' : Option (List ℕ)) (c : SoFar) (r : Reading)
     end = λ e. absurd (false≢true e);
     most = size_most;
     early = λ e. absurd (false≢true e);
-    reads = (unrefused h.input r.bytes r.lines c h.reads f.0, h.size ∙ f.1);
+    reads = (unrefused h.input r.bytes r.lines c h.reads (subst (λ (n : ℕ). IsFront n r.bytes) h.longest f.0), h.size ∙ f.1);
   }
   no_line fault.OutOfMemory f = out_of_memory c
 
@@ -74,13 +75,16 @@ pub not_found : (taken taken' taken'' left left' left'' : Option (List ℕ)) (c 
 not_found taken taken' taken'' left left' left'' c old new h f n = no_line taken taken'' left left'' c (with_bytes old n.more) (looked_for taken taken' taken'' left left' left'' c old new h (Err f) n) n.most f n.finds
 
 -- the source's end came
-module _ (taken taken' left left' : Option (List ℕ)) (c d : SoFar) (r : Reading) (h : HasRead taken taken' left left' c r) (front : IsFront r.bytes) (end : IsAtEnd left') (some : r.taken < 2 ^ 40) where
+module _ (taken taken' left left' : Option (List ℕ)) (c d : SoFar) (r : Reading) (h : HasRead taken taken' left left' c r) (front : IsFront r.longest r.bytes) (end : IsAtEnd left') (some : r.taken < 2 ^ 40) where
+  short_front : IsFront LONGEST_LINE r.bytes
+  short_front = subst (λ (n : ℕ). IsFront n r.bytes) h.longest front
+
   size_some : length h.input < 2 ^ 40
   size_some = let s = h.size in omega (arith, s, some)
 
   pub ended : (last : Option BadLine) → ReadsLine (last_line r.bytes) (r.lines + 1) c d last → ReadsInputTo taken taken' left left' d (Ok last)
   ended None one =
-      let all = all_read h.input r.bytes r.lines c d h.reads front one in
+      let all = all_read h.input r.bytes r.lines c d h.reads short_front one in
       record { input = h.input; ended = true; takes = h.takes; leaves = h.leaves; end = λ _. end; most = (let s = size_some in omega (arith, s)); early = λ _. size_some; reads = (refl, (all.points, all.is, all.gathers)) }
   ended (Some bad) one = record {
     input = h.input;
@@ -90,11 +94,11 @@ module _ (taken taken' left left' : Option (List ℕ)) (c d : SoFar) (r : Readin
     end = λ _. end;
     most = (let s = size_some in omega (arith, s));
     early = λ _. size_some;
-    reads = last_refused h.input r.bytes r.lines c d bad h.reads front one;
+    reads = last_refused h.input r.bytes r.lines c d bad h.reads short_front one;
   }
 
 -- the last line was read, or refused, or it had no memory, or was stopped
-pub last_read : (taken taken' left left' : Option (List ℕ)) (c d : SoFar) (r : Reading) (h : HasRead taken taken' left left' c r) → r.taken ≤ 2 ^ 40 → (front : IsFront r.bytes) (end : IsAtEnd left') (some : r.taken < 2 ^ 40) (result : Result (Option BadLine) RunFault)
+pub last_read : (taken taken' left left' : Option (List ℕ)) (c d : SoFar) (r : Reading) (h : HasRead taken taken' left left' c r) → r.taken ≤ 2 ^ 40 → (front : IsFront r.longest r.bytes) (end : IsAtEnd left') (some : r.taken < 2 ^ 40) (result : Result (Option BadLine) RunFault)
     → IfOk result (ReadsLine (last_line r.bytes) (r.lines + 1) c d) → (stops stops' : ℕ) → IfErr result (LineCause stops stops') → ReadsInputTo taken taken' left left' d result
 last_read taken taken' left left' c d r h most front end some (Ok last) one stops stops' cause = ended taken taken' left left' c d r h front end some last one
 last_read taken taken' left left' c d r h most front end some (Err f) one stops stops' cause = line_failed taken taken' left left' c r h most d f stops stops' cause

@@ -96,7 +96,7 @@ pub point_full : (line : Line) (old new : SoFar) (p : DataPoint) (kind : Kind) (
 point_full line old new p kind text is adds told lines r = ap (refusal r.gathers.names) is ∙ ap full_text (adds.0 r.points r.gathers) ∙ ap Some (sym told)
 
 -- one more line was read
-pub read_on : (bytes rest : List ℕ) (n : ℕ) (lines : List Line) (c d : SoFar) (count : ℕ) → BeginsWithLine rest n → ReadsFurther bytes rest lines c count → ReadsLine (whole_line (take n rest)) (count + 1) c d None
+pub read_on : (bytes rest : List ℕ) (n : ℕ) (lines : List Line) (c d : SoFar) (count : ℕ) → BeginsWithLine LONGEST_LINE rest n → ReadsFurther bytes rest lines c count → ReadsLine (whole_line (take n rest)) (count + 1) c d None
     → ReadsFurther bytes (drop (n + 1) rest) lines d (count + 1)
 read_on bytes rest n lines c d count t f one =
     let line : Line = whole_line (take n rest) in
@@ -109,7 +109,7 @@ read_on bytes rest n lines c d count t f one =
     }
 
 -- one more line is refused
-pub refuse_on : (bytes rest : List ℕ) (n : ℕ) (c d : SoFar) (count : ℕ) (bad : BadLine) → BeginsWithLine rest n → ReadsFurther bytes rest [] c count → ReadsLine (whole_line (take n rest)) (count + 1) c d (Some bad)
+pub refuse_on : (bytes rest : List ℕ) (n : ℕ) (c d : SoFar) (count : ℕ) (bad : BadLine) → BeginsWithLine LONGEST_LINE rest n → ReadsFurther bytes rest [] c count → ReadsLine (whole_line (take n rest)) (count + 1) c d (Some bad)
     → (more : List ℕ) → points_of (bytes ++ more) ≡ Err (bad.number, bad.text.items)
 refuse_on bytes rest n c d count bad t f b more =
     let line : Line = whole_line (take n rest) in
@@ -124,15 +124,17 @@ pub record HasRead (taken taken' left left' : Option (List ℕ)) (c : SoFar) (r 
   pub takes : Appends taken taken' input
   pub leaves : Consumes left left' input
   pub size : length input ≡ r.taken
+  pub longest : r.longest ≡ LONGEST_LINE
   pub reads : ReadsFurther input r.bytes [] c r.lines
 
 -- nothing was read yet
-pub nothing_read : (taken left : Option (List ℕ)) (c : SoFar) → Gathers [] c → HasRead taken taken left left c no_bytes
+pub nothing_read : (taken left : Option (List ℕ)) (c : SoFar) → Gathers [] c → HasRead taken taken left left c (no_bytes LONGEST_LINE)
 nothing_read taken left c empty = record {
   input = [];
   takes = Appends-nil taken;
   leaves = Consumes-nil left;
   size = refl;
+  longest = refl;
   reads = record {
     more = [];
     splits = splits_none [];
@@ -159,7 +161,7 @@ short_judged line short = ap (λ t. cond t (Refused (codes "line too long")) (ju
     fits = grind (arith, nat_tests, short)
 
 -- the next line is too long
-pub too_long_further : (input rest : List ℕ) (count : ℕ) (c : SoFar) (bad : BadLine) → ReadsFurther input rest [] c count → BeginsTooLong rest → bad.text.items ≡ codes "line too long" → bad.number ≡ count + 1
+pub too_long_further : (input rest : List ℕ) (count : ℕ) (c : SoFar) (bad : BadLine) → ReadsFurther input rest [] c count → BeginsTooLong LONGEST_LINE rest → bad.text.items ≡ codes "line too long" → bad.number ≡ count + 1
     → (more : List ℕ) → points_of (input ++ more) ≡ Err (bad.number, bad.text.items)
 too_long_further input rest count c bad f long text number more =
     let b = long more in
@@ -171,7 +173,7 @@ too_long_further input rest count c bad f long text number more =
 taken_further : (input rest bytes : List ℕ) (count : ℕ) (c : SoFar) → ReadsFurther input rest [] c count → ReadsFurther (input ++ bytes) (rest ++ bytes) [] c count
 taken_further input rest bytes count c f = record { more = f.more; splits = splits_with input rest bytes f.more f.splits; reads = f.reads; count_is = f.count_is }
 
-pub unrefused : (input rest : List ℕ) (count : ℕ) (c : SoFar) → ReadsFurther input rest [] c count → IsFront rest → IsUnrefused input
+pub unrefused : (input rest : List ℕ) (count : ℕ) (c : SoFar) → ReadsFurther input rest [] c count → IsFront LONGEST_LINE rest → IsUnrefused input
 unrefused input rest count c f front = record { lines = f.more; rest = rest; splits = f.splits; read = (f.reads.points, ap (points_from 1 no_names) (sym (append-nil f.more)) ∙ f.reads.first 1 [] ∙ ap Ok (append-nil f.reads.points)); front = front }
 
 pub record AllRead (input : List ℕ) (c : SoFar) : Type 0 where
@@ -179,7 +181,7 @@ pub record AllRead (input : List ℕ) (c : SoFar) : Type 0 where
   pub is : points_of input ≡ Ok points
   pub gathers : Gathers points c
 
-pub all_read : (input rest : List ℕ) (count : ℕ) (c d : SoFar) → ReadsFurther input rest [] c count → IsFront rest → ReadsLine (last_line rest) (count + 1) c d None → AllRead input d
+pub all_read : (input rest : List ℕ) (count : ℕ) (c d : SoFar) → ReadsFurther input rest [] c count → IsFront LONGEST_LINE rest → ReadsLine (last_line rest) (count + 1) c d None → AllRead input d
 all_read input rest count c d f front one =
     let all = one f.more f.reads in
     record {
@@ -188,7 +190,7 @@ all_read input rest count c d f front one =
       gathers = all.gathers;
     }
 
-pub last_refused : (input rest : List ℕ) (count : ℕ) (c d : SoFar) (bad : BadLine) → ReadsFurther input rest [] c count → IsFront rest → ReadsLine (last_line rest) (count + 1) c d (Some bad)
+pub last_refused : (input rest : List ℕ) (count : ℕ) (c d : SoFar) (bad : BadLine) → ReadsFurther input rest [] c count → IsFront LONGEST_LINE rest → ReadsLine (last_line rest) (count + 1) c d (Some bad)
     → points_of input ≡ Err (bad.number, bad.text.items)
 last_refused input rest count c d bad f front b =
     let count_is = f.count_is in
@@ -203,6 +205,7 @@ module _ (taken taken' taken'' left left' left'' : Option (List ℕ)) (c : SoFar
     takes = Appends-trans taken taken' taken'' h.input n.more h.takes n.takes;
     leaves = Consumes-trans left left' left'' h.input n.more h.leaves n.leaves;
     size = (let grown = length-append h.input n.more in let was = h.size in omega (arith, grown, was));
+    longest = h.longest;
     reads = taken_further h.input old.bytes n.more old.lines c h.reads;
   }
 
@@ -215,9 +218,9 @@ module _ (taken taken' taken'' left left' left'' : Option (List ℕ)) (c : SoFar
   )
 
 -- a line was read
-pub line_read : (taken taken' left left' : Option (List ℕ)) (c d : SoFar) (r : Reading) (end : ℕ) → HasRead taken taken' left left' c r → BeginsWithLine r.bytes end → ReadsLine (whole_line (take end r.bytes)) (r.lines + 1) c d None
+pub line_read : (taken taken' left left' : Option (List ℕ)) (c d : SoFar) (r : Reading) (end : ℕ) → HasRead taken taken' left left' c r → BeginsWithLine r.longest r.bytes end → ReadsLine (whole_line (take end r.bytes)) (r.lines + 1) c d None
     → HasRead taken taken' left left' d (without_line r end)
-line_read taken taken' left left' c d r end h t one = record { input = h.input; takes = h.takes; leaves = h.leaves; size = h.size; reads = read_on h.input r.bytes end [] c d r.lines t h.reads one }
+line_read taken taken' left left' c d r end h t one = record { input = h.input; takes = h.takes; leaves = h.leaves; size = h.size; longest = h.longest; reads = read_on h.input r.bytes end [] c d r.lines (subst (λ (n : ℕ). BeginsWithLine n r.bytes end) h.longest t) h.reads one }
 
 -- ---- what became of the text of a line that isn't too long
 pub line_blank : (line : Line) (number : ℕ) (old new : SoFar) → length line.bytes ≤ LONGEST_LINE → AddsText old (judged_text (text_of line)) outcome.Blank new → ReadsLine line number old new None

@@ -4,6 +4,7 @@ use Rattle.std.specs.Io.KnownBytes.{Appends, Consumes, IsAtEnd}
 use Rattle.tsd_base.specs.Points.{DataPoint}
 use Rattle.tsd_run.specs.declared.run_fault.RunFault.{RunFault}
 use Rattle.tsd_run.specs.declared.run_fault.RunFault.TheVariants.{Failed, Full, OutOfMemory, Stopped}
+use Rattle.line_stream.specs.declared.line.TheConstants.{LONGEST_LINE}
 use Rattle.line_stream.specs.Lines.{Line, Splits}
 use Rattle.line_stream.specs.Reads.{IsFront}
 use Rattle.batch_job.specs.PendingIds.{Names}
@@ -46,7 +47,7 @@ pub record IsUnrefused (input : List ℕ) : Type 0 where
   pub rest : List ℕ
   pub splits : Splits input lines rest
   pub read : (points : List DataPoint) × (points_from 1 no_names lines ≡ Ok points)
-  pub front : IsFront rest
+  pub front : IsFront LONGEST_LINE rest
 
 -- the points of an input, as far as it is known: all of it, or whatever comes
 abbrev pub IsPointsOf : List ℕ → Bool → Result (List DataPoint) (ℕ × List ℕ) → Type 0

@@ -11,7 +11,7 @@ use crate::run_fault::RunFault;
 use batch_job::pending::Gathered;
 use batch_job::point_line::LineOutcome;
 use cell_model::Rows;
-use line_stream::line::text_of;
+use line_stream::line::{LONGEST_LINE, text_of};
 use line_stream::reader::{LineReader, NextLine};
 use std::alloc::{AllocError, Global};
 use tsd_base::kinds::Kind;
@@ -42,7 +42,7 @@ pub fn read_points<S: Source, R: Rows + Drop>(
     ensures grows { R.stops store.old ≤ R.stops store.new }
     ensures cause { IfErr result (RunCause (S.faults source.old) (S.faults source.new) (R.stops store.old) (R.stops store.new)) }
 {
-    let mut reader = LineReader::make(alloc)?;
+    let mut reader = LineReader::make(alloc, LONGEST_LINE)?;
     loop {
         match reader.next_line(source)? {
             NextLine::Whole { end } => {

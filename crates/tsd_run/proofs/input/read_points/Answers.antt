@@ -1,6 +1,7 @@
-use Rattle.std.proofs.Common.{List, ℕ, ◌+◌, ◌∙◌, arith, subst, take}
+use Rattle.std.proofs.Common.{List, ℕ, ◌+◌, ◌∙◌, arith, refl, subst, take}
 use Rattle.std.specs.Prelude.{IfOk, Ok, Option}
 use Rattle.std.proofs.lemmas.Result.{err_from_is_err_and}
+use Rattle.line_stream.specs.declared.line.TheConstants.{LONGEST_LINE}
 use Rattle.line_stream.specs.Lines.{last_line, whole_line}
 use Rattle.line_stream.specs.Reads.{NextLineIs, no_bytes}
 use Rattle.line_stream.specs.declared.reader.NextLine.{NextLine}
@@ -17,13 +18,13 @@ returns-in_err-reader-clause-reads g c =
     let s = g.S.Source in
     let start = nothing_read (s.taken c.args.source.now) (s.left c.args.source.now) (so_far (g.R.Rows.seen c.args.store.now) c.args.gathered.now) c.requires.empty in
     let p = err_from_is_err_and c.from_residual.result c.from_residual.ensures.1 in
-    rw (p.1, p.2) (out_of_memory _ _ _ _ (so_far (g.R.Rows.seen c.args.store.now) c.args.gathered.now) no_bytes start (omega arith) (so_far (g.R.Rows.seen c.args.store.now) c.args.gathered.now))
+    rw (p.1, p.2) (out_of_memory _ _ _ _ (so_far (g.R.Rows.seen c.args.store.now) c.args.gathered.now) (no_bytes LONGEST_LINE) start (omega arith) (so_far (g.R.Rows.seen c.args.store.now) c.args.gathered.now))
 
 pub loop-reader-init : goal.loop-reader-init
 loop-reader-init g c =
     let s = g.S.Source in
     let start = nothing_read (s.taken c.args.source.now) (s.left c.args.source.now) (so_far (g.R.Rows.seen c.args.store.now) c.args.gathered.now) c.requires.empty in
-    rw c.in_ok-reader.ensures (record { read = start; most = omega arith; later = omega arith; grows = omega arith })
+    rw c.in_ok-reader.ensures (record { read = start; longest = refl; most = omega arith; later = omega arith; grows = omega arith })
 
 pub returns-in_err-end-clause-reads : goal.returns-in_err-end-clause-reads
 returns-in_err-end-clause-reads g c =
@@ -63,7 +64,7 @@ loop-reader-preserved g c =
     let now = c.next_line.ensures.later in
     let were = c.loop-reader.invariant.grows in
     let are = c.in_ok-bad-in-Whole.ensures.grows in
-    rw c.skip_line.ensures (record { read = read; most = most; later = omega (arith, was, now); grows = omega (arith, were, are) })
+    rw c.skip_line.ensures (record { read = read; longest = f.0.longest; most = most; later = omega (arith, was, now); grows = omega (arith, were, are) })
 
 pub returns-in-Last-clause-reads : goal.returns-in-Last-clause-reads
 returns-in-Last-clause-reads g c =

@@ -1,4 +1,5 @@
-use Rattle.std.proofs.Common.{◌+◌, ◌-◌, ◌^◌, ◌≤◌, length}
+use Rattle.std.proofs.Common.{◌≡◌, ◌+◌, ◌-◌, ◌^◌, ◌≤◌, length}
+use Rattle.line_stream.specs.declared.line.TheConstants.{LONGEST_LINE}
 use Rattle.batch_job.specs.Pending.{so_far}
 use Rattle.tsd_run.proofs.InputLemmas.{HasRead}
 use Rattle.tsd_run.proofs.input.read_points.Given as goal
@@ -8,6 +9,7 @@ invariant-loop-reader g l =
     let s = g.S.Source in
     record {
       read : HasRead (s.taken l.fn.source) (s.taken l.source) (s.left l.fn.source) (s.left l.source) (so_far (g.R.Rows.seen l.store) l.gathered) l.reader;
+      longest : l.reader.longest ≡ LONGEST_LINE;
       most : l.reader.taken ≤ 2 ^ 40;
       later : s.faults l.fn.source ≤ s.faults l.source;
       grows : g.R.Rows.stops l.fn.store ≤ g.R.Rows.stops l.store;

@@ -1,0 +1,6 @@
+pub mod CallerLemmas
+mod Parts
+mod Printed
+mod PrintedWords
+mod ListedParts
+mod ListingTurns

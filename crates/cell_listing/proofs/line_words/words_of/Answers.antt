@@ -1,0 +1,15 @@
+use Rattle.std.proofs.Common.{List, ℕ, ◌∙◌, ap, sym}
+use Rattle.std.specs.Option.{option_map}
+use Rattle.cell_listing.specs.Grammar.{four_of}
+use Rattle.cell_listing.proofs.Parts.{parts_last, parts_more}
+use Rattle.cell_listing.proofs.line_words.words_of.Goals as goal
+
+pub returns-in-Some : goal.returns-in-Some
+returns-in-Some c =
+    let parts = parts_more 32 c.args.line.now c.cut.result.0.now (option_map (λ r. r.now) c.cut.result.1) c.cut.ensures.before c.cut.ensures.behind c.in-Some.rest.now (ap (option_map (λ r. r.now)) c.in-Some.is) in
+    c.words_from.ensures ∙ sym (ap (λ (ps : List (List ℕ)). four_of (ps)) parts)
+
+pub returns-in-None : goal.returns-in-None
+returns-in-None c =
+    let parts = parts_last 32 c.args.line.now c.cut.result.0.now (option_map (λ r. r.now) c.cut.result.1) c.cut.ensures.before c.cut.ensures.behind (ap (option_map (λ r. r.now)) c.in-None.is) in
+    sym (ap (λ (ps : List (List ℕ)). four_of (ps)) parts)

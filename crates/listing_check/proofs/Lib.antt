@@ -1,0 +1,9 @@
+pub mod CallerLemmas
+mod Spelled
+mod Standing
+mod Searches
+mod Tells
+mod OneDot
+mod SoundCells
+mod Faultless
+mod LineTurns

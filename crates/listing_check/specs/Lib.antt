@@ -1,0 +1,4 @@
+pub mod UidCells
+pub mod Flaws
+pub mod Faults
+pub mod Laws
