@@ -83,7 +83,7 @@ module _ (w : Widths) (cells : List ListLine) where
       let rest = faultless (n + 1) (Some (place_of_line c)) own tail (λ l i. ap is_lt (pairs_in Before c l own up i)) (λ l i. free l (there c l own i)) in
       (None, subst (λ b. LineFlaw w cells c b None) (sym first) (free c (here c own)), ([], refl, subst (λ b. FaultsFrom w cells (n + 1) (last_after b last (place_of_line c)) (map (λ c. Cell c) own) []) (sym first) rest))
 
-counted_all : (last : Option Place) (own : List ListLine) → LinesRise own → ((l : ListLine) → Contains own l → is_above last (place_of_line l) ≡ true) → counted last (map (λ c. Cell c) own) ≡ own
+pub counted_all : (last : Option Place) (own : List ListLine) → LinesRise own → ((l : ListLine) → Contains own l → is_above last (place_of_line l) ≡ true) → counted last (map (λ c. Cell c) own) ≡ own
 counted_all last [] up above = refl
 counted_all last (c ∷ own) up above =
     let rest = counted_all (Some (place_of_line c)) own (pairs_tail Before c own up) (λ l i. ap is_lt (pairs_in Before c l own up i)) in

@@ -7,3 +7,9 @@ mod OneDot
 mod SoundCells
 mod Faultless
 mod LineTurns
+mod OffsetTurns
+mod OneFlaw
+mod RowTurns
+mod NoteTurns
+mod SoundReports
+mod ReportTurns

@@ -51,7 +51,7 @@ fn qualifier(kind: Kind) -> &'static [u8]
 }
 
 /// The kind with this qualifier.
-fn kind_named(qual: &[u8]) -> Option<Kind>
+pub(crate) fn kind_named(qual: &[u8]) -> Option<Kind>
     ensures { result ≡ kind_named qual.now }
 {
     if qual == b"metrics".as_slice() {
@@ -79,7 +79,7 @@ fn are_name_bytes(bytes: &[u8]) -> bool
 }
 
 /// Whether these are the bytes of a name.
-fn is_name(bytes: &[u8]) -> bool
+pub(crate) fn is_name(bytes: &[u8]) -> bool
     ensures { result ≡ is_name bytes.now }
 {
     1 <= bytes.len() && bytes.len() <= 255 && are_name_bytes(bytes)
@@ -105,7 +105,7 @@ fn is_spelled(widths: Widths, kind: Kind, id: u32, value: &[u8]) -> bool
 }
 
 /// The id of a kind whose bytes these are.
-fn id_spelled(widths: Widths, kind: Kind, value: &[u8]) -> Option<u32>
+pub(crate) fn id_spelled(widths: Widths, kind: Kind, value: &[u8]) -> Option<u32>
     ensures { result ≡ id_spelled widths kind value.now }
 {
     let id = number_in(value)?;
@@ -161,7 +161,7 @@ fn has_name(widths: Widths, cells: &[ListLine], kind: Kind, id: u32, name: &[u8]
 }
 
 /// Whether the name has this id.
-fn has_id(widths: Widths, cells: &[ListLine], kind: Kind, name: &[u8], id: u32) -> bool
+pub(crate) fn has_id(widths: Widths, cells: &[ListLine], kind: Kind, name: &[u8], id: u32) -> bool
     requires { LinesRise cells.now }
     ensures { result ≡ has_id widths cells.now kind name.now id }
 {

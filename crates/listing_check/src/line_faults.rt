@@ -1,15 +1,16 @@
-//! The faults of the lines of a listing.
+//! The faults and the notes of the lines of a listing.
 ghost use Rattle.std.specs.Prelude.{◌≡◌, ◌+◌, ◌^◌, ◌≤◌, ◌<◌, ◌++◌, [], List, length, None, IfOk, OnOk};
 ghost use Rattle.std.specs.List.{slice_get};
 ghost use Rattle.cell_model.specs.Listed.{store_of};
 ghost use Rattle.cell_model.specs.Rising.{LinesRise};
 ghost use Rattle.cell_model.specs.Sound.{IsBase};
-ghost use Rattle.cell_listing.specs.ListedLines.{AreParts, counted_in, lines_of_cells, others_in};
-ghost use Rattle.cell_listing.specs.declared.listing_line.LineRead.{LineRead};
-ghost use Rattle.listing_check.specs.Faults.{AreFaults, FaultsFrom, is_next};
+ghost use Rattle.cell_listing.specs.ListedLines.{AreParts, ListingRead, counted_in, lines_of_cells, others_in};
+ghost use Rattle.listing_check.specs.Faults.{AreFaults, is_next};
+ghost use Rattle.listing_check.specs.Reports.{IsReport};
 
-use crate::cell_flaws::{flaw_of, tell};
-use crate::report::Flaw;
+use crate::cell_notes::tell_cell;
+use crate::report::{Flaw, Report};
+use crate::row_values::RowValues;
 use cell_listing::{Listed, OtherLine};
 use cell_model::{ListLine, Listing};
 use row_key::Widths;
@@ -25,25 +26,20 @@ fn is_next(others: &[OtherLine], next: usize, number: u64) -> bool
     }
 }
 
-/// The faults of a listing, each with the number of its line, from 1. It fails only for want of memory.
-pub fn find_faults(alloc: Global, listed: &Listed) -> Result<Vec<(u64, Flaw)>, AllocError>
-    ensures { IfOk result (λ faults. AreFaults listed.now faults.items) }
-{
-    faults_among(alloc, listed.widths(), listed.cells(), listed.others())
-}
-
-/// The faults of lines, of which these cells count and the others are these.
-fn faults_among(
+/// The faults and the notes of lines, of which these cells count and the others are these. It fails only for want of memory.
+pub(crate) fn told_among(
     alloc: Global,
     widths: Widths,
     cells: &[ListLine],
     others: &[OtherLine],
-) -> Result<Vec<(u64, Flaw)>, AllocError>
+) -> Result<Report, AllocError>
     requires rising { LinesRise cells.now }
     requires parts { AreParts cells.now others.now }
-    ensures { IfOk result (λ faults. (lines : List LineRead) → cells.now ≡ counted_in lines → others.now ≡ others_in lines → FaultsFrom widths cells.now 1 None lines faults.items) }
+    ensures { IfOk result (λ report. (read : ListingRead) → widths ≡ read.widths → cells.now ≡ counted_in read.lines → others.now ≡ others_in read.lines → IsReport read report) }
 {
     let mut faults = Vec::new(alloc);
+    let mut notes = Vec::new(alloc);
+    let mut values = RowValues::none(alloc);
     let mut next = 0;
     for done in 0..cells.len() + others.len() {
         let number = done as u64 + 1;
@@ -51,11 +47,19 @@ fn faults_among(
             faults.push((number, Flaw::BadLine))?;
             next += 1;
         } else {
-            let flaw = flaw_of(alloc, widths, cells, &cells[done - next])?;
-            tell(&mut faults, number, flaw)?;
+            tell_cell(
+                alloc,
+                widths,
+                cells,
+                done - next,
+                number,
+                &mut values,
+                &mut faults,
+                &mut notes,
+            )?;
         }
     }
-    Ok(faults)
+    Ok(Report { faults, notes })
 }
 
 /// The listing of lines without a fault, which are moved.

@@ -30,6 +30,13 @@ pub enum Hint {
     Clash,
 }
 
+/// What was found in a listing: each fault and each note with the number of its line, in order of lines.
+#[derive(Drop)]
+pub struct Report {
+    pub faults: Vec<(u64, Flaw)>,
+    pub notes: Vec<(u64, Hint)>,
+}
+
 impl Flaw {
     /// The flaw's text.
     pub fn text(self) -> &'static [u8]
