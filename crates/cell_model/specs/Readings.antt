@@ -1,5 +1,5 @@
 -- Readings: what the cells of a row say, what stands, and what was accepted.
-use Rattle.std.specs.Prelude.{◌≡◌, ◌⊎◌, ℕ, ℤ, ◌+◌, ◌*◌, List, Contains, Option, Some}
+use Rattle.std.specs.Prelude.{◌≡◌, ◌⊎◌, ℕ, ℤ, ◌+◌, ◌*◌, Bool, true, false, List, ◌++◌, Contains, Option, Some}
 use Rattle.tsd_base.specs.declared.kinds.Kind.{Kind}
 use Rattle.tsd_base.specs.declared.kinds.Kind.TheVariants.{Metric, TagKey, TagValue}
 use Rattle.tsd_base.specs.TagList.{Pair, RiseByKey}
@@ -82,6 +82,11 @@ pub record HasReading (names : Kind → ℕ → Option (List ℕ)) (s : Store) (
 -- the reading stands after the history
 abbrev pub IsStanding : History → Reading → Type 0
 IsStanding h r = HasReading (name_of h) (store_after h) r
+
+-- the step that stores a point in this row: with appends it adds the qualifier and then the value to the row's column, else it puts them as a cell
+abbrev pub store_step : Bool → DataPoint → Row → List ℕ → List ℕ → Step
+store_step true point row qual value = AppendPoint point row (qual ++ value)
+store_step false point row qual value = PutPoint point row qual value
 
 -- the step puts or appends a point of this reading
 abbrev pub IsPut : Step → Reading → Type 0

@@ -24,13 +24,14 @@ use Rattle.cell_model.specs.Layout.{IsLayout}
 use Rattle.row_key.specs.declared.tables.Table.{Table}
 use Rattle.cell_model.specs.declared.events.Step.{Step}
 use Rattle.cell_model.specs.declared.events.Step.TheVariants.{NextRow, PutPoint, AppendPoint}
+use Rattle.cell_model.specs.Readings.{store_step}
 use Rattle.cell_solo.specs.declared.turns.Head.{Head}
 use Rattle.cell_solo.specs.declared.turns.Head.TheVariants as head
 use Rattle.cell_solo.specs.declared.turns.Dropped.{Dropped}
 use Rattle.cell_solo.specs.Turns.{Turn}
 use Rattle.cell_solo.specs.declared.turn_bytes.CellLengths.{CellLengths}
 use Rattle.cell_solo.specs.TurnPlaces.{NamedRow, named_row_of, HasAlso, IsOnlyOfRow}
-use Rattle.cell_solo.specs.PackedTurns.{row_in, qual_in, value_in, number_in, store_step, put_at, cell_size, caller_of, step_in, size_of, drops_of, places_of, unpacked, IsPutAmong, IsOnlyPut, Fills}
+use Rattle.cell_solo.specs.PackedTurns.{row_in, qual_in, value_in, number_in, put_at, cell_size, caller_of, step_in, size_of, drops_of, places_of, unpacked, IsPutAmong, IsOnlyPut, Fills}
 use Rattle.cell_solo.proofs.Placing.{slice_get-append_left, slice_get-push, got_push}
 
 none : {A : Type 0} (xs : List A) → 0 ≡ length xs → xs ≡ []

@@ -18,10 +18,11 @@ use Rattle.cell_laws.proofs.CallerLemmas.{Begins, PutReads, known_is_allowed, la
 use Rattle.cell_model.specs.Store.{Store}
 use Rattle.cell_model.specs.Listed.{store_of}
 use Rattle.cell_model.specs.Seen.{Knows}
+use Rattle.cell_model.specs.Readings.{store_step}
 use Rattle.cell_solo.proofs.Plays.{fits_whole}
 use Rattle.cell_solo.specs.Turns.{Turn, entry_of, played, Play, IsPlayed, history_of, sight}
 use Rattle.cell_solo.specs.TurnPlaces.{named_row_of}
-use Rattle.cell_solo.specs.PackedTurns.{IsOnlyPut, store_step}
+use Rattle.cell_solo.specs.PackedTurns.{IsOnlyPut}
 
 -- a row is of one series and one hour
 named_once : (h : History) (row : Row) (p q : DataPoint) (qual value qual' value' : List ℕ) → PutReads h p row qual value → PutReads h q row qual' value' → named_row_of p row ≡ named_row_of q row

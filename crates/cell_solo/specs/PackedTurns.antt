@@ -8,7 +8,8 @@ use Rattle.qual_codec.specs.CellDots.{width_of}
 use Rattle.tsd_base.specs.Points.{DataPoint}
 use Rattle.cell_model.specs.declared.row.Row.{Row}
 use Rattle.cell_model.specs.declared.events.Step.{Step}
-use Rattle.cell_model.specs.declared.events.Step.TheVariants.{Open, Read, NextRow, Bump, Claim, PutPoint, AppendPoint, PutMerged, DropCells}
+use Rattle.cell_model.specs.declared.events.Step.TheVariants.{Open, Read, NextRow, Bump, Claim, PutMerged, DropCells}
+use Rattle.cell_model.specs.Readings.{store_step}
 use Rattle.cell_solo.specs.declared.turn_bytes.CellLengths.{CellLengths}
 use Rattle.cell_solo.specs.declared.turns.Head.{Head}
 use Rattle.cell_solo.specs.declared.turns.Head.TheVariants as head
@@ -46,11 +47,6 @@ number_in bytes = cast_signed (width_of (length bytes)) (from_be_bytes (width_of
 -- a point of the names at a place, at this millisecond of the hour there, with the value that these bytes are
 abbrev pub point_at : Bool → ℕ → List ℕ → NamedRow → DataPoint
 point_at fine offset bytes place = record { metric = place.metric; tags = place.tags; time = place.hour * HOUR_MILLIS + offset; fine = fine; value = number_in bytes }
-
--- the point is put with this qualifier and value, or appended with the piece that these are together
-abbrev pub store_step : Bool → DataPoint → Row → List ℕ → List ℕ → Step
-store_step true point row qual value = AppendPoint point row (qual ++ value)
-store_step false point row qual value = PutPoint point row qual value
 
 -- a put or an append at a place, of the value that these bytes are; its qualifier is one item
 abbrev pub put_at : Bool → Bool → ℕ → List ℕ → Option NamedRow → Step

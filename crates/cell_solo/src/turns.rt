@@ -5,7 +5,8 @@ ghost use Rattle.cell_model.specs.declared.events.Step.TheVariants.{Open, Read, 
 ghost use Rattle.qual_codec.specs.Items.{item_bytes};
 ghost use Rattle.qual_codec.specs.Spelling.{IsShortest};
 ghost use Rattle.cell_solo.specs.declared.turns.Head.{Head};
-ghost use Rattle.cell_solo.specs.PackedTurns.{IsOnlyPut, caller_of, store_step};
+ghost use Rattle.cell_solo.specs.PackedTurns.{IsOnlyPut, caller_of};
+ghost use Rattle.cell_model.specs.Readings.{store_step};
 ghost use Rattle.cell_solo.specs.TurnPlaces.{named_row_of};
 ghost use Rattle.cell_solo.specs.Turns.{Turn};
 

@@ -2,8 +2,7 @@
 use Rattle.std.proofs.Common.{ℕ, Bool, true, false, List, refl}
 use Rattle.tsd_base.specs.Points.{DataPoint}
 use Rattle.cell_model.specs.declared.row.Row.{Row}
-use Rattle.cell_model.specs.Readings.{IsPut, reading_of}
-use Rattle.point_put.specs.PutPoint.{store_step}
+use Rattle.cell_model.specs.Readings.{IsPut, reading_of, store_step}
 -- names for which nothing was made
 pub use Rattle.point_put.proofs.Asking.{none_for}
 

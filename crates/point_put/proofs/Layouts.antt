@@ -27,7 +27,7 @@ use Rattle.cell_model.specs.History.{first}
 use Rattle.cell_model.specs.IdRows.{name_row, id_of}
 use Rattle.cell_model.specs.Layout.{HasKey, names_of}
 use Rattle.cell_model.specs.Lawful.{PointBasis}
-use Rattle.cell_model.specs.Readings.{point_row}
+use Rattle.cell_model.specs.Readings.{point_row, store_step}
 use Rattle.cell_model.specs.Seen.{Seen, Waited, Stepped, IsPossible, Knows, KnowsCell}
 use Rattle.cell_model.specs.Deeds.{Made}
 use Rattle.uid_table.specs.Shown.{HasShown}
@@ -35,7 +35,7 @@ use Rattle.point_put.specs.declared.fault.PutFault.{PutFault}
 use Rattle.point_put.specs.declared.fault.PutFault.TheVariants.{OutOfMemory}
 use Rattle.point_put.specs.PutFaults.{put_fault}
 use Rattle.point_put.specs.ShownIds.{AllShown, KeyShown}
-use Rattle.point_put.specs.PutPoint.{StoreMade, store_step}
+use Rattle.point_put.specs.PutPoint.{StoreMade}
 use Rattle.point_put.specs.StoredTexts.{answer_at}
 use Rattle.qual_codec.proofs.CallerLemmas.{coarse, fine_number}
 use Rattle.cell_laws.proofs.CallerLemmas.{first_lawful, first_fits, seen_carry, wait_made, step_made, itself}

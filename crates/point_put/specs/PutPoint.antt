@@ -1,10 +1,8 @@
 -- What a put is answered, by the entries that its caller makes for it.
-use Rattle.std.specs.Prelude.{◌≡◌, ℕ, Bool, true, false, List, [], ◌∷◌, ◌++◌, Some, Result, Ok, Err}
+use Rattle.std.specs.Prelude.{◌≡◌, ℕ, Bool, List, [], ◌∷◌, ◌++◌, Some, Result, Ok, Err}
 use Rattle.tsd_base.specs.Points.{DataPoint}
 use Rattle.cell_model.specs.declared.answers.Stored.{Stored}
 use Rattle.cell_model.specs.declared.row.Row.{Row}
-use Rattle.cell_model.specs.declared.events.Step.{Step}
-use Rattle.cell_model.specs.declared.events.Step.TheVariants.{PutPoint, AppendPoint}
 use Rattle.cell_model.specs.declared.events.Reply.TheVariants.{Written}
 use Rattle.cell_model.specs.declared.events.Placed.{Placed}
 use Rattle.cell_model.specs.Layout.{names_of, base_time}
@@ -13,16 +11,12 @@ use Rattle.cell_model.specs.History.{History, first, store_after}
 use Rattle.cell_model.specs.IdRows.{id_of, AllResolved}
 use Rattle.cell_model.specs.Seen.{Seen, InEach}
 use Rattle.cell_model.specs.Deeds.{Made}
+use Rattle.cell_model.specs.Readings.{store_step}
 use Rattle.uid_table.specs.IdSteps.{Did}
 use Rattle.point_put.specs.declared.fault.PutFault.{PutFault}
 use Rattle.point_put.specs.declared.fault.PutFault.TheVariants.{Unknown, Filtered, Exhausted, OutOfMemory, Stopped}
 use Rattle.point_put.specs.Admissions.{Admission}
 use Rattle.point_put.specs.Entries.{ForNames, WasUnknown, WasFiltered, WasExhausted, Before}
-
--- the step that stores a point in this row: with appends it adds the qualifier and then the value to the row's column, else it puts them as a cell
-abbrev pub store_step : Bool → DataPoint → Row → List ℕ → List ℕ → Step
-store_step true point row qual value = AppendPoint point row (qual ++ value)
-store_step false point row qual value = PutPoint point row qual value
 
 -- the entry puts the point in this row, or with appends it appends it there, in the layout with the ids that its names have after the history
 pub record DidStore (appends : Bool) (h : History) (point : DataPoint) (row : Row) (d : Placed) : Type 0 where

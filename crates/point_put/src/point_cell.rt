@@ -54,6 +54,19 @@ pub fn piece_of(qual: &[u8], value: &[u8]) -> Bytes
     requires { length qual.now + length value.now ≤ 12 }
     ensures { result ≡ qual.now ++ value.now }
 {
+    match (qual, value) {
+        (&[a, b], &[c]) => Bytes::short(&[a, b, c]),
+        (&[a, b], &[c, d]) => Bytes::short(&[a, b, c, d]),
+        (&[a, b], &[c, d, e, f]) => Bytes::short(&[a, b, c, d, e, f]),
+        _ => joined(qual, value),
+    }
+}
+
+/// The first bytes and behind them the others, of any lengths.
+fn joined(qual: &[u8], value: &[u8]) -> Bytes
+    requires { length qual.now + length value.now ≤ 12 }
+    ensures { result ≡ qual.now ++ value.now }
+{
     let mut bytes = ArrayVec::new();
     add(&mut bytes, qual);
     add(&mut bytes, value);

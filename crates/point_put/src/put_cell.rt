@@ -9,7 +9,8 @@ ghost use Rattle.cell_model.specs.Calls.{Leaves};
 ghost use Rattle.uid_table.specs.PlacedPoints.{IsPlaced};
 ghost use Rattle.point_put.specs.PutFaults.{is_stop};
 ghost use Rattle.point_put.specs.ShownIds.{AllShown, KeyShown};
-ghost use Rattle.point_put.specs.PutPoint.{StoreMade, store_step};
+ghost use Rattle.point_put.specs.PutPoint.{StoreMade};
+ghost use Rattle.cell_model.specs.Readings.{store_step};
 ghost use Rattle.point_put.specs.StoredTexts.{answer_at, place_of};
 
 use crate::config::Config;

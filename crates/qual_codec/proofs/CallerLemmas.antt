@@ -21,7 +21,7 @@ pub use Rattle.qual_codec.proofs.Bits.{coarse_high, fine_high}
 pub use Rattle.qual_codec.proofs.Progress.{even_items, long_fields}
 -- ---- the column
 -- its qualifier is no list of items, and a cell that has its dots by items has them so alone
-pub use Rattle.qual_codec.proofs.Columns.{by_items, items_no_column}
+pub use Rattle.qual_codec.proofs.Columns.{by_items, by_items_alone, items_no_column}
 -- the cell of one item is a piece; pieces stand behind pieces, and those at the front are the first ones
 pub use Rattle.qual_codec.proofs.Columns.{piece_of_cell, pieces_front, pieces_more, pieces_once}
 -- the pieces that were read so far: none yet, one more, which leaves less, and all of them

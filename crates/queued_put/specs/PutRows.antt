@@ -4,7 +4,7 @@ use Rattle.tsd_base.specs.Points.{DataPoint}
 use Rattle.cell_model.specs.declared.answers.Stored.{Stored}
 use Rattle.cell_model.specs.declared.events.Placed.{Placed}
 use Rattle.cell_model.specs.Layout.{base_time}
-use Rattle.point_put.specs.PutPoint.{store_step}
+use Rattle.cell_model.specs.Readings.{store_step}
 
 -- the row of a put or an append among these entries
 pub record IsPutRow (own : List Placed) (s : Stored) : Type 0 where

@@ -9,6 +9,7 @@ use Rattle.qual_codec.specs.declared.cells.Dot.{Dot}
 use Rattle.qual_codec.specs.declared.cells.Item.{Item}
 use Rattle.qual_codec.specs.CellDots.{HoldsDots, IsDots, column_qual, items_of}
 use Rattle.qual_codec.specs.Order.{IsAsGood, IsBelow}
+use Rattle.qual_codec.proofs.CallerLemmas.{by_items_alone}
 use Rattle.cell_model.specs.declared.row.Row.{Row}
 use Rattle.cell_model.specs.Lawful.{MergedBasis, DropBasis}
 use Rattle.cell_model.specs.Store.{same_bytes}
@@ -40,8 +41,7 @@ of_all P xs i most each d c = subst P c.2 (each c.0 d (let lt = c.1 in omega (ar
 
 -- a cell that reads and isn't the column has its data points by its items
 pub not_column : (qual value : List ℕ) (dots : List Dot) → (IsTrue false ↔ (qual ≡ column_qual)) → HoldsDots qual value dots → IsDots qual value dots
-not_column qual value dots other (inl by_items) = by_items
-not_column qual value dots other (inr column) = absurd (false≢true (other.1 column.qual_is))
+not_column qual value dots other = by_items_alone qual value dots (λ is. false≢true (other.1 is))
 
 as_good : (i : Item) → IsAsGood i i
 as_good i = record { offset = refl; better = inr (refl, omega arith) }

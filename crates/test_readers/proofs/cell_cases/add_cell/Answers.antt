@@ -1,16 +1,16 @@
-use Rattle.std.proofs.Common.{inl, inr, ℕ, List, false, subst, sym}
+use Rattle.std.proofs.Common.{ℕ, List, false, subst, sym}
 use Rattle.std.specs.Prelude.{All, IsTrue, ◌↔◌, ◌≡◌}
 use Rattle.std.proofs.lemmas.Bool.{false≢true}
 use Rattle.std.proofs.lemmas.List.Elements.{All-push}
 use Rattle.qual_codec.specs.declared.cells.Cell.{Cell}
 use Rattle.qual_codec.specs.declared.cells.Dot.{Dot}
 use Rattle.qual_codec.specs.CellDots.{HoldsDots, ReadsByItems, column_qual}
+use Rattle.qual_codec.proofs.CallerLemmas.{by_items_alone}
 use Rattle.test_readers.proofs.cell_cases.add_cell.Goals as goal
 
 -- a cell that reads and isn't the column does so by its items
 not_column : (qual value : List ℕ) (dots : List Dot) → (IsTrue false ↔ (qual ≡ column_qual)) → HoldsDots qual value dots → ReadsByItems qual value
-not_column qual value dots other (inl by_items) = (dots, by_items)
-not_column qual value dots other (inr column) = absurd (false≢true (other.1 column.qual_is))
+not_column qual value dots other reads = (dots, by_items_alone qual value dots (λ is. false≢true (other.1 is)) reads)
 
 pub returns : goal.returns
 returns c =
