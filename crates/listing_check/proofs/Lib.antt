@@ -2,7 +2,6 @@ pub mod CallerLemmas
 mod Spelled
 mod Standing
 mod Searches
-mod Tells
 mod OneDot
 mod SoundCells
 mod Faultless
@@ -10,6 +9,8 @@ mod LineTurns
 mod OffsetTurns
 mod OneFlaw
 mod RowTurns
+mod KnownRows
 mod NoteTurns
 mod SoundReports
 mod ReportTurns
+mod RisingNumbers

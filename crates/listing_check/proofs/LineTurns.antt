@@ -19,7 +19,6 @@ use Rattle.listing_check.specs.Flaws.{FlawOf}
 use Rattle.listing_check.specs.Faults.{FaultOf, FaultsFrom, is_next, told}
 use Rattle.listing_check.specs.declared.report.Flaw.{Flaw}
 use Rattle.listing_check.specs.declared.report.Flaw.TheVariants.{BadLine}
-use Rattle.listing_check.proofs.Tells.{told_behind}
 
 -- ---- lists
 
@@ -43,6 +42,10 @@ same_first x y xs ys e = some_same (ap first_of e)
   where
     some_same : {X : Type 0} {a b : X} → ◌≡◌ {A = Option X} (Some a) (Some b) → a ≡ b
     some_same e = cc
+
+told_behind : (n : ℕ) (flaw : Option Flaw) (more : List (ℕ × Flaw)) → told n flaw more ≡ told n flaw [] ++ more
+told_behind n None more = refl
+told_behind n (Some flaw) more = refl
 
 -- ---- where the lines are
 

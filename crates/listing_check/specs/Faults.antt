@@ -111,13 +111,6 @@ hint_text Clash = codes "clash"
 abbrev pub noted_line : ℕ → List ℕ → List ℕ
 noted_line n text = codes "line " ++ decimal n ++ codes ": " ++ text ++ codes "\n"
 
--- ---- cells that all count
-
--- the faults of these cells, of which the first has this number
-abbrev pub CellFaults : Widths → List ListLine → ℕ → List ListLine → List (ℕ × Flaw) → Type 0
-CellFaults w cells n [] faults = faults ≡ []
-CellFaults w cells n (c ∷ rest) faults = (flaw : Option Flaw) × FlawOf w cells c flaw × ((more : List (ℕ × Flaw)) × (faults ≡ told n flaw more) × CellFaults w cells (n + 1) rest more)
-
 -- ---- one line at a time
 
 -- the next other line has this number

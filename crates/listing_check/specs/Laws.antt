@@ -1,5 +1,5 @@
 -- The laws of faults.
-use Rattle.std.specs.Prelude.{◌≡◌, ◌↔◌, List, [], ◌∷◌, All}
+use Rattle.std.specs.Prelude.{◌≡◌, ◌↔◌, ◌<◌, ℕ, List, [], ◌∷◌, All, AllPairs}
 use Rattle.row_key.specs.declared.tables.Table.TheVariants.{Ids}
 use Rattle.cell_model.specs.KindWidths.{Widths}
 use Rattle.cell_model.specs.Store.{Store}
@@ -9,7 +9,9 @@ use Rattle.cell_model.specs.Listed.{store_of}
 use Rattle.cell_model.specs.Sound.{IsBase, IsCounter}
 use Rattle.cell_listing.specs.ListedLines.{ListingRead, lines_of_cells}
 use Rattle.listing_check.specs.Flaws.{NoFlaw}
-use Rattle.listing_check.specs.Faults.{AreFaults}
+use Rattle.listing_check.specs.Faults.{AreFaults, AreNotes}
+use Rattle.listing_check.specs.declared.report.Flaw.{Flaw}
+use Rattle.listing_check.specs.declared.report.Hint.{Hint}
 
 -- the store that these cells tell, where ids have these widths
 abbrev pub store_in : Widths → List ListLine → Store
@@ -37,3 +39,9 @@ pub record IsSoundListing (r : ListingRead) : Type 0 where
 -- a listing has no fault exactly where it is sound
 abbrev pub NoFaultIsSound : Type 0
 NoFaultIsSound = (r : ListingRead) → AreFaults r [] ↔ IsSoundListing r
+
+-- the numbers of faults rise, and so do those of notes
+abbrev pub NumbersRise : Type 0
+NumbersRise =
+    (r : ListingRead) (faults : List (ℕ × Flaw)) (notes : List (ℕ × Hint)) → AreFaults r faults → AreNotes r notes
+    → AllPairs (λ (a b : ℕ × Flaw). a.0 < b.0) faults × AllPairs (λ (a b : ℕ × Hint). a.0 < b.0) notes

@@ -3,6 +3,7 @@ pub mod Flaws
 pub mod Faults
 pub mod RowValues
 pub mod RowNotes
+pub mod RowFlaws
 pub mod ReportText
 pub mod Laws
 pub mod Reports

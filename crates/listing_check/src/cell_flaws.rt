@@ -1,5 +1,5 @@
 //! The flaws of cells among others, which rise.
-ghost use Rattle.std.specs.Prelude.{◌≡◌, ◌≤◌, ◌++◌, [], IfOk, OnOk, IsTrue, MatchOption, MatchBool, Some, None, Option};
+ghost use Rattle.std.specs.Prelude.{◌≡◌, ◌++◌, [], IfOk, OnOk, MatchOption, MatchBool, Some, None, Option};
 ghost use Rattle.std.specs.List.{list_all};
 ghost use Rattle.cell_model.specs.declared.row.Row.{Row};
 ghost use Rattle.cell_model.specs.KindWidths.{kind_bytes};
@@ -14,7 +14,9 @@ ghost use Rattle.tsd_base.specs.Alphabet.{is_name, is_name_byte};
 ghost use Rattle.listing_check.specs.UidCells.{UidCell, counter_spelled, id_spelled, kind_named, uid_in};
 ghost use Rattle.listing_check.specs.UidCells.UidCell.{Forward, Reverse};
 ghost use Rattle.listing_check.specs.Flaws.{FlawOf, PointFlaw, all_named, counter_in, has_id, has_name, is_named, pair_named, uid_flaw, value_in};
-ghost use Rattle.listing_check.specs.Faults.{CellFaults, told};
+ghost use Rattle.listing_check.specs.Faults.{told};
+ghost use Rattle.listing_check.specs.RowFlaws.{IsKnown, IsRowAt, KeyFlaw};
+ghost use Rattle.listing_check.specs.RowNotes.{IsAt};
 
 use crate::report::Flaw;
 use cell_listing::listed::order_of;
@@ -25,10 +27,22 @@ use std::alloc::{AllocError, Global};
 use tsd_base::kinds::Kind;
 
 /// The row of the counters.
-const COUNTERS: &[u8] = b"\x00";
+pub const COUNTERS: &[u8] = b"\x00";
+
+/// The flaw of a row of points, or that it has none, with the place of a cell of the row.
+#[derive(Clone, Copy)]
+pub struct RowFlaw {
+    pub at: usize,
+    pub flaw: Option<Flaw>,
+}
 
 /// The value that stands in a row at a qualifier.
-fn value_in<'a>(cells: &'a [ListLine], table: Table, row: &[u8], qual: &[u8]) -> Option<&'a [u8]>
+pub fn value_in<'a>(
+    cells: &'a [ListLine],
+    table: Table,
+    row: &[u8],
+    qual: &[u8],
+) -> Option<&'a [u8]>
     requires { LinesRise cells.now }
     ensures { let r : Row = record { table = table; bytes = row.now } in
         MatchOption result (value_in cells.now r qual.now ≡ None) (λ value. value_in cells.now r qual.now ≡ Some value.now) }
@@ -40,7 +54,7 @@ fn value_in<'a>(cells: &'a [ListLine], table: Table, row: &[u8], qual: &[u8]) ->
 }
 
 /// The qualifier of a kind.
-fn qualifier(kind: Kind) -> &'static [u8]
+pub fn qualifier(kind: Kind) -> &'static [u8]
     ensures { result.now ≡ kind_qual kind }
 {
     match kind {
@@ -51,7 +65,7 @@ fn qualifier(kind: Kind) -> &'static [u8]
 }
 
 /// The kind with this qualifier.
-pub(crate) fn kind_named(qual: &[u8]) -> Option<Kind>
+pub fn kind_named(qual: &[u8]) -> Option<Kind>
     ensures { result ≡ kind_named qual.now }
 {
     if qual == b"metrics".as_slice() {
@@ -78,8 +92,14 @@ fn are_name_bytes(bytes: &[u8]) -> bool
     bytes.iter().all(|b| is_name_byte(*b))
 }
 
+pub(crate) fn is_same(one: &[u8], other: &[u8]) -> bool
+    ensures { result ≡ same_bytes one.now other.now }
+{
+    one == other
+}
+
 /// Whether these are the bytes of a name.
-pub(crate) fn is_name(bytes: &[u8]) -> bool
+pub fn is_name(bytes: &[u8]) -> bool
     ensures { result ≡ is_name bytes.now }
 {
     1 <= bytes.len() && bytes.len() <= 255 && are_name_bytes(bytes)
@@ -105,7 +125,7 @@ fn is_spelled(widths: Widths, kind: Kind, id: u32, value: &[u8]) -> bool
 }
 
 /// The id of a kind whose bytes these are.
-pub(crate) fn id_spelled(widths: Widths, kind: Kind, value: &[u8]) -> Option<u32>
+pub fn id_spelled(widths: Widths, kind: Kind, value: &[u8]) -> Option<u32>
     ensures { result ≡ id_spelled widths kind value.now }
 {
     let id = number_in(value)?;
@@ -118,7 +138,7 @@ pub(crate) fn id_spelled(widths: Widths, kind: Kind, value: &[u8]) -> Option<u32
 }
 
 /// The counter of a kind whose eight bytes these are.
-fn counter_spelled(widths: Widths, kind: Kind, value: &[u8]) -> Option<u64>
+pub fn counter_spelled(widths: Widths, kind: Kind, value: &[u8]) -> Option<u64>
     ensures { result ≡ counter_spelled widths kind value.now }
 {
     let [a, b, c, d, e, f, g, h] = value else {
@@ -145,7 +165,7 @@ fn counter_in(widths: Widths, cells: &[ListLine], kind: Kind) -> u64
 }
 
 /// Whether the id has this name.
-fn has_name(widths: Widths, cells: &[ListLine], kind: Kind, id: u32, name: &[u8]) -> bool
+pub fn has_name(widths: Widths, cells: &[ListLine], kind: Kind, id: u32, name: &[u8]) -> bool
     requires { LinesRise cells.now }
     ensures { result ≡ has_name widths cells.now kind id name.now }
 {
@@ -337,41 +357,98 @@ fn reads(alloc: Global, qual: &[u8], value: &[u8]) -> Result<bool, AllocError>
     }
 }
 
+/// The flaw of a row of points: it is no key, or an id of it isn't named.
+fn key_flaw(widths: Widths, cells: &[ListLine], row: &[u8]) -> Option<Flaw>
+    requires { LinesRise cells.now }
+    ensures { KeyFlaw widths cells.now row.now result }
+{
+    let key = match read_key(row, widths) {
+        Ok(key) => key,
+        Err(_) => return Some(Flaw::BadKey),
+    };
+    if all_named(widths, cells, &key) {
+        None
+    } else {
+        Some(Flaw::RowNoName)
+    }
+}
+
+/// Whether a cell stands there, and has this row.
+fn is_row_at(cells: &[ListLine], at: usize, row: &[u8]) -> bool
+    ensures { MatchBool result (IsRowAt cells.now at row.now) (IsRowAt cells.now at row.now → ⊥) }
+{
+    if at >= cells.len() {
+        return false;
+    }
+    let cell = &cells[at];
+    is_same(cell.row.list(), row)
+}
+
+/// The flaw of the row of a cell of points. The cells of a row stand together, so it is judged once for all of them.
+fn row_flaw(
+    widths: Widths,
+    cells: &[ListLine],
+    at: usize,
+    cell: &ListLine,
+    known: &mut Option<RowFlaw>,
+) -> Option<Flaw>
+    requires rising { LinesRise cells.now }
+    requires is { IsAt cells.now at cell.now }
+    requires known { IsKnown widths cells.now known.old }
+    ensures flaw { KeyFlaw widths cells.now cell.now.row result }
+    ensures known { IsKnown widths cells.now known.new }
+{
+    let row = cell.row.list();
+    if let Some(last) = *known {
+        if is_row_at(cells, last.at, row) {
+            return last.flaw;
+        }
+    }
+    let flaw = key_flaw(widths, cells, row);
+    *known = Some(RowFlaw { at, flaw });
+    flaw
+}
+
 /// The first flaw of a cell of points. It fails only for want of memory.
 fn point_flaw(
     alloc: Global,
     widths: Widths,
     cells: &[ListLine],
-    row: &[u8],
-    qual: &[u8],
-    value: &[u8],
+    at: usize,
+    cell: &ListLine,
+    known: &mut Option<RowFlaw>,
 ) -> Result<Option<Flaw>, AllocError>
-    requires { LinesRise cells.now }
-    ensures { IfOk result (PointFlaw widths cells.now row.now qual.now value.now) }
+    requires rising { LinesRise cells.now }
+    requires is { IsAt cells.now at cell.now }
+    requires known { IsKnown widths cells.now known.old }
+    ensures flaw { IfOk result (PointFlaw widths cells.now cell.now.row cell.now.qual cell.now.value) }
+    ensures known { OnOk result (IsKnown widths cells.now known.new) }
 {
-    let key = match read_key(row, widths) {
-        Ok(key) => key,
-        Err(_) => return Ok(Some(Flaw::BadKey)),
-    };
-    if !all_named(widths, cells, &key) {
-        return Ok(Some(Flaw::RowNoName));
+    if let Some(flaw) = row_flaw(widths, cells, at, cell, known) {
+        return Ok(Some(flaw));
     }
-    if reads(alloc, qual, value)? {
+    if reads(alloc, cell.qual.list(), cell.value.list())? {
         Ok(None)
     } else {
         Ok(Some(Flaw::BadCell))
     }
 }
 
-/// The first flaw of a cell among others. It fails only for want of memory.
+/// The first flaw of a cell that stands among others. Of the row of points that was judged last the flaw is kept for the row's next cells;
+/// at first there is none. It fails only for want of memory.
 pub fn flaw_of(
     alloc: Global,
     widths: Widths,
     cells: &[ListLine],
+    at: usize,
     cell: &ListLine,
+    known: &mut Option<RowFlaw>,
 ) -> Result<Option<Flaw>, AllocError>
-    requires { LinesRise cells.now }
-    ensures { IfOk result (FlawOf widths cells.now cell.now) }
+    requires rising { LinesRise cells.now }
+    requires is { IsAt cells.now at cell.now }
+    requires known { IsKnown widths cells.now known.old }
+    ensures flaw { IfOk result (FlawOf widths cells.now cell.now) }
+    ensures known { OnOk result (IsKnown widths cells.now known.new) }
 {
     let row = cell.row.list();
     let qual = cell.qual.list();
@@ -379,7 +456,7 @@ pub fn flaw_of(
     match cell.table {
         Table::Ids => Ok(ids_flaw(widths, cells, row, qual, value)),
         Table::Names => Ok(names_flaw(widths, cells, row, qual, value)),
-        Table::Points => point_flaw(alloc, widths, cells, row, qual, value),
+        Table::Points => point_flaw(alloc, widths, cells, at, cell, known),
     }
 }
 
@@ -395,21 +472,4 @@ pub fn tell(
         faults.push((number, flaw))?;
     }
     Ok(())
-}
-
-/// The flaws of cells that rise, each with the number of its cell, from 1. It fails only for want of memory.
-pub fn find_flaws(
-    alloc: Global,
-    widths: Widths,
-    cells: &[ListLine],
-) -> Result<Vec<(u64, Flaw)>, AllocError>
-    requires { LinesRise cells.now }
-    ensures { IfOk result (λ faults. CellFaults widths cells.now 1 cells.now faults.items) }
-{
-    let mut faults = Vec::new(alloc);
-    for at in 0..cells.len() {
-        let flaw = flaw_of(alloc, widths, cells, &cells[at])?;
-        tell(&mut faults, at as u64 + 1, flaw)?;
-    }
-    Ok(faults)
 }

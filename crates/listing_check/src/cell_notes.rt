@@ -2,17 +2,17 @@
 ghost use Rattle.std.specs.Prelude.{◌≡◌, ◌+◌, ◌<◌, ◌≤◌, ◌++◌, [], List, length, take, IfOk, OnOk, MatchBool, None, Some, Option, if◌then◌else◌};
 ghost use Rattle.row_key.specs.declared.tables.Table.TheVariants.{Names};
 ghost use Rattle.cell_model.specs.Rising.{LinesRise};
-ghost use Rattle.cell_model.specs.Store.{same_bytes};
 ghost use Rattle.cell_model.specs.KindWidths.{Widths};
 ghost use Rattle.qual_codec.specs.CellDots.{HoldsDots};
 ghost use Rattle.qual_codec.specs.declared.cells.Dot.{Dot};
 ghost use Rattle.listing_check.specs.UidCells.{uid_in};
 ghost use Rattle.listing_check.specs.Flaws.{FlawOf};
 ghost use Rattle.listing_check.specs.RowValues.{AddsDots, Keeps};
+ghost use Rattle.listing_check.specs.RowFlaws.{IsKnown};
 ghost use Rattle.listing_check.specs.RowNotes.{AreOneRow, IsAt, IsNoted, IsRowKept, IsTold, SeenIn, is_wasted};
 ghost use Rattle.listing_check.specs.Faults.{told};
 
-use crate::cell_flaws::{flaw_of, has_id, id_spelled, is_name, kind_named, tell};
+use crate::cell_flaws::{RowFlaw, flaw_of, has_id, id_spelled, is_name, is_same, kind_named, tell};
 use crate::report::{Flaw, Hint};
 use crate::row_values::RowValues;
 use cell_model::ListLine;
@@ -43,12 +43,6 @@ fn hint_if(told: bool, hint: Hint) -> Option<Hint>
     ensures { result ≡ (if told then Some hint else None) }
 {
     if told { Some(hint) } else { None }
-}
-
-fn is_same(one: &[u8], other: &[u8]) -> bool
-    ensures { result ≡ same_bytes one.now other.now }
-{
-    one == other
 }
 
 /// Whether the cell before this one has its row.
@@ -177,6 +171,7 @@ pub fn tell_cell(
     cells: &[ListLine],
     at: usize,
     number: u64,
+    known: &mut Option<RowFlaw>,
     values: &mut RowValues,
     faults: &mut Vec<(u64, Flaw)>,
     notes: &mut Vec<(u64, Hint)>,
@@ -184,10 +179,12 @@ pub fn tell_cell(
     requires rising { LinesRise cells.now }
     requires within { at < length cells.now }
     requires seen { IsRowKept widths cells.now at values.old }
-    ensures { OnOk result (IsTold widths cells.now at number faults.old.items faults.new.items notes.old.items notes.new.items values.new) }
+    requires known { IsKnown widths cells.now known.old }
+    ensures told { OnOk result (IsTold widths cells.now at number faults.old.items faults.new.items notes.old.items notes.new.items values.new) }
+    ensures known { OnOk result (IsKnown widths cells.now known.new) }
 {
     let cell = &cells[at];
-    let flaw = flaw_of(alloc, widths, cells, cell)?;
+    let flaw = flaw_of(alloc, widths, cells, at, cell, known)?;
     tell(faults, number, flaw)?;
     let note = note_of(alloc, widths, cells, at, cell, flaw, values)?;
     tell_note(notes, number, note)?;

@@ -1,5 +1,5 @@
 //! The faults and the notes of the lines of a listing.
-ghost use Rattle.std.specs.Prelude.{◌≡◌, ◌+◌, ◌^◌, ◌≤◌, ◌<◌, ◌++◌, [], List, length, None, IfOk, OnOk};
+ghost use Rattle.std.specs.Prelude.{◌≡◌, ◌+◌, ◌<◌, [], List, None, IfOk};
 ghost use Rattle.std.specs.List.{slice_get};
 ghost use Rattle.cell_model.specs.Listed.{store_of};
 ghost use Rattle.cell_model.specs.Rising.{LinesRise};
@@ -39,6 +39,7 @@ pub(crate) fn told_among(
 {
     let mut faults = Vec::new(alloc);
     let mut notes = Vec::new(alloc);
+    let mut known = None;
     let mut values = RowValues::none(alloc);
     let mut next = 0;
     for done in 0..cells.len() + others.len() {
@@ -53,6 +54,7 @@ pub(crate) fn told_among(
                 cells,
                 done - next,
                 number,
+                &mut known,
                 &mut values,
                 &mut faults,
                 &mut notes,
@@ -66,6 +68,7 @@ pub(crate) fn told_among(
 pub fn sound_listing(listed: Listed) -> Listing
     requires { AreFaults listed [] }
     ensures lines { listed.lines ≡ lines_of_cells result.lines }
+    ensures cells { result.lines ≡ counted_in listed.lines }
     ensures widths { result.widths ≡ listed.widths }
     ensures base { IsBase (store_of result) }
 {

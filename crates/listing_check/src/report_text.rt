@@ -1,5 +1,5 @@
 //! The text of a report.
-ghost use Rattle.std.specs.Prelude.{◌≡◌, ◌+◌, ◌≤◌, ◌++◌, [], List, drop, length, IfOk, OnOk};
+ghost use Rattle.std.specs.Prelude.{◌≡◌, ◌+◌, ◌≤◌, ◌++◌, List, drop, length, IfOk, OnOk};
 ghost use Rattle.std.specs.List.{flat_map};
 ghost use Rattle.listing_check.specs.Faults.{noted_line};
 ghost use Rattle.listing_check.specs.ReportText.{AddsNotes, fault_line, note_line, report_lines, report_text, verdict};
@@ -20,8 +20,8 @@ fn push_line(text: &mut Vec<u8>, number: u64, told: &[u8]) -> Result<(), AllocEr
     Ok(())
 }
 
-/// Adds the line of a fault.
-fn push_fault(text: &mut Vec<u8>, fault: &(u64, Flaw)) -> Result<(), AllocError>
+/// Adds the line of a fault. It fails only for want of memory.
+pub fn push_fault(text: &mut Vec<u8>, fault: &(u64, Flaw)) -> Result<(), AllocError>
     ensures { OnOk result (text.new.items ≡ text.old.items ++ fault_line fault.now) }
 {
     push_line(text, fault.0, fault.1.text())

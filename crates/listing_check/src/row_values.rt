@@ -1,5 +1,5 @@
 //! The values at the offsets of a row of points.
-ghost use Rattle.std.specs.Prelude.{◌≡◌, ◌∷◌, ◌++◌, [], List, ℕ, IfOk, OnOk, Some, Option, if◌then◌else◌, nat_eq};
+ghost use Rattle.std.specs.Prelude.{◌≡◌, [], List, ℕ, IfOk, OnOk, Some, Option, if◌then◌else◌, nat_eq};
 ghost use Rattle.qual_codec.specs.declared.cells.Dot.{Dot};
 ghost use Rattle.listing_check.specs.RowValues.{AddsDot, AddsDots, Keeps, values_at};
 

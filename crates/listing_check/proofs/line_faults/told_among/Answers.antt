@@ -1,4 +1,5 @@
 use Rattle.std.proofs.Common.{arith, refl, rules, sym, ◌∙◌}
+use Rattle.listing_check.proofs.KnownRows.{none_known}
 use Rattle.listing_check.proofs.LineTurns.{all_told, cell_told, lines_count, none_told, other_told, within}
 use Rattle.listing_check.proofs.NoteTurns.{all_noted, cell_noted, kept_at, none_kept, none_noted, other_noted}
 use Rattle.listing_check.proofs.SoundReports.{report_of}
@@ -9,6 +10,7 @@ pub loop-done-init : goal.loop-done-init
 loop-done-init c = record {
   told = λ lines a b. none_told c.args.widths lines c.args.cells.now c.args.others.now _ a b (search rules);
   noted = λ lines a b. none_noted c.args.widths lines c.args.cells.now c.args.others.now _ a b (search rules);
+  known = none_known c.args.widths c.args.cells.now _ refl;
   kept = none_kept c.args.widths c.args.cells.now _ _ refl;
 }
 
@@ -21,6 +23,7 @@ tell_cell-requires c =
       rising = c.requires.rising;
       within = within c.args.widths p.lines c.args.cells.now c.args.others.now c.loop-done.done c.loop-done.next c.loop-done.faults.items c.loop-done.faults.items (c.loop-done.invariant.told p.lines p.cells_are p.others_are) (omega (arith, count, below)) (sym c.is_next.ensures ∙ c.if-is_next.false);
       seen = c.loop-done.invariant.kept;
+      known = c.loop-done.invariant.known;
     }
 
 pub loop-done-preserved : goal.loop-done-preserved
@@ -35,7 +38,7 @@ loop-done-preserved c =
             | then-is_next+in_ok-push w ↦
                 rw (w.faults-is, w.next-is) (other_told c.args.widths lines c.args.cells.now c.args.others.now c.loop-done.done c.loop-done.next c.loop-done.faults.items w.push.new.self.items (c.loop-done.invariant.told lines a b) (omega (arith, count, below)) (sym c.is_next.ensures ∙ w.if-is_next.true) w.in_ok-push.ensures.items)
             | else-is_next+in_ok-tell_cell w ↦
-                (let t = w.in_ok-tell_cell.ensures in
+                (let t = w.in_ok-tell_cell.ensures.told in
                 rw (w.faults-is, w.next-is) (cell_told c.args.widths lines c.args.cells.now c.args.others.now c.loop-done.done c.loop-done.next c.loop-done.faults.items w.tell_cell.new.faults.items (c.loop-done.invariant.told lines a b) (omega (arith, count, below)) (sym c.is_next.ensures ∙ w.if-is_next.false) t.cell t.flaw t.is.is t.flaw_is t.faults_are))
           ]);
       noted = λ lines a b.
@@ -44,12 +47,16 @@ loop-done-preserved c =
             | then-is_next+in_ok-push w ↦
                 rw (w.notes-is, w.next-is) (other_noted c.args.widths lines c.args.cells.now c.args.others.now c.loop-done.done c.loop-done.next c.loop-done.notes.items c.loop-done.notes.items (c.loop-done.invariant.noted lines a b) (omega (arith, count, below)) (sym c.is_next.ensures ∙ w.if-is_next.true) refl)
             | else-is_next+in_ok-tell_cell w ↦
-                (let t = w.in_ok-tell_cell.ensures in
+                (let t = w.in_ok-tell_cell.ensures.told in
                 rw (w.notes-is, w.next-is) (cell_noted c.args.widths lines c.args.cells.now c.args.others.now c.loop-done.done c.loop-done.next c.loop-done.notes.items w.tell_cell.new.notes.items (c.loop-done.invariant.noted lines a b) (omega (arith, count, below)) (sym c.is_next.ensures ∙ w.if-is_next.false) t.cell t.note t.is t.note_is.note_is t.notes_are))
           ]);
+      known = elim c.if-is_next.branch [
+        | then-is_next+in_ok-push w ↦ rw w.known-is c.loop-done.invariant.known
+        | else-is_next+in_ok-tell_cell w ↦ rw w.known-is w.in_ok-tell_cell.ensures.known
+      ];
       kept = elim c.if-is_next.branch [
         | then-is_next+in_ok-push w ↦ rw (w.values-is, w.next-is) (kept_at c.args.widths c.args.cells.now _ _ c.loop-done.values (omega (arith, le)) c.loop-done.invariant.kept)
-        | else-is_next+in_ok-tell_cell w ↦ rw (w.values-is, w.next-is) (kept_at c.args.widths c.args.cells.now _ _ w.tell_cell.new.values (omega (arith, le)) w.in_ok-tell_cell.ensures.note_is.kept)
+        | else-is_next+in_ok-tell_cell w ↦ rw (w.values-is, w.next-is) (kept_at c.args.widths c.args.cells.now _ _ w.tell_cell.new.values (omega (arith, le)) w.in_ok-tell_cell.ensures.told.note_is.kept)
       ];
     }
 

@@ -1,5 +1,0 @@
-use Rattle.std.specs.Prelude.{Ok}
-use Rattle.listing_check.proofs.cell_flaws.point_flaw.Goals as goal
-
-pub returns-in-Err : goal.returns-in-Err
-returns-in-Err c = λ key is. (let same = c.in-Err.ensures.alone (Ok key) is in absurd cc)

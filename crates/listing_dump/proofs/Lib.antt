@@ -1,0 +1,14 @@
+mod Apart
+mod Filters
+mod LineStores
+mod RowCells
+mod SoundLines
+mod RankTurns
+mod RankOrders
+mod RowOrders
+mod RowTurns
+mod Bests
+mod RowTexts
+mod Giving
+mod RowSteps
+mod Turns

@@ -1,0 +1,8 @@
+pub mod PointText
+pub mod Dumps
+pub mod Gifts
+pub mod NameRanks
+pub mod RowLines
+pub mod RowPlaces
+pub mod BestDots
+pub mod RowPoints

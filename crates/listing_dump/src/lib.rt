@@ -1,0 +1,9 @@
+//! The points of a store, which a listing tells, as lines of text.
+#![tactic(auto)]
+
+mod best_dots;
+pub mod dump;
+mod name_ranks;
+mod point_text;
+mod row_output;
+mod row_places;

@@ -1,0 +1,14 @@
+mod Sorting
+mod FirstCells
+mod NameFolds
+mod Mending
+mod Unmended
+mod Told
+mod GivenNames
+mod Chosen
+mod NameCells
+mod Judged
+mod FirstChange
+mod More
+mod CounterWrites
+mod Fixed

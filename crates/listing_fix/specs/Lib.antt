@@ -1,0 +1,4 @@
+pub mod Fixes
+pub mod Steps
+pub mod Sorts
+pub mod Laws

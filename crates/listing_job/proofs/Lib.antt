@@ -1,0 +1,2 @@
+mod GivenTold
+mod OneText

@@ -1,0 +1,2 @@
+pub mod ListingJobs
+pub mod Shows
