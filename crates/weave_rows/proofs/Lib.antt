@@ -1,0 +1,4 @@
+mod Histories
+mod Looming
+mod Waiting
+mod Working

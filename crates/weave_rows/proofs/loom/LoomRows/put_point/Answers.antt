@@ -1,0 +1,11 @@
+use Rattle.std.proofs.Common.{◌≡◌, ◌+◌, rules}
+use Rattle.weave_rows.proofs.Looming.{loom_steps, loom_stays}
+use Rattle.weave_rows.proofs.loom.LoomRows.put_point.Goals as goal
+
+pub invariant_of-self : goal.invariant_of-self
+invariant_of-self c =
+    let one_more : c.in-Some.accepted ≡ c.self.inside.accepted + 1 = search rules in
+    loom_steps _ _ _ _ _ _ _ 8 c.self.invariant c.in-Ok.ensures.steps one_more c.in-Ok.ensures.room
+
+pub invariant_of-self-in-Err : goal.invariant_of-self-in-Err
+invariant_of-self-in-Err c = loom_stays _ _ _ _ c.self.invariant c.in-Err.ensures.stays

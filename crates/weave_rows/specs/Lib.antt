@@ -1,0 +1,3 @@
+pub mod DaemonPlays
+pub mod Looms
+pub mod WovenHistories
