@@ -16,7 +16,7 @@ use Rattle.batch_job.specs.PendingSeries.{all_values}
 use Rattle.batch_job.specs.declared.pending_series.PendingSeries.{PendingSeries}
 use Rattle.batch_job.specs.Pending.{AddsPoint, so_far, unless_empty, values_of}
 use Rattle.batch_job.specs.PointLines.{judged_point}
-use Rattle.batch_job.specs.PointLines.Judged.{Taken}
+use Rattle.point_lines.specs.LinePoints.Judged.{Taken}
 use Rattle.batch_job.specs.SeriesValues.{Series, SeriesEntry, is_same_series, series_of_point, values_in}
 use Rattle.batch_job.specs.Storing.{Notes}
 use Rattle.batch_job.specs.declared.point_line.LineOutcome.TheVariants as outcome

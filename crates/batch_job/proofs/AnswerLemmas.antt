@@ -1,4 +1,5 @@
 -- The answer of a query over stored points.
+use Rattle.row_key.specs.Made.{three}
 use Rattle.std.proofs.Common.{◌≡◌, ◌⊎◌, inl, inr, ⊎_elim, ℕ, ℤ, zero, suc, ◌-◌, Bool, true, false, List, [], ◌∷◌, ◌++◌, length, refl, sym, ap, subst, ◌∙◌, arith, append-nil}
 use Rattle.std.specs.Prelude.{◌≢◌, ◌&&◌, if◌then◌else◌, Option, None, Some, Result, Ok, Err, IsTrue, Contains, find, is_some, map, nat_le, not, option_and_then, option_map, slice_index_or}
 use Rattle.std.specs.List.{flat_map, list_any}
@@ -30,14 +31,14 @@ use Rattle.query_run.specs.Laws.{AnswerIsUnordered}
 use Rattle.query_run.specs.Parts.{AllResolved, AreQuerySteps, FoundNone, NameOf, Part, PartStands}
 use Rattle.query_run.specs.AskedQueries.{IsFew, QuerySays, answer_over, barred, names_in, wanted}
 use Rattle.batch_job.specs.Conflicts.{Conflict, conflicts, first_conflict, is_first}
-use Rattle.batch_job.specs.PendingIds.{id_in}
+use Rattle.point_lines.specs.NameIds.{id_in}
 use Rattle.batch_job.specs.NotedIds.{list_of}
 use Rattle.batch_job.specs.JobAnswers.{GivesAnswer, answered, first_unknown, has_name, kept, names_after, unless, unless_overflow}
 use Rattle.batch_job.specs.Storing.{IsStored}
 use Rattle.batch_job.proofs.Asking.{answer_is, ids_are, last_of_wanted}
 use Rattle.batch_job.proofs.Conflicting.{free_conflicts, conflict_is_first}
-use Rattle.batch_job.proofs.Entering.{looked_at}
-use Rattle.batch_job.proofs.Follows.{went}
+use Rattle.point_lines.proofs.CallerLemmas.{looked_at}
+use Rattle.point_lines.proofs.CallerLemmas.{went}
 use Rattle.batch_job.proofs.LastPoints.{same_bytes}
 use Rattle.batch_job.proofs.Lower.{deeds_each, each_entry, first_lawful, here, id_kept, not_Some, sound_after, there}
 use Rattle.batch_job.proofs.NamedPoints.{known_is}
@@ -156,7 +157,7 @@ module _ (q : Query) (s : Sub) (points : List DataPoint) (old new : Seen) (store
         at (Some id) is =
             let d = f.0 in
             let is_name = name_of_points points stored.are_points n (sym (known_is points stored.names n stored.noted) ∙ ap is_some is) in
-            let w = went old new part.own h made stored.by lawful fits in
+            let w = went three old new part.own h made stored.by lawful fits in
             let before : id_of (first old.length h) n.0 n.1 ≡ Some id = stored.ids h lawful w.fitted n.0 n.1 is_name ∙ is in
             let own = deeds_each h old.caller old.length new.length d (subst (λ (xs : List Placed). Contains xs d) (sym (made.made h fits)) f.1) in
             let above = own.above in

@@ -25,11 +25,12 @@ use Rattle.query_run.specs.Parts.{AreQuerySteps, IsQueryStep, Part}
 use Rattle.query_text.specs.declared.queries.Query.{Query}
 use Rattle.query_text.specs.declared.queries.Sub.{Sub}
 use Rattle.row_scan.specs.RowReadings.{Chosen, Covers}
+pub use Rattle.point_lines.proofs.CallerLemmas.{base_of_first}
 use Rattle.batch_job.specs.NotedIds.{id_in, list_of}
 use Rattle.batch_job.specs.Storing.{HasOnlyPuts, IsOtherWrite, IsStored, Puts, WasPut}
 use Rattle.cell_laws.proofs.CallerLemmas.{base_widths, nothing}
 use Rattle.batch_job.proofs.Entering.{IsQuiet, PutNothing, put_nothing, only_puts_follow}
-use Rattle.batch_job.proofs.Follows.{Went, follow, went}
+use Rattle.point_lines.proofs.CallerLemmas.{Went, follow, went}
 use Rattle.batch_job.proofs.Lower.{deeds_each, entry_at-more, here, in_filter, in_map, map_in, there, to_filter}
 
 -- ---- the steps of a query
@@ -84,14 +85,6 @@ longer (Then h x) n m place e le is = at (λ got. longer h n m place e le got) (
 
 put_longer : (h : History) (n m : ℕ) (r : DataPoint) → n ≤ m → WasPut (first n h) r → WasPut (first m h) r
 put_longer h n m r le p = (p.0, (p.1.0, longer h n m p.1.0 p.0 le p.1.1), p.2)
-
-pub base_of_first : (h : History) (n : ℕ) → base_of (first n h) ≡ base_of h
-base_of_first (Base b) n = refl
-base_of_first (Then h x) n = at (nat_le (len h + 1) n) (base_of_first h n)
-  where
-    at : (t : Bool) → base_of (first n h) ≡ base_of h → base_of (if t then Then h x else first n h) ≡ base_of h
-    at true rest = refl
-    at false rest = rest
 
 -- ---- points and their readings
 -- a point of this reading was put or appended
@@ -161,7 +154,7 @@ module _ (want : Reading → Bool) (points : List DataPoint) where
 -- ---- the part of the query
 module _ (points : List DataPoint) (old new : Seen) (list : List Placed) (stored : IsStored points old) (made : Made old list new) (steps : AreQuerySteps list) (h : History) (lawful : IsLawful h) (fits : Fits new h) where
   w : Went old list new h
-  w = went old new list h made stored.by lawful fits
+  w = went three old new list h made stored.by lawful fits
 
   pub base_is : base_of h ≡ no_cells three
   base_is = fits.base ∙ made.since.extends.base ∙ stored.by.base

@@ -16,7 +16,7 @@ use Rattle.cell_model.specs.Seen.{Fits, Seen}
 use Rattle.cell_model.specs.Store.{no_cells}
 use Rattle.cell_solo.specs.Turns.{opened, opening, whole_seen}
 use Rattle.lone_store.specs.LoneStores.{IsFresh}
-use Rattle.batch_job.specs.PendingIds.{id_in, no_names}
+use Rattle.point_lines.specs.NameIds.{id_in, no_names}
 use Rattle.batch_job.specs.NotedIds.{list_of}
 use Rattle.batch_job.specs.Storing.{IsNaming, IsNumbered, HasOnlyPuts, WasPut}
 use Rattle.batch_job.proofs.Entering.{put_before, only_puts_then}

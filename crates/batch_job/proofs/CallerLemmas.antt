@@ -1,6 +1,6 @@
 -- What a caller may cite beside the contracts.
 
 -- names that were noted are one
-pub use Rattle.batch_job.proofs.KnownLemmas.{ok_is}
+pub use Rattle.point_lines.proofs.CallerLemmas.{ok_is}
 -- a fresh store has no names and no points
 pub use Rattle.batch_job.proofs.Beginning.{naming_begins}

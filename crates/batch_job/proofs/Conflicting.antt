@@ -49,7 +49,7 @@ use Rattle.qual_codec.specs.Merge as row
 use Rattle.qual_codec.specs.Merge.{AreDots, values_at}
 use Rattle.row_scan.specs.RowReadings.{RowReads}
 use Rattle.batch_job.specs.Conflicts.{Conflict, are_conflict, conflict_cmp, conflict_of, conflicts, first_conflict, ids_of_tag, pairs_of}
-use Rattle.batch_job.specs.PendingIds.{Names, id_in}
+use Rattle.point_lines.specs.NameIds.{Names, id_in}
 use Rattle.batch_job.specs.JobAnswers.{names_after}
 use Rattle.batch_job.specs.Storing.{IsOtherWrite, IsStored, Puts, WasPut}
 use Rattle.batch_job.proofs.Asking.{after_old, base_is, base_of_first, before_now, ids_are, last_of_wanted, last_point_put, last_put, put_is_last, only_puts_after, wanted_points, wanted_reading}

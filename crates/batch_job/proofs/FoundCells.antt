@@ -28,7 +28,7 @@ use Rattle.qual_codec.specs.Merge.{AreDots, first_conflict}
 use Rattle.row_scan.specs.RowReadings.{RowReads}
 use Rattle.batch_job.specs.Storing.{IsStored}
 use Rattle.batch_job.proofs.Asking.{query_keeps, three_wide}
-use Rattle.batch_job.proofs.Follows.{follows}
+use Rattle.point_lines.proofs.CallerLemmas.{follows}
 use Rattle.batch_job.proofs.Lower.{cell_at, deeds_each, deeds_joined, each_entry, sound_after, first_lawful, there, here, not_in}
 use Rattle.batch_job.proofs.PointRows.{in_points}
 

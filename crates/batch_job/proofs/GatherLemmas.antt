@@ -1,4 +1,5 @@
 -- What is gathered, point by point.
+use Rattle.row_key.specs.Made.{three}
 use Rattle.std.proofs.Common.{◌≡◌, ℕ, Bool, true, false, cond, List, [], ◌∷◌, ◌++◌, Option, Some, None, map, refl, sym, ap, subst, ◌∙◌}
 use Rattle.std.specs.Prelude.{ℤ, Ok, Err, filter, is_some}
 use Rattle.std.specs.List.{AllByRecursion, flat_map}
@@ -8,15 +9,16 @@ use Rattle.tsd_base.specs.TagOrder.{tags_same}
 use Rattle.tsd_base.specs.declared.kinds.Kind.{Kind}
 use Rattle.cell_model.specs.Layout.{IsPoint, names_of}
 use Rattle.cell_model.specs.Seen.{Seen}
+use Rattle.point_lines.proofs.CallerLemmas.{names_last}
 use Rattle.batch_job.specs.Storing.{IsNaming, Notes}
-use Rattle.batch_job.specs.PendingIds.{Names}
+use Rattle.point_lines.specs.NameIds.{Names}
 use Rattle.batch_job.specs.NotedIds.{no_names, noted_all, names_in, and_then_noted}
 use Rattle.batch_job.specs.SeriesValues.{Series, is_same_series, series_of_point, values_in}
 use Rattle.batch_job.specs.Pending.{SoFar, values_of, unless_empty, Gathers}
 use Rattle.batch_job.proofs.LastPoints.{beq_same, same_bytes}
-use Rattle.batch_job.proofs.Known.{IsKnown, AreKnown}
-use Rattle.batch_job.proofs.KnownLemmas.{notes_all, noted_all-known}
-use Rattle.batch_job.proofs.NotedLemmas.{noted_all-append}
+use Rattle.point_lines.proofs.CallerLemmas.{IsKnown, AreKnown}
+use Rattle.point_lines.proofs.CallerLemmas.{notes_all, noted_all-known}
+use Rattle.point_lines.proofs.CallerLemmas.{noted_all-append}
 
 abbrev pub dot : DataPoint → ℕ × ℤ
 dot p = (p.time, p.value)
@@ -39,18 +41,6 @@ all_right P (x ∷ xs) ys h = all_right P xs ys h.1
 all_last : {A : Type 0} (P : A → Type 0) (xs : List A) (y : A) → AllByRecursion P xs → P y → AllByRecursion P (xs ++ y ∷ [])
 all_last P [] y h p = (p, tt)
 all_last P (x ∷ xs) y h p = (h.0, all_last P xs y h.1 p)
-
-names_last : (points : List DataPoint) (p : DataPoint) → flat_map names_of (points ++ p ∷ []) ≡ flat_map names_of points ++ names_of p
-names_last [] p = nil (names_of p)
-  where
-    nil : {A : Type 0} (xs : List A) → xs ++ [] ≡ xs
-    nil [] = refl
-    nil (x ∷ xs) = ap (λ ys. x ∷ ys) (nil xs)
-names_last (q ∷ points) p = ap (λ ns. names_of q ++ ns) (names_last points p) ∙ sym (assoc (names_of q) (flat_map names_of points) (names_of p))
-  where
-    assoc : {A : Type 0} (xs ys zs : List A) → (xs ++ ys) ++ zs ≡ xs ++ (ys ++ zs)
-    assoc [] ys zs = refl
-    assoc (x ∷ xs) ys zs = ap (λ ws. x ∷ ws) (assoc xs ys zs)
 
 -- ---- the names of a series that was read are known
 pub none_not_some : {A : Type 0} {x : A} → None ≡ Some x → ⊥
@@ -122,7 +112,7 @@ more_of points old new p h is_point step = record {
 noted_more : (points : List DataPoint) (p : DataPoint) (names more : Names) → noted_all no_names (flat_map names_of points) ≡ Ok names → noted_all names (names_of p) ≡ Ok more
     → noted_all no_names (flat_map names_of (points ++ p ∷ [])) ≡ Ok more
 noted_more points p names more before one =
-    ap (noted_all no_names) (names_last points p) ∙ noted_all-append (flat_map names_of points) (names_of p) no_names ∙ ap (λ r. and_then_noted r (λ more. noted_all more (names_of p))) before ∙ one
+    ap (noted_all no_names) (names_last points p) ∙ noted_all-append three (flat_map names_of points) (names_of p) no_names ∙ ap (λ r. and_then_noted r (λ more. noted_all more (names_of p))) before ∙ one
 
 -- a point was read behind those of its series
 pub reads_point : (points : List DataPoint) (old new : SoFar) (p : DataPoint) (h : Gathers points old) → IsPoint p → Notes old.seen (names_of p) None new.seen
@@ -138,8 +128,8 @@ pub reads_known : (points : List DataPoint) (old new : SoFar) (p : DataPoint) (l
     → ((s : Series) → values_in new.gathered s ≡ cond (is_same_series (series_of_point p) s) (Some (list ++ dot p ∷ [])) (values_in old.gathered s))
     → (more : Gathers (points ++ p ∷ []) new) × (noted_all h.names (names_of p) ≡ Ok more.names)
 reads_known points old new p list h is_point found same step =
-    let known = known_series h.names points (series_of_point p) list (notes_all no_names (flat_map names_of points) h.names h.noted).known (sym (h.series (series_of_point p)) ∙ found) in
-    let noted = noted_all-known h.names (names_of p) known in
+    let known = known_series h.names points (series_of_point p) list (notes_all three no_names (flat_map names_of points) h.names h.noted).known (sym (h.series (series_of_point p)) ∙ found) in
+    let noted = noted_all-known three h.names (names_of p) known in
     let m = more_of points old new p h is_point (λ s. step s ∙ ap (λ o. cond (is_same_series (series_of_point p) s) (Some (or_nil o ++ dot p ∷ [])) (values_in old.gathered s)) (sym found)) in
     (record { names = h.names; noted = noted_more points p h.names h.names h.noted noted; naming = subst (λ (x : Seen). IsNaming h.names x) (sym same) h.naming; series = m.series; are_points = m.are_points }, noted)
 

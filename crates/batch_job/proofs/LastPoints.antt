@@ -4,11 +4,9 @@ use Rattle.std.specs.Prelude.{◌↔◌, not, if◌then◌else◌, nat_eq, is_so
 use Rattle.std.specs.Option.{option_or}
 use Rattle.std.specs.Bool.{beq}
 use Rattle.std.specs.Cmp.{bool_eq_equiv, nat_eq_equiv}
-use Rattle.std.specs.Cmp.Lexicographic.{nat_list_eq_equiv, texts_ties}
+use Rattle.std.specs.Cmp.Lexicographic.{nat_list_eq_equiv}
 use Rattle.std.specs.List.{AllByRecursion, list_any}
 use Rattle.std.proofs.lemmas.Bool.{and_parts, and_from, true≢false, eqb-true, false_from_ne_true}
-use Rattle.std.proofs.lemmas.Map.Lookups.{exact_bytes}
-use Rattle.std.proofs.lemmas.Map.Views.{tells_apart}
 use Rattle.tsd_base.specs.Points.{DataPoint}
 use Rattle.tsd_base.specs.LastPoints.{is_same_place, last_points}
 use Rattle.tsd_base.specs.TagList.{is_same_tags}
@@ -17,6 +15,7 @@ use Rattle.tsd_base.specs.Tags.{Pair, is_same}
 use Rattle.batch_job.specs.Pending.{values_of}
 use Rattle.batch_job.specs.SeriesValues.{Series, is_same_series, series_of_point}
 use Rattle.batch_job.specs.LastValues.{last_at}
+pub use Rattle.point_lines.proofs.CallerLemmas.{same_bytes}
 use Rattle.batch_job.proofs.Lower.{here, there, split, not_in}
 
 -- two tests that follow from each other
@@ -33,9 +32,6 @@ record IsAlike (p q : DataPoint) : Type 0 where
   pub tags : p.tags ≡ q.tags
   pub time : p.time ≡ q.time
   pub fine : p.fine ≡ q.fine
-
-pub same_bytes : (x y : List ℕ) → is_same x y ≡ true → x ≡ y
-same_bytes x y e = tells_apart exact_bytes x y (sym (texts_ties x y) ∙ e)
 
 forms_same : (a b : Bool) → (if a then b else not b) ≡ true → a ≡ b
 forms_same true true e = refl

@@ -9,14 +9,15 @@ use Rattle.tsd_base.specs.declared.kinds.Kind.TheVariants.{Metric, TagKey, TagVa
 use Rattle.tsd_base.specs.Points.{DataPoint}
 use Rattle.tsd_base.specs.TagList.{Pair, is_same}
 use Rattle.cell_model.specs.Layout.{names_of, tag_names}
-use Rattle.row_key.specs.declared.ids.TheConstants.{MOST_IDS}
+use Rattle.row_key.specs.Made.{three}
+use Rattle.cell_model.specs.KindWidths.{greatest}
 use Rattle.query_run.specs.Parts.{NameOf}
-use Rattle.batch_job.specs.PendingIds.{Names, id_in, no_names}
+use Rattle.point_lines.specs.NameIds.{Names, id_in, no_names}
 use Rattle.batch_job.specs.NotedIds.{list_of, with_list, with_listed, noted, noted_all, and_then_noted}
 use Rattle.batch_job.specs.JobAnswers.{has_name}
-use Rattle.batch_job.proofs.KnownLemmas.{ok_is, err_not_ok, same_list}
+use Rattle.point_lines.proofs.CallerLemmas.{ok_is, err_not_ok, same_list}
 use Rattle.batch_job.proofs.LastPoints.{same_bytes}
-use Rattle.batch_job.proofs.NameLemmas.{id_in-append}
+use Rattle.point_lines.proofs.CallerLemmas.{id_in-append}
 
 -- ---- which names have ids
 abbrev is_kind : Kind → Kind → Bool
@@ -101,7 +102,7 @@ names_rest : (r : Result Names Kind) (old : Names) (n : NameOf) (ns : List NameO
     → noted old n.0 n.1 ≡ r → and_then_noted r (λ more. noted_all more ns) ≡ Ok new → has_id new m ≡ (has_id old m || (is_that m n || list_any (is_that m) ns))
 names_rest (Ok mid) old n ns new m rest is e =
     rest mid e
-    ∙ ap (λ b. b || list_any (is_that m) ns) (name_step old mid n m (is_some (id_in (list_of old n.0) n.1)) (nat_lt (length (list_of old n.0)) MOST_IDS) refl is)
+    ∙ ap (λ b. b || list_any (is_that m) ns) (name_step old mid n m (is_some (id_in (list_of old n.0) n.1)) (nat_lt (length (list_of old n.0)) (greatest three n.0)) refl is)
     ∙ or_assoc (has_id old m) (is_that m n) (list_any (is_that m) ns)
 names_rest (Err kind) old n ns new m rest is e = absurd (err_not_ok e)
 

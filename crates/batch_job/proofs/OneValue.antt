@@ -15,7 +15,7 @@ use Rattle.tsd_base.specs.TagOrder.{is_same_tags_equiv}
 use Rattle.cell_model.specs.Readings.{Reading, OneValued, reading_of}
 use Rattle.batch_job.specs.Conflicts.{Conflict, are_conflict, conflict_of, conflicts}
 use Rattle.batch_job.specs.Pending.{values_of}
-use Rattle.batch_job.specs.PendingIds.{Names}
+use Rattle.point_lines.specs.NameIds.{Names}
 use Rattle.batch_job.specs.SeriesValues.{series_of_point}
 use Rattle.batch_job.specs.LastValues.{last_at}
 use Rattle.batch_job.proofs.LastPoints.{last_points_are}

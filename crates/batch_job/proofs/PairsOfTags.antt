@@ -11,7 +11,7 @@ use Rattle.std.proofs.lemmas.Bool.Decides.{nat_tests}
 use Rattle.std.proofs.lemmas.List.Elements.{All-contains, All-from_recursion}
 use Rattle.tsd_base.specs.TagList.{Pair}
 use Rattle.batch_job.specs.Conflicts.{ids_of_tag, pairs_of}
-use Rattle.batch_job.specs.PendingIds.{Names}
+use Rattle.point_lines.specs.NameIds.{Names}
 use Rattle.batch_job.proofs.Lower.{here, in_map, is_equal, map_in, not_in, same_Some, sorted_from_rising, split, there}
 use Rattle.batch_job.proofs.MapLemmas.{Each-found}
 

@@ -1,4 +1,5 @@
 -- Putting points whose names have ids.
+use Rattle.row_key.specs.Made.{three}
 use Rattle.std.proofs.Common.{◌≡◌, ◌⊎◌, inl, inr, ⊎_elim, ℕ, ℤ, Bool, true, false, List, [], ◌∷◌, ◌++◌, refl, sym, ap, subst, ◌∙◌}
 use Rattle.std.specs.Prelude.{◌↔◌, None, Some, Ok, Err, Contains, option_and_then}
 use Rattle.std.proofs.lemmas.Bool.{true≢false}
@@ -31,72 +32,24 @@ use Rattle.point_put.specs.Entries.ForName.{none, look, full, bump, reverse, for
 use Rattle.point_put.specs.Entries.ForNames.{nil, more}
 use Rattle.point_put.specs.PutPoint.{DidStore, PutSays, WasStored as PutSo}
 use Rattle.uid_table.specs.IdSteps.{DidLook}
-use Rattle.batch_job.specs.OpenRules.{AllowsAll}
+use Rattle.point_lines.specs.OpenRules.{AllowsAll}
 use Rattle.batch_job.specs.PendingPuts.{Adds, AddsSome, AreResolved, points_in}
 use Rattle.batch_job.specs.Storing.{HasOnlyPuts, IsAlone, IsOtherWrite, Puts, WasPut}
-use Rattle.batch_job.proofs.Entering.{Ids_Points, PutNothing, looked, nothing_by, put_before, put_keeps, put_last, put_nothing, puts_stay, read_keeps, rows_differ, tables_differ, only_puts_follow, only_puts_then}
-use Rattle.batch_job.proofs.Follows.{Went, follow, follow-append, went, alone_still}
+use Rattle.batch_job.proofs.Entering.{PutNothing, nothing_by, put_before, put_last, put_nothing, puts_stay, only_puts_follow, only_puts_then}
+use Rattle.point_lines.proofs.CallerLemmas.{Ids_Points, looked, put_keeps, read_keeps, rows_differ, tables_differ}
+use Rattle.point_lines.proofs.CallerLemmas.{AreReads, lawful_front, names_read, reads_keep}
+use Rattle.point_lines.proofs.CallerLemmas.{Went, follow, follow-append, went, alone_still}
 use Rattle.batch_job.proofs.Lower.{here, not_in, not_Some, split}
 
 -- ---- entries that are reads
-abbrev AreReads : List Placed → Type 0
-AreReads list = (d : Placed) → Contains list d → (row : Row) × (d.entry.step ≡ Read row)
-
-reads_nil : AreReads []
-reads_nil d c = absurd (not_in d c)
-
-reads_one : (d : Placed) (row : Row) → d.entry.step ≡ Read row → AreReads (d ∷ [])
-reads_one d row is x c = ⊎_elim
-    (λ (same : d ≡ x). (row, ap (λ (y : Placed). y.entry.step) (sym same) ∙ is))
-    (λ (later : Contains [] x). absurd (not_in x later))
-    (split d x [] c)
-
-reads_append : (xs ys : List Placed) → AreReads xs → AreReads ys → AreReads (xs ++ ys)
-reads_append xs ys a b d c = ⊎_elim (a d) (b d) (Contains-append_cases xs ys d c)
-
-reads_keep : (h : History) (list : List Placed) → AreReads list → store_after (follow h list) ≡ store_after h
-reads_keep h [] reads = refl
-reads_keep h (d ∷ list) reads =
-    let one = reads d (here d list) in
-    reads_keep (Then h d.entry) list (λ x c. reads x (Contains-append_right (d ∷ []) list x c)) ∙ read_keeps h d.entry one.0 one.1
-
 reads_put_nothing : (list : List Placed) → AreReads list → PutNothing list
 reads_put_nothing list reads d c = let one = reads d c in nothing_by d (Read one.0) one.1 tt
-
-lawful_front : (h : History) (list : List Placed) → IsLawful (follow h list) → IsLawful h
-lawful_front h [] l = l
-lawful_front h (d ∷ list) l = (lawful_front (Then h d.entry) list l).0
-
--- ---- the entries for names that have ids
-module _ (c : Admission) where
-  abbrev HasId : History → Kind → List ℕ → Type 0
-  HasId h kind name = (id : ℕ) × (id_of h kind name ≡ Some id)
-
-  no_id : (h : History) (r : Placed) (kind : Kind) (name : List ℕ) → IsLawful (Then h r.entry) → HasId h kind name → DidLook r kind name None → ⊥
-  no_id h r kind name l has d = not_Some has.0 (sym has.1 ∙ ap (option_and_then id_number) (looked h r kind name None l.2 d))
-
-  part_reads : {w : Widths} (h : History) (kind : Kind) (name : List ℕ) {part : List Placed} → ForName w c kind name part → HasId h kind name → IsLawful (follow h part) → AreReads part
-  part_reads h kind name none has l = reads_nil
-  part_reads h kind name (look {r} shown d) has l = reads_one r (name_row name) d.did.0
-  part_reads h kind name (full {r} {b} m d x) has l = absurd (no_id h r kind name (lawful_front (Then h r.entry) (b ∷ []) l) has d)
-  part_reads h kind name (bump {r} {b} id m d x) has l = absurd (no_id h r kind name (lawful_front (Then h r.entry) (b ∷ []) l) has d)
-  part_reads h kind name (reverse {r} {b} {n} id m d x y) has l = absurd (no_id h r kind name (lawful_front (Then h r.entry) (b ∷ n ∷ []) l) has d)
-  part_reads h kind name (forward {r} {b} {n} {f} id reply m d x y z) has l = absurd (no_id h r kind name (lawful_front (Then h r.entry) (b ∷ n ∷ f ∷ []) l) has d)
-
-  names_read : {w : Widths} (h : History) {ns : List (Kind × List ℕ)} {list : List Placed} → ForNames w c ns list → AllResolved h ns → IsLawful (follow h list) → AreReads list
-  names_read h nil res l = reads_nil
-  names_read h (more {kind} {name} {names} {part} {list} one rest) res l =
-      let lawful : IsLawful (follow (follow h part) list) = subst IsLawful (follow-append h part list) l in
-      let first = part_reads h kind name one (res (kind, name) (here (kind, name) names)) (lawful_front (follow h part) list lawful) in
-      let same = reads_keep h part first in
-      reads_append part list first
-      (names_read (follow h part) rest (λ n has. let found = res n (Contains-append_right ((kind, name) ∷ []) names n has) in (found.0, ap (λ (s : Store). option_and_then id_number (value_at s (name_row n.1) (kind_qual n.0))) same ∙ found.1)) lawful)
 
 -- ---- one point
 module _ (old new : Seen) (c : Admission) (point : DataPoint) (resolved : AreResolved old (names_of point)) where
   module _ (list : List Placed) (made : Made old list new) (h : History) (lawful : IsLawful h) (fits : Fits new h) where
     w : Went old list new h
-    w = went old new list h made resolved.by lawful fits
+    w = went three old new list h made resolved.by lawful fits
 
     have : AllResolved (first old.length h) (names_of point)
     have = resolved.resolved h lawful w.fitted
@@ -147,7 +100,7 @@ module _ (old new : Seen) (c : Admission) (point : DataPoint) (resolved : AreRes
 
   pub put_adds : (stored : Stored) → PutSays c point old (Ok stored) new → c.config.appends ≡ false → Adds old (point ∷ []) new
   put_adds stored (list, made, asked) cells = record {
-    by = alone_still old new list made resolved.by;
+    by = alone_still three old new list made resolved.by;
     fits = made.since.extends.fits;
     ids = λ h lawful fits. ids_stay list made h lawful fits stored (asked h lawful fits) cells;
     puts = λ h lawful fits. puts_one list made h lawful fits stored (asked h lawful fits) cells;

@@ -15,7 +15,8 @@ use Rattle.cell_model.specs.Lawful.{ClaimBasis, IsLawful, MayStep}
 use Rattle.cell_model.specs.Machine.{after, counter_row, kind_qual}
 use Rattle.cell_model.specs.Store.{Store, no_cells, place_of, value_at}
 use Rattle.batch_job.specs.Storing.{HasOnlyPuts, IsOtherWrite}
-use Rattle.batch_job.proofs.Entering.{bump_keeps, claim_keeps, had_before, put_keeps, rows_differ, tables_differ}
+use Rattle.batch_job.proofs.Entering.{had_before}
+use Rattle.point_lines.proofs.CallerLemmas.{bump_keeps, claim_keeps, put_keeps, rows_differ, tables_differ}
 use Rattle.cell_laws.proofs.CallerLemmas.{Changes, column_changes, grows, nothing, stays}
 use Rattle.batch_job.proofs.Lower.{PutReads, entry_at-last, entry_at-more, lawful_begins, longer, not_Some, put_reads, same_or_not, stood, trans_begins, value-written, whole}
 

@@ -12,6 +12,7 @@ use Rattle.tsd_base.specs.TagList.{IsPair, Pair, is_same}
 use Rattle.tsd_base.specs.declared.kinds.Kind.{Kind}
 use Rattle.tsd_base.specs.declared.kinds.Kind.TheVariants.{Metric, TagKey, TagValue}
 use Rattle.cell_model.specs.Layout.{IsPoint, names_of, tag_names}
+pub use Rattle.point_lines.proofs.CallerLemmas.{point_names}
 use Rattle.batch_job.specs.NotedIds.{names_in}
 use Rattle.batch_job.specs.JobAnswers.{has_name}
 use Rattle.batch_job.proofs.LastPoints.{same_bytes}
@@ -46,24 +47,7 @@ named_so p is Metric name e = subst IsName (same_bytes p.metric name e) is.metri
 named_so p is TagKey name e = tag_named p.tags (λ t. t.0) name is.tags.names (λ t pair. pair.0) e
 named_so p is TagValue name e = tag_named p.tags (λ t. t.1) name is.tags.names (λ t pair. pair.1) e
 
--- the names of a point are names
-pub point_names : (p : DataPoint) → IsPoint p → (n : Kind × List ℕ) → Contains (names_of p) n → IsName n.1
-point_names p is n has = ⊎_elim
-    (λ (first : (Metric, p.metric) ≡ n). subst (λ (m : Kind × List ℕ). IsName m.1) first is.metric)
-    (λ (later : Contains (tag_names p.tags) n). tags_are p.tags is.tags.names n later)
-    (split (Metric, p.metric) n (tag_names p.tags) has)
-  where
-    tags_are : (tags : List Pair) → AllByRecursion IsPair tags → (n : Kind × List ℕ) → Contains (tag_names tags) n → IsName n.1
-    tags_are [] are n has = absurd (not_in n has)
-    tags_are (t ∷ tags) are n has = ⊎_elim
-        (λ (key : (TagKey, t.0) ≡ n). subst (λ (m : Kind × List ℕ). IsName m.1) key are.0.0)
-        (λ (rest : Contains ((TagValue, t.1) ∷ tag_names tags) n). ⊎_elim
-        (λ (value : (TagValue, t.1) ≡ n). subst (λ (m : Kind × List ℕ). IsName m.1) value are.0.1)
-        (λ (later : Contains (tag_names tags) n). tags_are tags are.1 n later)
-        (split (TagValue, t.1) n (tag_names tags) rest))
-        (split (TagKey, t.0) n ((TagValue, t.1) ∷ tag_names tags) has)
-
--- and so is one that a point has
+-- a name that a point has is one
 pub name_of_points : (ps : List DataPoint) → AllByRecursion IsPoint ps → (n : Kind × List ℕ) → list_any (has_name n) ps ≡ true → IsName n.1
 name_of_points [] are n e = absurd (true≢false (sym e))
 name_of_points (p ∷ ps) are n e = at (has_name n p) refl e (name_of_points ps are.1 n)

@@ -1,4 +1,5 @@
 -- The points of all series in the store.
+use Rattle.row_key.specs.Made.{three}
 use Rattle.std.proofs.Common.{◌≡◌, ◌⊎◌, inl, inr, ⊎_elim, ℕ, ℤ, Bool, true, List, [], ◌∷◌, ◌++◌, ◌+◌, ◌<◌, ◌≤◌, length, take, zero, suc, get_or, refl, sym, ap, subst, ◌∙◌, arith, append_assoc, append-nil}
 use Rattle.std.specs.Prelude.{◌↔◌, Option, None, Some, All, Contains, OnOk, Result, Ok, Err, is_some, pos}
 use Rattle.std.specs.List.{flat_map}
@@ -15,8 +16,8 @@ use Rattle.cell_model.specs.History.{first}
 use Rattle.cell_model.specs.Layout.{names_of, tag_names}
 use Rattle.cell_model.specs.Seen.{Seen}
 use Rattle.batch_job.specs.Pending.{Gathers, SoFar, unless_empty, values_of}
-use Rattle.batch_job.specs.PendingIds.{id_in}
-use Rattle.batch_job.proofs.Known.{AreKnown, IsKnown}
+use Rattle.point_lines.specs.NameIds.{id_in}
+use Rattle.point_lines.proofs.CallerLemmas.{AreKnown, IsKnown}
 use Rattle.batch_job.specs.NotedIds.{list_of, names_in}
 use Rattle.batch_job.specs.PendingPuts.{Adds, AddsSome, AreResolved, AreTimes, IsLast, MayPut, PutsAll, points_in}
 use Rattle.batch_job.specs.SeriesValues.{Series, is_same_series, series_of_point, values_in}
@@ -24,7 +25,7 @@ use Rattle.batch_job.specs.LastValues.{last_at}
 use Rattle.batch_job.specs.Storing.{IsAlone, IsStored, WasPut}
 use Rattle.batch_job.proofs.SettleLemmas.{take_next}
 use Rattle.batch_job.proofs.GatherLemmas.{known_series, none_not_some, same_series}
-use Rattle.batch_job.proofs.KnownLemmas.{notes_all}
+use Rattle.point_lines.proofs.CallerLemmas.{notes_all}
 use Rattle.batch_job.proofs.LastPoints.{last_points_are}
 use Rattle.batch_job.proofs.Lower.{here, map_in, in_map, not_in, split}
 use Rattle.batch_job.proofs.Puts.{adds_alike, adds_joined, adds_none, adds_then, one_more, still_resolved}
@@ -161,7 +162,7 @@ module _ (a b : Seen) (entries rest more : List Entry) (e : Entry) (are : rest �
 -- ---- the series that were gathered
 module _ (points : List DataPoint) (g : SoFar) (h : Gathers points g) (found : All (λ e. values_in g.gathered e.0 ≡ Some e.1) g.gathered) where
   known_all : AreKnown h.names (flat_map names_of points)
-  known_all = (notes_all _ (flat_map names_of points) h.names h.noted).known
+  known_all = (notes_all three _ (flat_map names_of points) h.names h.noted).known
 
   some_is : {A : Type 0} (o : Option A) → is_some o ≡ true → (x : A) × (o ≡ Some x)
   some_is None e = absurd (true≢false (sym e))

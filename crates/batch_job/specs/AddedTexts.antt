@@ -4,7 +4,7 @@ use Rattle.tsd_base.specs.Points.{DataPoint}
 use Rattle.batch_job.specs.Pending.{AddsPoint, SoFar}
 use Rattle.batch_job.specs.PendingSeries.{all_values}
 use Rattle.batch_job.specs.PointLines.{Judged}
-use Rattle.batch_job.specs.PointLines.Judged.{Blank, Taken, Refused}
+use Rattle.point_lines.specs.LinePoints.Judged.{Blank, Taken, Refused}
 use Rattle.batch_job.specs.SeriesValues.{Series, SeriesEntry, is_same_series, values_in}
 use Rattle.batch_job.specs.SeriesTexts.{ReadAs}
 use Rattle.batch_job.specs.declared.pending_series.PendingSeries.{PendingSeries}

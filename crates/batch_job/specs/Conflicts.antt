@@ -9,7 +9,7 @@ use Rattle.tsd_base.specs.Points.{DataPoint}
 use Rattle.tsd_base.specs.TagList.{Pair, is_same, is_same_tags}
 use Rattle.row_key.specs.KeyOrder.{pair_cmp}
 use Rattle.cell_model.specs.Layout.{base_time}
-use Rattle.batch_job.specs.PendingIds.{Names, id_in}
+use Rattle.point_lines.specs.NameIds.{Names, id_in}
 
 -- the id of a name that has one
 abbrev pub id_of : List (List ℕ) → List ℕ → ℕ

@@ -1,5 +1,3 @@
-pub mod OpenRules
-pub mod PendingIds
 pub mod NotedIds
 pub mod SeriesTexts
 pub mod SeriesValues

@@ -1,52 +1,21 @@
--- The points that lines are.
-use Rattle.std.specs.Prelude.{ℕ, ◌+◌, List, [], ◌∷◌, ◌++◌, codes, Result, Ok, Err, if◌then◌else◌}
-use Rattle.tsd_base.specs.declared.points.PointFault.{PointFault}
-use Rattle.tsd_base.specs.Faults.{point_fault_text}
-use Rattle.tsd_base.specs.Points.{DataPoint, point_of}
-use Rattle.tsd_base.specs.declared.kinds.Kind.{Kind}
-use Rattle.cell_model.specs.Layout.{names_of}
-use Rattle.line_stream.specs.Lines.{Line, is_blank, is_too_long, lines_of, text_of}
-use Rattle.batch_job.specs.PendingIds.{Names}
-use Rattle.batch_job.specs.NotedIds.{no_names, noted_all, exhausted_text}
-
--- what a line is: nothing, a point, or refused with a text
-pub data Judged : Type 0 where
-  Blank : Judged
-  Taken : DataPoint → Judged
-  Refused : List ℕ → Judged
-
-abbrev pub judged_point : Result DataPoint PointFault → Judged
-judged_point (Ok point) = Taken point
-judged_point (Err fault) = Refused (point_fault_text fault)
-
-abbrev pub judged_text : List ℕ → Judged
-judged_text text = if is_blank text then Blank else judged_point (point_of text)
-
-abbrev pub judged : Line → Judged
-judged line = if is_too_long line.bytes then Refused (codes "line too long") else judged_text (text_of line)
-
--- points that come before what was read
-abbrev pub with_points : List DataPoint → Result (List DataPoint) (ℕ × List ℕ) → Result (List DataPoint) (ℕ × List ℕ)
-with_points points (Ok more) = Ok (points ++ more)
-with_points points (Err refusal) = Err refusal
-
--- a point whose names have their ids, and what comes behind it; or the kind of a name for which there is none
-abbrev pub with_point : DataPoint → ℕ → Result Names Kind → (Names → Result (List DataPoint) (ℕ × List ℕ)) → Result (List DataPoint) (ℕ × List ℕ)
-with_point point number (Ok names) rest = with_points (point ∷ []) (rest names)
-with_point point number (Err kind) rest = Err (number, exhausted_text kind)
+-- The points that the lines of a batch are. Its ids have three bytes.
+use Rattle.std.specs.Prelude.{ℕ, List, Result}
+use Rattle.row_key.specs.Made.{three}
+use Rattle.tsd_base.specs.Points.{DataPoint}
+use Rattle.line_stream.specs.Lines.{Line}
+use Rattle.point_lines.specs.LinePoints as lines
+use Rattle.point_lines.specs.NameIds.{Names}
+pub use Rattle.point_lines.specs.LinePoints.{Judged, judged, judged_point, judged_text, with_point, with_points}
 
 -- a line behind which come others, where these names have ids before it
 abbrev pub with_line : Judged → ℕ → Names → (Names → Result (List DataPoint) (ℕ × List ℕ)) → Result (List DataPoint) (ℕ × List ℕ)
-with_line Blank number names rest = rest names
-with_line (Taken point) number names rest = with_point point number (noted_all names (names_of point)) rest
-with_line (Refused text) number names rest = Err (number, text)
+with_line judged number names rest = lines.with_line three judged number names rest
 
 -- the points of lines that are numbered from here, where these names have ids before them; or the number and text of the first line
 -- that is refused
 abbrev pub points_from : ℕ → Names → List Line → Result (List DataPoint) (ℕ × List ℕ)
-points_from number names [] = Ok []
-points_from number names (line ∷ lines) = with_line (judged line) number names (λ more. points_from (number + 1) more lines)
+points_from number names all = lines.points_from three number names all
 
 -- the points of an input, whose lines count from 1
 abbrev pub points_of : List ℕ → Result (List DataPoint) (ℕ × List ℕ)
-points_of input = points_from 1 no_names (lines_of input)
+points_of input = lines.points_of three input

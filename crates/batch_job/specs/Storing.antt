@@ -1,5 +1,5 @@
 -- What one caller that steps alone did in a store that began empty.
-use Rattle.std.specs.Prelude.{◌≡◌, ◌↔◌, ℕ, true, List, length, Contains, Option, None, Some, Ok, Err}
+use Rattle.std.specs.Prelude.{◌≡◌, ◌↔◌, ℕ, List, length, Contains, Option, None, Some, Ok, Err}
 use Rattle.std.specs.List.{AllByRecursion, flat_map}
 use Rattle.row_key.specs.Made.{three}
 use Rattle.tsd_base.specs.Alphabet.{IsName}
@@ -7,34 +7,20 @@ use Rattle.tsd_base.specs.declared.kinds.Kind.{Kind}
 use Rattle.tsd_base.specs.Points.{DataPoint}
 use Rattle.tsd_base.specs.LastPoints.{last_points}
 use Rattle.cell_model.specs.declared.events.Entry.{Entry}
-use Rattle.cell_model.specs.History.{History, Had, first, store_after}
+use Rattle.cell_model.specs.History.{History, Had, store_after}
 use Rattle.cell_model.specs.IdRows.{id_of}
 use Rattle.cell_model.specs.Layout.{IsPoint, names_of}
 use Rattle.cell_model.specs.Machine.{counter_of}
 use Rattle.cell_model.specs.declared.events.Step.{Step}
 use Rattle.cell_model.specs.declared.events.Step.TheVariants.{PutPoint, AppendPoint, PutMerged, DropCells}
-use Rattle.cell_model.specs.Seen.{Seen, InEach, IsPossible}
-use Rattle.cell_model.specs.Store.{no_cells}
+use Rattle.cell_model.specs.Seen.{Seen}
+use Rattle.point_lines.specs.LoneHistories.{IsLone}
+pub use Rattle.point_lines.specs.LoneHistories.{HasIds, Holds, IsNumbered}
 use Rattle.batch_job.specs.NotedIds.{Names, id_in, list_of, no_names, noted_all}
 
--- so it is of each history that fits what was seen, as far as it was seen
-abbrev pub Holds : Seen → (History → Type 0) → Type 0
-Holds s P = InEach s (λ h. P (first s.length h))
-
 -- the store began empty, with ids of three bytes, and nobody else steps
-pub record IsAlone (s : Seen) : Type 0 where
-  pub base : s.base ≡ no_cells three
-  pub alone : s.alone ≡ true
-  pub possible : IsPossible s
-
--- the ids are the places of these names
-abbrev pub HasIds : Names → History → Type 0
-HasIds names h = (kind : Kind) (name : List ℕ) → IsName name → id_of h kind name ≡ id_in (list_of names kind) name
-
--- and each counter is the number of its kind's
-pub record IsNumbered (names : Names) (h : History) : Type 0 where
-  pub counts : (kind : Kind) → counter_of (store_after h) kind ≡ length (list_of names kind)
-  pub ids : HasIds names h
+abbrev pub IsAlone : Seen → Type 0
+IsAlone s = IsLone three s
 
 -- the step puts this point
 abbrev pub Puts : Step → DataPoint → Type 0

@@ -6,7 +6,7 @@ ghost use Rattle.query_run.specs.AskFaults.{is_stop};
 ghost use Rattle.query_text.specs.declared.queries.Sub.{Sub};
 ghost use Rattle.tsd_base.specs.Points.{DataPoint};
 ghost use Rattle.batch_job.specs.JobAnswers.{CanAsk, GivesAnswer, answered};
-ghost use Rattle.batch_job.specs.OpenRules.{AllowsAll};
+ghost use Rattle.point_lines.specs.OpenRules.{AllowsAll};
 ghost use Rattle.batch_job.specs.Pending.{Gathers, so_far};
 ghost use Rattle.batch_job.specs.Storing.{IsStored};
 

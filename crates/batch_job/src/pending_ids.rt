@@ -4,7 +4,7 @@ ghost use Rattle.tsd_base.specs.declared.kinds.Kind.TheVariants.{TagKey, TagValu
 ghost use Rattle.cell_model.specs.Layout.{tag_names};
 ghost use Rattle.cell_model.specs.Stops.{CountsStops, is_stop};
 ghost use Rattle.batch_job.specs.NotedIds.{names_in};
-ghost use Rattle.batch_job.specs.OpenRules.{AllowsAll};
+ghost use Rattle.point_lines.specs.OpenRules.{AllowsAll};
 ghost use Rattle.batch_job.specs.Storing.{Notes};
 
 use cell_model::Rows;

@@ -7,7 +7,7 @@ ghost use Rattle.tsd_base.specs.Points.{data_point};
 ghost use Rattle.uid_table.specs.PlacedPoints.{IsPlaced};
 ghost use Rattle.point_put.specs.TextPuts.{point_at};
 ghost use Rattle.batch_job.specs.NotedIds.{names_in};
-ghost use Rattle.batch_job.specs.OpenRules.{AllowsAll};
+ghost use Rattle.point_lines.specs.OpenRules.{AllowsAll};
 ghost use Rattle.batch_job.specs.PendingPuts.{Adds, AreResolved, AreTimes, MayPut, PutsAll, points_in};
 ghost use Rattle.batch_job.specs.PendingSeries.{all_values};
 ghost use Rattle.batch_job.specs.Storing.{IsAlone};

@@ -12,7 +12,7 @@ use Rattle.tsd_base.specs.Tags.{is_same}
 use Rattle.tsd_hooks.specs.declared.name_patterns.Patterns.{Patterns}
 use Rattle.query_times.specs.QueryTimes.{fixed_time}
 use Rattle.row_key.specs.declared.widths.Widths.{Widths}
-use Rattle.command_words.specs.Grammar.{grammar}
+use Rattle.command_grammar.specs.Grammar.{grammar}
 use Rattle.command_words.specs.WidthWords.{widths_said}
 
 -- what `batch` is asked: a range of milliseconds, the text of a query, and whether times are told in milliseconds
@@ -44,10 +44,26 @@ pub record Serve : Type 0 where
   pub names : NameOptions
   pub appends : Bool
 
+-- what `import` is asked: whether rows are compacted, and how many bytes the ids of each kind have
+pub record Import : Type 0 where
+  pub compact : Bool
+  pub widths : Widths
+
+-- what `weave` is asked: the number from which it draws, and how many operations there are
+pub record Weave : Type 0 where
+  pub seed : ℕ
+  pub count : ℕ
+
+-- of `dump`, `fsck` and `fix` the widths of the listing's ids
 pub data Asked : Type 0 where
   BatchAsked : Batch → Asked
   StdioAsked : Stdio → Asked
   ServeAsked : Serve → Asked
+  ImportAsked : Import → Asked
+  DumpAsked : Widths → Asked
+  FsckAsked : Widths → Asked
+  FixAsked : Widths → Asked
+  WeaveAsked : Weave → Asked
 
 -- a range ends at its start or behind it
 abbrev pub range_between : Option ℕ → Option ℕ → Option (ℕ × ℕ)
@@ -101,8 +117,12 @@ abbrev pub stdio_with : Option NameOptions → Option Widths → Bool → Option
 stdio_with (Some names) (Some widths) appends = Some (record { names = names; appends = appends; widths = widths })
 stdio_with _ _ appends = None
 
+-- how many bytes the ids of each kind have, three where nothing is said
+abbrev pub widths_in : List Row → Option Widths
+widths_in rows = widths_said (first_of (codes "widths") rows)
+
 abbrev pub stdio_in : List Row → Option Stdio
-stdio_in rows = stdio_with (names_in rows) (widths_said (first_of (codes "widths") rows)) (is_given (codes "appends") rows)
+stdio_in rows = stdio_with (names_in rows) (widths_in rows) (is_given (codes "appends") rows)
 
 abbrev pub within : ℕ → ℕ → ℕ → Option ℕ
 within least most n = if nat_le least n && nat_le n most then Some n else None
@@ -128,13 +148,34 @@ abbrev pub serve_in : List Row → Option Serve
 serve_in rows =
     serve_with (port_in rows) (count_of 8 1 (first_of (codes "daemons") rows)) (count_of 16 4 (first_of (codes "workers") rows)) (count_of 16 4 (first_of (codes "regions") rows)) (names_in rows) (is_given (codes "appends") rows)
 
+abbrev pub import_in : List Row → Option Import
+import_in rows = option_map (λ widths. record { compact = is_given (codes "compact") rows; widths = widths }) (widths_in rows)
+
+abbrev pub weave_with : Option ℕ → Option ℕ → Option Weave
+weave_with (Some seed) (Some count) = Some (record { seed = seed; count = count })
+weave_with _ _ = None
+
+-- a seed is a `u64`, and there are at most 1,000,000 operations
+abbrev pub weave_in : List Row → Option Weave
+weave_in rows = weave_with (option_and_then (number_within 0 18446744073709551615) (first_of (codes "seed") rows)) (option_and_then (number_within 0 1000000) (first_of (codes "count") rows))
+
+-- of the name of a tool on a store as text, and what its words are
+abbrev pub tool_asked : Text → List Row → Option Asked
+tool_asked name rows =
+    if is_same name (codes "import") then option_map ImportAsked (import_in rows)
+    else if is_same name (codes "dump") then option_map DumpAsked (widths_in rows)
+    else if is_same name (codes "fsck") then option_map FsckAsked (widths_in rows)
+    else if is_same name (codes "fix") then option_map FixAsked (widths_in rows)
+    else if is_same name (codes "weave") then option_map WeaveAsked (weave_in rows)
+    else None
+
 -- of a command's name and what its words are
 abbrev pub asked_by : Text → List Row → Option Asked
 asked_by name rows =
     if is_same name (codes "batch") then option_map BatchAsked (batch_in rows)
     else if is_same name (codes "stdio") then option_map StdioAsked (stdio_in rows)
     else if is_same name (codes "serve") then option_map ServeAsked (serve_in rows)
-    else None
+    else tool_asked name rows
 
 abbrev pub asked_in : Option (Text × List Row) → Option Asked
 asked_in None = None

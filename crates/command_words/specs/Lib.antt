@@ -1,4 +1,3 @@
-pub mod Grammar
 pub mod WidthWords
 pub mod CommandWords
 pub mod PlainAsked

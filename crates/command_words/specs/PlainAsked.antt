@@ -7,11 +7,13 @@ use Rattle.command_words.specs.declared.asked.PatternTexts as texts
 use Rattle.command_words.specs.declared.asked.NameOptions as options
 use Rattle.command_words.specs.declared.asked.Stdio as stdio
 use Rattle.command_words.specs.declared.asked.Serve as serve
+use Rattle.command_words.specs.declared.asked.Import as import
+use Rattle.command_words.specs.declared.asked.Weave as weave
 use Rattle.command_words.specs.declared.asked.Asked as code
 use Rattle.command_words.specs.declared.asked.Asked.TheVariants as asked
 use Rattle.tsd_hooks.specs.declared.name_patterns.Patterns.{Patterns}
-use Rattle.command_words.specs.CommandWords.{Batch, NameOptions, Stdio, Serve, Asked}
-use Rattle.command_words.specs.CommandWords.Asked.{BatchAsked, StdioAsked, ServeAsked}
+use Rattle.command_words.specs.CommandWords.{Batch, NameOptions, Stdio, Serve, Import, Weave, Asked}
+use Rattle.command_words.specs.CommandWords.Asked.{BatchAsked, StdioAsked, ServeAsked, ImportAsked, DumpAsked, FsckAsked, FixAsked, WeaveAsked}
 
 abbrev pub plain_batch : batch.Batch → Batch
 plain_batch b = record { start = b.start; end = b.end; query = b.query.now; ms = b.ms }
@@ -31,10 +33,21 @@ plain_stdio s = record { names = plain_names s.names; appends = s.appends; width
 abbrev pub plain_serve : serve.Serve → Serve
 plain_serve s = record { port = s.port; daemons = s.daemons; workers = s.workers; regions = s.regions; names = plain_names s.names; appends = s.appends }
 
+abbrev pub plain_import : import.Import → Import
+plain_import i = record { compact = i.compact; widths = i.widths }
+
+abbrev pub plain_weave : weave.Weave → Weave
+plain_weave w = record { seed = w.seed; count = w.count }
+
 abbrev pub plain_asked : code.Asked → Asked
 plain_asked (asked.Batch b) = BatchAsked (plain_batch b)
 plain_asked (asked.Stdio s) = StdioAsked (plain_stdio s)
 plain_asked (asked.Serve s) = ServeAsked (plain_serve s)
+plain_asked (asked.Import i) = ImportAsked (plain_import i)
+plain_asked (asked.Dump widths) = DumpAsked widths
+plain_asked (asked.Fsck widths) = FsckAsked widths
+plain_asked (asked.Fix widths) = FixAsked widths
+plain_asked (asked.Weave w) = WeaveAsked (plain_weave w)
 
 abbrev pub batch_of : Option batch.Batch → Option Batch
 batch_of b = option_map plain_batch b
@@ -48,6 +61,12 @@ stdio_of s = option_map plain_stdio s
 abbrev pub serve_of : Option serve.Serve → Option Serve
 serve_of s = option_map plain_serve s
 
+abbrev pub import_of : Option import.Import → Option Import
+import_of i = option_map plain_import i
+
+abbrev pub weave_of : Option weave.Weave → Option Weave
+weave_of w = option_map plain_weave w
+
 abbrev pub what_asked : Option code.Asked → Option Asked
 what_asked a = option_map plain_asked a
 
@@ -60,8 +79,9 @@ pub record IsFleet (s : serve.Serve) : Type 0 where
   pub some_regions : 1 ≤ s.regions
   pub few_regions : s.regions ≤ 16
 
--- a range ends at its start or behind it, and at the last time or before, and a fleet has its limits
+-- a range ends at its start or behind it, and at the last time or before, a fleet has its limits, and so have operations
 abbrev pub InRange : code.Asked → Type 0
 InRange (asked.Batch b) = (b.start ≤ b.end) × (b.end ≤ LAST_TIME)
-InRange (asked.Stdio s) = Unit {0}
 InRange (asked.Serve s) = IsFleet s
+InRange (asked.Weave w) = w.count ≤ 1000000
+InRange _ = Unit {0}

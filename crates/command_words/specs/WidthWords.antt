@@ -1,5 +1,5 @@
 -- How many bytes the ids of each kind have, by their word.
-use Rattle.std.specs.Prelude.{ℕ, ◌&&◌, nat_eq, List, [], ◌∷◌, Option, None, Some, if◌then◌else◌}
+use Rattle.std.specs.Prelude.{ℕ, ◌&&◌, nat_eq, [], ◌∷◌, Option, None, Some, if◌then◌else◌}
 use Rattle.std.proofs.Common.{lit≤}
 use Rattle.clap.specs.Walk.{Text}
 use Rattle.row_key.specs.IdWidths.{IsWidth}

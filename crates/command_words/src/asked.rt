@@ -52,6 +52,20 @@ pub struct Serve<'a> {
     pub appends: bool,
 }
 
+/// What `import` is asked: whether rows are compacted, and how many bytes the ids of each kind have.
+#[derive(Clone, Copy, Drop)]
+pub struct Import {
+    pub compact: bool,
+    pub widths: Widths,
+}
+
+/// What `weave` is asked: the number from which it draws, and how many operations there are, at most 1,000,000.
+#[derive(Clone, Copy, Drop)]
+pub struct Weave {
+    pub seed: u64,
+    pub count: u32,
+}
+
 /// What words ask for.
 #[derive(Clone, Copy, Drop)]
 pub enum Asked<'a> {
@@ -61,4 +75,14 @@ pub enum Asked<'a> {
     Stdio { stdio: Stdio<'a> },
     /// Connections on a port.
     Serve { serve: Serve<'a> },
+    /// The listing of a store that has the points of the input.
+    Import { import: Import },
+    /// The points of a listing whose ids have these widths.
+    Dump { widths: Widths },
+    /// What is wrong with a listing whose ids have these widths.
+    Fsck { widths: Widths },
+    /// A listing whose ids have these widths, mended.
+    Fix { widths: Widths },
+    /// What daemons leave that are interleaved by a number.
+    Weave { weave: Weave },
 }

@@ -2,8 +2,7 @@
 #![tactic(auto)]
 
 pub mod asked;
-mod grammar;
 pub mod word_reader;
 
-pub use asked::{Asked, Batch, NameOptions, PatternTexts, Serve, Stdio};
+pub use asked::{Asked, Batch, Import, NameOptions, PatternTexts, Serve, Stdio, Weave};
 pub use word_reader::read_words;

@@ -4,15 +4,15 @@ ghost use Rattle.tsd_base.specs.declared.times.TheConstants.{LAST_TIME};
 ghost use Rattle.clap.specs.Matches.{found_of};
 ghost use Rattle.clap.specs.Walk.{first_of, rows_of};
 ghost use Rattle.clap.specs.Simple.{subcommand_rows_of};
-ghost use Rattle.command_words.specs.CommandWords.{are_names, asked_by, asked_in, asked_of, batch_from, batch_in, count_of, is_given, is_name, is_pattern, names_in, names_with, number_within, patterns_in, port_in, serve_in, stdio_in, within};
-ghost use Rattle.command_words.specs.PlainAsked.{InRange, IsFleet, batch_of, names_of, plain_names, plain_pattern, plain_patterns, serve_of, stdio_of, what_asked};
+ghost use Rattle.command_words.specs.CommandWords.{are_names, asked_by, asked_in, asked_of, batch_from, batch_in, count_of, import_in, is_given, is_name, is_pattern, names_in, names_with, number_within, patterns_in, port_in, serve_in, stdio_in, tool_asked, weave_in, widths_in, within};
+ghost use Rattle.command_words.specs.PlainAsked.{InRange, IsFleet, batch_of, import_of, names_of, plain_names, plain_pattern, plain_patterns, serve_of, stdio_of, weave_of, what_asked};
 ghost use Rattle.command_words.specs.WidthWords.{width_of, widths_from, widths_said};
 ghost use Rattle.row_key.specs.IdWidths.{IsWidth};
 
-use crate::asked::{Asked, Batch, NameOptions, PatternTexts, Serve, Stdio};
-use crate::grammar::grammar;
+use crate::asked::{Asked, Batch, Import, NameOptions, PatternTexts, Serve, Stdio, Weave};
 use clap::ArgMatches;
 use clap::error::ErrorKind;
+use command_grammar::grammar::grammar;
 use query_times::query_times::read_fixed_time;
 use row_key::Widths;
 use std::alloc::{AllocError, Global};
@@ -34,6 +34,9 @@ const MOST_REGIONS: u32 = 16;
 
 const USUAL_REGIONS: u32 = 4;
 
+// How many operations are woven at most.
+const MOST_OPERATIONS: u32 = 1_000_000;
+
 /// Reads the words of a command, without the program's name. None where they are none, also where they ask for help or
 /// for a version. It fails only for want of memory.
 ///
@@ -42,8 +45,9 @@ const USUAL_REGIONS: u32 = 4;
 /// `--no-auto-tagk` and `--no-auto-tagv`, and with a value `--allow-metric P`, `--allow-tagk P` and `--allow-tagv P`, where P
 /// is the bytes of a name as `Name::read` reads it, and `--appends`. `serve PORT` may have these too, and `--daemons N`, `--workers N` and
 /// `--regions N`, with a port from 0 to 65535, 1 to 8 daemons, 1 to 16 workers of each and 1 to 16 regions, in digits alone.
-/// `stdio` alone may have `--widths M,K,V`, three digits from 2 to 4 with commas between them: how many bytes the ids of metrics, of
-/// tag keys and of tag values have. An option is given at most once, and `clap` says where it may stand.
+/// `stdio`, `import`, `dump`, `fsck` and `fix` may have `--widths M,K,V`, three digits from 2 to 4 with commas between them: how many bytes
+/// the ids of metrics, of tag keys and of tag values have. `import` may have `--compact` too. `weave SEED N` has a seed that is a `u64` and
+/// at most 1,000,000 operations, in digits alone. An option is given at most once, and `clap` says where it may stand.
 pub fn read_words<'a>(alloc: Global, words: &'a [String]) -> Result<Option<Asked<'a>>, AllocError>
     ensures asked { IfOk result (λ found. what_asked found ≡ asked_of (map string_bytes words.entry.now)) }
     ensures range { IfOk result (λ found. IfSome found InRange) }
@@ -86,7 +90,72 @@ fn asked_by<'a>(alloc: Global, name: &[u8], words: &ArgMatches<'a>) -> Option<As
         let serve = serve_in(alloc, words)?;
         return Some(Asked::Serve { serve });
     }
+    tool_asked(name, words)
+}
+
+/// What a tool on a store as text, of this name and with these words, is asked for.
+fn tool_asked<'a>(name: &[u8], words: &ArgMatches<'a>) -> Option<Asked<'a>>
+    ensures asked { what_asked result ≡ tool_asked name.now (rows_of (found_of words.now)) }
+    ensures range { IfSome result InRange }
+{
+    if name == b"import".as_slice() {
+        let import = import_in(words)?;
+        return Some(Asked::Import { import });
+    }
+    if name == b"dump".as_slice() {
+        let widths = widths_in(words)?;
+        return Some(Asked::Dump { widths });
+    }
+    if name == b"fsck".as_slice() {
+        let widths = widths_in(words)?;
+        return Some(Asked::Fsck { widths });
+    }
+    if name == b"fix".as_slice() {
+        let widths = widths_in(words)?;
+        return Some(Asked::Fix { widths });
+    }
+    if name == b"weave".as_slice() {
+        let weave = weave_in(words)?;
+        return Some(Asked::Weave { weave });
+    }
     None
+}
+
+/// What `import` is asked.
+fn import_in(words: &ArgMatches<'_>) -> Option<Import>
+    ensures { import_of result ≡ import_in (rows_of (found_of words.now)) }
+{
+    let widths = widths_in(words)?;
+    let compact = is_given(words, "compact");
+    Some(Import { compact, widths })
+}
+
+/// What `weave` is asked.
+fn weave_in(words: &ArgMatches<'_>) -> Option<Weave>
+    ensures asked { weave_of result ≡ weave_in (rows_of (found_of words.now)) }
+    ensures range { IfSome result (λ weave. weave.count ≤ 1000000) }
+{
+    let seed = seed_of(said(words, "seed")?)?;
+    let count = number_within(0, MOST_OPERATIONS, text(words, "count")?)?;
+    Some(Weave { seed, count })
+}
+
+/// A number in digits alone, of any length, that is a `u64`.
+fn seed_of(text: &str) -> Option<u64>
+    ensures { result ≡ number_within 0 18446744073709551615 text.now }
+{
+    read_digits(text.as_bytes())?;
+    match text.parse::<u64>() {
+        Ok(seed) => Some(seed),
+        Err(_error) => None,
+    }
+}
+
+/// How many bytes the ids of each kind have, and three where nothing is said.
+fn widths_in(words: &ArgMatches<'_>) -> Option<Widths>
+    ensures { result ≡ widths_in (rows_of (found_of words.now)) }
+{
+    widths_said(text(words, "widths"))
 }
 
 /// What `batch` is asked.
@@ -106,7 +175,7 @@ fn stdio_in<'a>(alloc: Global, words: &ArgMatches<'a>) -> Option<Stdio<'a>>
     ensures { stdio_of result ≡ stdio_in (rows_of (found_of words.now)) }
 {
     let names = names_in(alloc, words)?;
-    let widths = widths_said(text(words, "widths"))?;
+    let widths = widths_in(words)?;
     let appends = is_given(words, "appends");
     Some(Stdio {
         names,
@@ -275,11 +344,18 @@ fn names_with<'a>(words: &ArgMatches<'_>, patterns: PatternTexts<'a>) -> NameOpt
     }
 }
 
+/// A word, as it was said.
+fn said<'a>(words: &ArgMatches<'a>, id: &str) -> Option<&'a str>
+    ensures { option_map (λ text. text.now) result ≡ first_of id.now (rows_of (found_of words.now)) }
+{
+    words.get_str(id)
+}
+
 /// The text of a word.
 fn text<'a>(words: &ArgMatches<'a>, id: &str) -> Option<&'a [u8]>
     ensures { option_map (λ text. text.now) result ≡ first_of id.now (rows_of (found_of words.now)) }
 {
-    match words.get_str(id) {
+    match said(words, id) {
         Some(text) => Some(text.as_bytes()),
         None => None,
     }

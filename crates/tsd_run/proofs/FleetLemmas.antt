@@ -6,7 +6,7 @@ use Rattle.point_put.specs.Admissions.{Admission}
 use Rattle.tsd_fleet.specs.declared.fleet_end.FleetEnd.{FleetEnd}
 use Rattle.serve_job.specs.FleetRuns.{RunsFleet}
 use Rattle.command_words.specs.CommandWords.{Serve, Asked}
-use Rattle.command_words.specs.CommandWords.Asked.{BatchAsked, StdioAsked, ServeAsked}
+use Rattle.command_words.specs.CommandWords.Asked.{BatchAsked, StdioAsked, ServeAsked, ImportAsked, DumpAsked, FsckAsked, FixAsked, WeaveAsked}
 use Rattle.tsd_run.specs.declared.status.Status.{Status}
 use Rattle.tsd_run.specs.declared.status.Status.TheVariants.{Memory}
 use Rattle.tsd_run.specs.FleetStatuses.{RunsAny, ServesFleet, status_of}
@@ -31,4 +31,9 @@ pub unread : (inlets_tell outlets_tell : Type 0) (taken left held moments : Opti
 unread inlets_tell outlets_tell taken left held moments back counts faults (Some (ServeAsked s)) = unserved s Memory refl
 unread inlets_tell outlets_tell taken left held moments back counts faults (Some (BatchAsked batch)) = runs_unread taken left held moments (Some (BatchAsked batch))
 unread inlets_tell outlets_tell taken left held moments back counts faults (Some (StdioAsked s)) = runs_unread taken left held moments (Some (StdioAsked s))
+unread inlets_tell outlets_tell taken left held moments back counts faults (Some (ImportAsked i)) = runs_unread taken left held moments (Some (ImportAsked i))
+unread inlets_tell outlets_tell taken left held moments back counts faults (Some (DumpAsked widths)) = runs_unread taken left held moments (Some (DumpAsked widths))
+unread inlets_tell outlets_tell taken left held moments back counts faults (Some (FsckAsked widths)) = runs_unread taken left held moments (Some (FsckAsked widths))
+unread inlets_tell outlets_tell taken left held moments back counts faults (Some (FixAsked widths)) = runs_unread taken left held moments (Some (FixAsked widths))
+unread inlets_tell outlets_tell taken left held moments back counts faults (Some (WeaveAsked w)) = runs_unread taken left held moments (Some (WeaveAsked w))
 unread inlets_tell outlets_tell taken left held moments back counts faults None = runs_unread taken left held moments None

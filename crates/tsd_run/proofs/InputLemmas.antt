@@ -1,7 +1,7 @@
 -- Reading lines one after the other.
 use Rattle.std.proofs.Common.{◌≡◌, ℕ, ◌+◌, ◌^◌, ◌<◌, ◌≤◌, false, List, [], ◌∷◌, ◌++◌, length, take, drop, refl, sym, ap, subst, ◌∙◌, append_assoc, append-nil, add-zero, arith, cond, lt-ltb, length-append}
 use Rattle.std.specs.Prelude.{codes, Option, Some, None, Result, Ok, Err}
-use Rattle.batch_job.specs.PendingIds.{Names}
+use Rattle.point_lines.specs.NameIds.{Names}
 use Rattle.tsd_run.specs.declared.input.BadLine.{BadLine}
 use Rattle.std.specs.Io.KnownBytes.{Appends, Consumes}
 use Rattle.std.proofs.KnownBytes.{Appends-nil, Consumes-nil, Appends-trans, Consumes-trans}
@@ -18,7 +18,7 @@ use Rattle.batch_job.specs.AddedTexts.{AddsText}
 use Rattle.batch_job.specs.Pending.{AddsPoint}
 use Rattle.batch_job.specs.declared.point_line.LineOutcome.TheVariants as outcome
 use Rattle.batch_job.specs.PointLines.{Judged, judged, judged_text, points_from, points_of, with_point, with_line, with_points}
-use Rattle.batch_job.specs.PointLines.Judged.{Blank, Taken, Refused}
+use Rattle.point_lines.specs.LinePoints.Judged.{Blank, Taken, Refused}
 use Rattle.tsd_run.specs.Inputs.{IsRead, IsBad, ReadsLine, IsUnrefused, full_text, refusal}
 use Rattle.batch_job.proofs.CallerLemmas.{ok_is}
 use Rattle.line_stream.specs.declared.line.TheConstants.{LONGEST_LINE}

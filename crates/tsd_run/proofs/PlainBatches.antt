@@ -3,8 +3,7 @@ use Rattle.std.proofs.Common.{◌≡◌, ◌⊎◌, inl, inr, ℕ, ℤ, Bool, tr
 use Rattle.std.specs.Prelude.{Contains, filter, find, nat_le, nat_lt, not, Option, None, Some, option_map, Result, Ok, Err, if◌then◌else◌}
 use Rattle.std.specs.Cmp.Lexicographic.{texts_ties}
 use Rattle.std.specs.List.{flat_map, list_any}
-use Rattle.std.specs.Ordering.{int_eq}
-use Rattle.std.proofs.lemmas.Bool.{and_parts, true≢false}
+use Rattle.std.proofs.lemmas.Bool.{and_parts}
 use Rattle.std.proofs.lemmas.Bool.Decides.{Decides-int_eq}
 use Rattle.std.proofs.lemmas.List.{append-nil}
 use Rattle.std.proofs.lemmas.List.Elements.{Contains-append_cases}
@@ -29,14 +28,14 @@ use Rattle.query_text.specs.Subs.{sub_of}
 use Rattle.query_text.specs.declared.queries.Query.{Query}
 use Rattle.query_text.specs.declared.queries.Sub.{Sub}
 use Rattle.row_scan.specs.RowReadings.{Chosen}
-use Rattle.query_run.specs.AskedQueries.{barred, barred_by, barred_down, is_wanted, wanted}
+use Rattle.query_run.specs.AskedQueries.{barred, barred_by, barred_down, wanted}
 use Rattle.query_run.specs.QueryAnswers.{answer}
 use Rattle.query_run.specs.declared.fault.AskFault.{AskFault}
 use Rattle.query_run.specs.declared.fault.AskFault.TheVariants.{TooManyBuckets, Unknown, Duplicate, Overflow, OutOfMemory, Stopped}
 use Rattle.query_run.specs.Parts.{NameOf}
 use Rattle.batch_job.specs.Conflicts.{Conflict, are_conflict, conflict_of, conflicts, first_conflict, is_first}
 use Rattle.batch_job.specs.JobAnswers.{answered, first_unknown, kept, names_after, unless, unless_overflow}
-use Rattle.batch_job.specs.PendingIds.{Names}
+use Rattle.point_lines.specs.NameIds.{Names}
 use Rattle.batch_job.specs.PointLines.{points_of}
 use Rattle.command_words.specs.CommandWords.{Batch}
 use Rattle.tsd_run.specs.declared.status.Status.{Status}

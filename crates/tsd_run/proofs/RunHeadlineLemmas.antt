@@ -1,5 +1,5 @@
 -- The headline follows of what a run says.
-use Rattle.std.proofs.Common.{◌≡◌, ◌⊎◌, inl, inr, ℕ, ◌+◌, ◌≤◌, Bool, true, false, List, [], ◌∷◌, ◌++◌, map, refl, sym, ap, subst, ◌∙◌, arith, rules}
+use Rattle.std.proofs.Common.{◌≡◌, inl, inr, ℕ, ◌+◌, ◌≤◌, Bool, true, false, List, [], refl, sym, ap, subst, ◌∙◌, arith, rules}
 use Rattle.std.specs.Prelude.{All, Option, None, Some, nat_le, if◌then◌else◌, option_and_then}
 use Rattle.std.specs.Io.KnownBytes.{Appends}
 use Rattle.std.proofs.lemmas.List.{append-nil}
@@ -7,7 +7,6 @@ use Rattle.std.proofs.lemmas.List.Elements.{All-nil}
 use Rattle.row_key.specs.Made.{three}
 use Rattle.tsd_doors.specs.Links.{Counts, Shut}
 use Rattle.link_workers.specs.Returns.{AllEnd}
-use Rattle.cell_model.specs.declared.events.Entry.{Entry}
 use Rattle.cell_model.specs.History.{History, base_of, len, first}
 use Rattle.cell_model.specs.History.History.{Base, Then}
 use Rattle.cell_model.specs.IdRows.{NameOf, IsResolved, id_number, name_row}
@@ -21,19 +20,18 @@ use Rattle.list_lemmas.proofs.BoolTests.{not_Some}
 use Rattle.list_lemmas.proofs.ListMembers.{all_in}
 use Rattle.list_lemmas.proofs.ListParts.{all_of}
 use Rattle.point_put.specs.Admissions.{Admission}
-use Rattle.tsd_daemon.specs.ServedConns.{Passes}
 use Rattle.tsd_daemon.specs.TakenInTurn.{InTurn}
 use Rattle.tsd_daemon.specs.TakenInTurn.InTurn.{none_yet, then_one}
 use Rattle.tsd_daemon.proofs.CallerLemmas.{one_id_each, served_headline}
 use Rattle.conn_workers.specs.ServedLinks.{LinkServed, ServedInTurn, ServedLink}
 use Rattle.conn_workers.specs.ServedLinks.ServedInTurn.{none_yet as none_served, then_served}
-use Rattle.site_workers.specs.GatheredLinks.{AllInTurn, CallerLinks, links_of}
+use Rattle.site_workers.specs.GatheredLinks.{AllInTurn, CallerLinks}
 use Rattle.tsd_fleet.specs.FleetServes.{IsTally, listening_line}
 use Rattle.tsd_fleet.specs.declared.fleet_end.FleetEnd.{FleetEnd}
 use Rattle.tsd_fleet.specs.declared.fleet_end.FleetEnd.TheVariants as end
-use Rattle.serve_job.specs.FleetRuns.{RunsFleet, has_no_more}
-use Rattle.command_words.specs.CommandWords.{Asked, Batch, Serve, Stdio}
-use Rattle.command_words.specs.CommandWords.Asked.{BatchAsked, StdioAsked, ServeAsked}
+use Rattle.serve_job.specs.FleetRuns.{has_no_more}
+use Rattle.command_words.specs.CommandWords.{Asked, Serve, Stdio}
+use Rattle.command_words.specs.CommandWords.Asked.{BatchAsked, StdioAsked, ServeAsked, ImportAsked, DumpAsked, FsckAsked, FixAsked, WeaveAsked}
 use Rattle.tsd_run.specs.declared.status.Status.{Status}
 use Rattle.tsd_run.specs.declared.status.Status.TheVariants.{Done, Memory}
 use Rattle.tsd_run.specs.FleetStatuses.{RunsAny, ServesFleet, status_of}
@@ -107,6 +105,11 @@ module _ (taken taken' left left' held held' moments moments' : Option (List ℕ
     so = stdio_headline s status p.input p.output p.times p.so;
   }
   run_headline (Some (ServeAsked s)) p = tt
+  run_headline (Some (ImportAsked i)) p = tt
+  run_headline (Some (DumpAsked widths)) p = tt
+  run_headline (Some (FsckAsked widths)) p = tt
+  run_headline (Some (FixAsked widths)) p = tt
+  run_headline (Some (WeaveAsked w)) p = tt
   run_headline None p = tt
 
 -- ---- a fleet
@@ -179,4 +182,9 @@ module _ (inlets_tell outlets_tell : Type 0) (taken taken' left left' held held'
   any_headline (Some (ServeAsked s)) serves = fleet_headline inlets_tell outlets_tell moments back back' counts counts' faults faults' held held' status s serves
   any_headline (Some (BatchAsked batch)) runs = run_headline taken taken' left left' held held' moments moments' status (Some (BatchAsked batch)) runs
   any_headline (Some (StdioAsked s)) runs = run_headline taken taken' left left' held held' moments moments' status (Some (StdioAsked s)) runs
+  any_headline (Some (ImportAsked i)) runs = run_headline taken taken' left left' held held' moments moments' status (Some (ImportAsked i)) runs
+  any_headline (Some (DumpAsked widths)) runs = run_headline taken taken' left left' held held' moments moments' status (Some (DumpAsked widths)) runs
+  any_headline (Some (FsckAsked widths)) runs = run_headline taken taken' left left' held held' moments moments' status (Some (FsckAsked widths)) runs
+  any_headline (Some (FixAsked widths)) runs = run_headline taken taken' left left' held held' moments moments' status (Some (FixAsked widths)) runs
+  any_headline (Some (WeaveAsked w)) runs = run_headline taken taken' left left' held held' moments moments' status (Some (WeaveAsked w)) runs
   any_headline None runs = run_headline taken taken' left left' held held' moments moments' status None runs

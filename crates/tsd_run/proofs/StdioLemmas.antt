@@ -1,9 +1,9 @@
 -- Connections that are served as the words say, and runs whose words, or whose rule for new names, had no memory.
-use Rattle.std.proofs.Common.{◌≡◌, ℕ, Bool, List, [], false, refl, subst, ap, ◌∙◌}
+use Rattle.std.proofs.Common.{◌≡◌, inl, ℕ, Bool, List, [], false, refl, subst, ap, ◌∙◌}
 use Rattle.std.specs.Prelude.{Option, None, Some}
 use Rattle.std.proofs.KnownBytes.{Appends-nil, Consumes-nil}
 use Rattle.command_words.specs.CommandWords.{Batch, NameOptions, Stdio, Asked}
-use Rattle.command_words.specs.CommandWords.Asked.{BatchAsked, StdioAsked, ServeAsked}
+use Rattle.command_words.specs.CommandWords.Asked.{BatchAsked, StdioAsked, ServeAsked, ImportAsked, DumpAsked, FsckAsked, FixAsked, WeaveAsked}
 use Rattle.tsd_hooks.specs.declared.name_patterns.Patterns.{Patterns}
 use Rattle.point_put.specs.declared.config.Config.{Config}
 use Rattle.point_put.specs.Admissions.{Admission, admission}
@@ -12,9 +12,13 @@ use Rattle.tsd_daemon.specs.ServedConns.{Passes}
 use Rattle.stdio_job.specs.LoneConnections.{ServesAlone}
 use Rattle.tsd_daemon.specs.declared.served.Served.TheVariants as served
 use Rattle.stdio_job.proofs.CallerLemmas.{none_served, nothing_fills}
+use Rattle.row_key.specs.declared.widths.Widths.{Widths}
+use Rattle.cell_listing.specs.ListedLines.{ListingRead}
+use Rattle.listing_job.specs.declared.listing_end.ListingEnd.TheVariants as listing
+use Rattle.listing_job.specs.ListingJobs.{Checked, Dumped, Fixed, Told}
 use Rattle.tsd_run.specs.declared.status.Status.{Status}
 use Rattle.tsd_run.specs.declared.status.Status.TheVariants.{Memory}
-use Rattle.tsd_run.specs.Runs.{HasStatus, Runs, RunsPrinted, ServesStdio, admission_of}
+use Rattle.tsd_run.specs.Runs.{HasStatus, Runs, RunsOver, RunsPrinted, ServesStdio, admission_of}
 use Rattle.tsd_run.proofs.RunLemmas.{nothing_taken}
 
 -- of these kinds and with these patterns names are given ids as the words say
@@ -52,9 +56,18 @@ module _ (taken left held moments : Option (List ℕ)) where
     so = (served.OutOfMemory, (none_served s.widths (admission_of s.names s.appends), nothing_fills), is);
   }
 
+  -- nor to read a listing
+  unread_listing : (Tells : ListingRead → Told → Type 0) (widths : Widths) → RunsOver Tells widths taken taken left left held held Memory
+  unread_listing Tells widths = (listing.OutOfMemory, record { bytes = []; takes = Appends-nil taken; leaves = Consumes-nil left; ends = inl refl }, refl)
+
   -- there was no memory for the words
   pub runs_unread : (asked : Option Asked) → Runs asked taken taken left left held held moments moments Memory
   runs_unread (Some (BatchAsked batch)) = (unread_printed (Some batch), refl)
   runs_unread (Some (StdioAsked s)) = unserved s Memory refl
   runs_unread (Some (ServeAsked s)) = (unread_printed None, refl)
+  runs_unread (Some (ImportAsked i)) = (unread_printed None, refl)
+  runs_unread (Some (DumpAsked widths)) = (unread_listing Dumped widths, refl)
+  runs_unread (Some (FsckAsked widths)) = (unread_listing Checked widths, refl)
+  runs_unread (Some (FixAsked widths)) = (unread_listing Fixed widths, refl)
+  runs_unread (Some (WeaveAsked w)) = (refl, refl, refl, refl)
   runs_unread None = (unread_printed None, refl)

@@ -7,11 +7,11 @@ use Rattle.tsd_run.specs.declared.run_fault.RunFault.TheVariants.{Failed, Full, 
 use Rattle.line_stream.specs.declared.line.TheConstants.{LONGEST_LINE}
 use Rattle.line_stream.specs.Lines.{Line, Splits}
 use Rattle.line_stream.specs.Reads.{IsFront}
-use Rattle.batch_job.specs.PendingIds.{Names}
+use Rattle.point_lines.specs.NameIds.{Names}
 use Rattle.tsd_run.specs.declared.input.BadLine.{BadLine}
 use Rattle.batch_job.specs.Pending.{Gathers, SoFar}
 use Rattle.batch_job.specs.PointLines.{Judged, judged, points_from, points_of, with_points}
-use Rattle.batch_job.specs.PointLines.Judged.{Blank, Taken, Refused}
+use Rattle.point_lines.specs.LinePoints.Judged.{Blank, Taken, Refused}
 use Rattle.batch_job.specs.NotedIds.{no_names, noted_all, exhausted_text}
 use Rattle.cell_model.specs.Layout.{names_of}
 use Rattle.tsd_base.specs.declared.kinds.Kind.{Kind}

@@ -19,7 +19,7 @@ use Rattle.query_run.specs.QueryAnswers.{answer}
 use Rattle.query_run.specs.declared.fault.AskFault.{AskFault}
 use Rattle.query_run.specs.declared.fault.AskFault.TheVariants.{Duplicate}
 use Rattle.command_words.specs.CommandWords.{Batch, Asked}
-use Rattle.command_words.specs.CommandWords.Asked.{BatchAsked, StdioAsked, ServeAsked}
+use Rattle.command_words.specs.CommandWords.Asked.{BatchAsked, StdioAsked, ServeAsked, ImportAsked, DumpAsked, FsckAsked, FixAsked, WeaveAsked}
 use Rattle.batch_job.specs.PointLines.{points_of}
 use Rattle.tsd_daemon.specs.declared.served.Served.{Served}
 use Rattle.tsd_daemon.specs.ServedConns.{Passes}
@@ -101,4 +101,9 @@ abbrev pub RunHeadline : Option Asked → (taken taken' left left' held held' mo
 RunHeadline (Some (BatchAsked batch)) taken taken' left left' held held' moments moments' status = Passes taken taken' left left' held held' moments moments' (BatchHeadline batch status)
 RunHeadline (Some (StdioAsked s)) taken taken' left left' held held' moments moments' status = Passes taken taken' left left' held held' moments moments' (StdioHeadline status)
 RunHeadline (Some (ServeAsked s)) taken taken' left left' held held' moments moments' status = Unit {0}
+RunHeadline (Some (ImportAsked i)) taken taken' left left' held held' moments moments' status = Unit {0}
+RunHeadline (Some (DumpAsked widths)) taken taken' left left' held held' moments moments' status = Unit {0}
+RunHeadline (Some (FsckAsked widths)) taken taken' left left' held held' moments moments' status = Unit {0}
+RunHeadline (Some (FixAsked widths)) taken taken' left left' held held' moments moments' status = Unit {0}
+RunHeadline (Some (WeaveAsked w)) taken taken' left left' held held' moments moments' status = Unit {0}
 RunHeadline None taken taken' left left' held held' moments moments' status = Unit {0}

@@ -12,9 +12,17 @@ use Rattle.tsd_daemon.specs.declared.served.Served.TheVariants as served
 use Rattle.tsd_daemon.specs.ServedConns.{Passes}
 use Rattle.stdio_job.specs.LoneConnections.{ServesAlone}
 use Rattle.command_words.specs.CommandWords.{Batch, NameOptions, Stdio, Asked}
-use Rattle.command_words.specs.CommandWords.Asked.{BatchAsked, StdioAsked, ServeAsked}
+use Rattle.command_words.specs.CommandWords.Asked.{BatchAsked, StdioAsked, ServeAsked, ImportAsked, DumpAsked, FsckAsked, FixAsked, WeaveAsked}
 use Rattle.query_text.specs.Subs.{sub_of}
 use Rattle.query_text.specs.declared.queries.Sub.{Sub}
+use Rattle.row_key.specs.declared.widths.Widths.{Widths}
+use Rattle.cell_listing.specs.ListedLines.{ListingRead}
+use Rattle.listing_job.specs.declared.listing_end.ListingEnd.{ListingEnd}
+use Rattle.listing_job.specs.declared.listing_end.ListingEnd.TheVariants as listing
+use Rattle.listing_job.specs.ListingJobs.{Checked, Dumped, Fixed, OverListing, Told}
+use Rattle.listing_print.specs.GivenTexts.{GaveFront}
+use Rattle.weave_counts.specs.declared.script_counts.Woven.{Woven}
+use Rattle.weave_counts.specs.WovenCounts.{CountsWoven, woven_text}
 use Rattle.tsd_run.specs.Inputs.{IsUnrefused}
 use Rattle.tsd_run.specs.Outcomes.{Outcome, outcome}
 use Rattle.tsd_run.specs.OutputText.{outcome_of}
@@ -116,9 +124,34 @@ abbrev pub is_stdio : Option Asked → Bool
 is_stdio (Some (StdioAsked s)) = true
 is_stdio asked = false
 
--- What a run of these words took and gave, the moments that its clock gives before and after, and its status. Words that are no command print the usage line, and so do those of a fleet, which waits for others.
+-- of each end of a job on a listing the status
+abbrev pub listing_status : ListingEnd → Status
+listing_status listing.Done = Done
+listing_status listing.Refused = Refused
+listing_status listing.ReadFault = ReadFault
+listing_status listing.WriteFault = WriteFault
+listing_status listing.OutOfMemory = Memory
+listing_status listing.SessionFull = SessionFull
+
+-- This was told of the listing, and the status is that of how the job ended.
+abbrev pub RunsOver : (ListingRead → Told → Type 0) → Widths → (taken taken' left left' held held' : Option (List ℕ)) → Status → Type 0
+RunsOver Tells widths taken taken' left left' held held' status = (end : ListingEnd) × OverListing Tells widths taken taken' left left' held held' end × (status ≡ listing_status end)
+
+-- the summary of a woven history was given, or a front of it where the sink failed
+abbrev pub Weaves : ℕ → (held held' : Option (List ℕ)) → Status → Type 0
+Weaves count held held' Done = (woven : Woven) × CountsWoven count woven × Appends held held' (woven_text woven)
+Weaves count held held' WriteFault = (woven : Woven) × CountsWoven count woven × GaveFront held held' (woven_text woven)
+Weaves count held held' Memory = held' ≡ held
+Weaves count held held' _ = ⊥
+
+-- What a run of these words took and gave, the moments that its clock gives before and after, and its status. Words that are no command print the usage line, and so do those of a fleet, which waits for others, and those of commands that aren't built.
 abbrev pub Runs : Option Asked → (taken taken' left left' held held' moments moments' : Option (List ℕ)) → Status → Type 0
 Runs (Some (BatchAsked batch)) taken taken' left left' held held' moments moments' status = RunsPrinted (Some batch) taken taken' left left' held held' status × (moments' ≡ moments)
 Runs (Some (StdioAsked s)) taken taken' left left' held held' moments moments' status = Passes taken taken' left left' held held' moments moments' (ServesStdio s status)
 Runs (Some (ServeAsked s)) taken taken' left left' held held' moments moments' status = RunsPrinted None taken taken' left left' held held' status × (moments' ≡ moments)
+Runs (Some (ImportAsked i)) taken taken' left left' held held' moments moments' status = RunsPrinted None taken taken' left left' held held' status × (moments' ≡ moments)
+Runs (Some (DumpAsked widths)) taken taken' left left' held held' moments moments' status = RunsOver Dumped widths taken taken' left left' held held' status × (moments' ≡ moments)
+Runs (Some (FsckAsked widths)) taken taken' left left' held held' moments moments' status = RunsOver Checked widths taken taken' left left' held held' status × (moments' ≡ moments)
+Runs (Some (FixAsked widths)) taken taken' left left' held held' moments moments' status = RunsOver Fixed widths taken taken' left left' held held' status × (moments' ≡ moments)
+Runs (Some (WeaveAsked w)) taken taken' left left' held held' moments moments' status = Weaves w.count held held' status × (taken' ≡ taken) × (left' ≡ left) × (moments' ≡ moments)
 Runs None taken taken' left left' held held' moments moments' status = RunsPrinted None taken taken' left left' held held' status × (moments' ≡ moments)

@@ -1,7 +1,7 @@
 //! Reading all points of an input.
 ghost use Rattle.std.specs.Prelude.{◌≡◌, ◌≤◌, [], codes, length, IfOk, IfErr};
 ghost use Rattle.line_stream.specs.declared.line.TheConstants.{LONGEST_LINE};
-ghost use Rattle.batch_job.specs.OpenRules.{AllowsAll};
+ghost use Rattle.point_lines.specs.OpenRules.{AllowsAll};
 ghost use Rattle.batch_job.specs.Pending.{Gathers, so_far};
 ghost use Rattle.batch_job.specs.NotedIds.{exhausted_text};
 ghost use Rattle.tsd_run.specs.Inputs.{ReadsLine, ReadsInputTo};

@@ -3,6 +3,7 @@
 
 mod input;
 mod new_names;
+mod on_listing;
 mod output_text;
 mod query;
 mod refusal;
@@ -11,3 +12,4 @@ pub mod run;
 pub mod run_alone;
 mod run_fault;
 pub mod status;
+mod weaving;

@@ -5,8 +5,8 @@ ghost use Rattle.query_text.specs.QueryFaultTexts.{query_fault_text};
 ghost use Rattle.tsd_hooks.specs.AllowedNames.{allowed};
 ghost use Rattle.tsd_io.specs.Causes.{Rose};
 ghost use Rattle.batch_job.specs.JobAnswers.{CanAsk};
-ghost use Rattle.batch_job.specs.OpenRules.{AllowsAll};
-ghost use Rattle.batch_job.specs.PendingIds.{no_names};
+ghost use Rattle.point_lines.specs.OpenRules.{AllowsAll};
+ghost use Rattle.point_lines.specs.NameIds.{no_names};
 ghost use Rattle.batch_job.specs.Storing.{IsNaming};
 ghost use Rattle.command_words.specs.CommandWords as plain;
 ghost use Rattle.command_words.specs.CommandWords.{asked_of};
@@ -21,12 +21,14 @@ ghost use Rattle.tsd_run.specs.Runs.{HasStatus, Runs, RunsPrinted, ServesStdio, 
 
 use crate::input::{BadLine, read_points};
 use crate::new_names::{config_of, patterns_of};
+use crate::on_listing::{dump, fix, fsck};
 use crate::output_text::Printed;
 use crate::query::read_query;
 use crate::refusal::bad_query;
 use crate::reply_line::printed_answer;
 use crate::run_fault::RunFault;
 use crate::status::Status;
+use crate::weaving::run_weave;
 use batch_job::answer::answer;
 use batch_job::pending::Gathered;
 use cell_model::Rows;
@@ -78,6 +80,13 @@ struct Decided<H> {
 /// name that has no id is given one only where it begins with the P of its kind, if there is one. With `--appends` a point is added to the
 /// column of its row, and else it gets a cell. The ids of metrics have M bytes, those of tag keys K and those of tag values V, each 2 to 4,
 /// and three where nothing is said.
+///
+/// `dump`, `fsck` and `fix`, each with `[--widths M,K,V]`, read the listing of a store, whose ids have these widths, to its end. `dump`
+/// prints its points, or the first thing that is wrong with it. `fsck` prints what is wrong with it, and `fix` prints it mended.
+///
+/// `weave SEED N` runs the script of SEED, in which three daemons put, compact and ask over one store, N operations of the first, and prints
+/// five lines: the operations, the points accepted, the ids given of each kind, those that no name has, and the cells of points. It takes
+/// nothing of the input and asks no halt.
 ///
 /// Words that are no command print the usage line, and so does `serve`, which waits for connections. No command but `stdio` asks the clock.
 pub fn run_alone<S: Source, K: Sink, C: Clock, H: Halt + Drop>(
@@ -148,7 +157,25 @@ pub(crate) fn act<S: Source, K: Sink, C: Clock, H: Halt + Drop>(
     match asked {
         Some(Asked::Stdio { stdio }) => serve(alloc, &stdio, input, output, clock, halt),
         Some(Asked::Batch { batch }) => print(alloc, Some(batch), input, output, halt),
-        Some(Asked::Serve { .. }) | None => print(alloc, None, input, output, halt),
+        Some(Asked::Dump { widths }) => Ended {
+            status: dump(alloc, widths, input, output),
+            halt,
+        },
+        Some(Asked::Fsck { widths }) => Ended {
+            status: fsck(alloc, widths, input, output),
+            halt,
+        },
+        Some(Asked::Fix { widths }) => Ended {
+            status: fix(alloc, widths, input, output),
+            halt,
+        },
+        Some(Asked::Weave { weave }) => Ended {
+            status: run_weave(alloc, weave.seed, weave.count, output),
+            halt,
+        },
+        Some(Asked::Serve { .. } | Asked::Import { .. }) | None => {
+            print(alloc, None, input, output, halt)
+        }
     }
 }
 

@@ -3,15 +3,11 @@ use Rattle.std.specs.Borrow.{Bor}
 use Rattle.std.specs.Prelude.{Option, Some, option_map}
 use Rattle.clap.specs.Matches.{found_of}
 use Rattle.clap.specs.Walk.{first_of, rows_of}
-use Rattle.clap.proofs.WalkLemmas.{first_value-rows}
 use Rattle.command_words.proofs.word_reader.text.Goals as goal
 
 pub returns-in-Some : goal.returns-in-Some
 returns-in-Some c =
-    let found = c.get_str.ensures ∙ first_value-rows (found_of c.args.words.now) c.args.id.now in
-    ap Some c.as_bytes.ensures.value ∙ subst (λ (o : Option (Bor (List ℕ))). option_map (λ s. s.now) o ≡ first_of c.args.id.now (rows_of (found_of c.args.words.now))) c.in-Some.is found
+    ap Some c.as_bytes.ensures.value ∙ subst (λ (o : Option (Bor (List ℕ))). option_map (λ s. s.now) o ≡ first_of c.args.id.now (rows_of (found_of c.args.words.now))) c.in-Some.is c.said.ensures
 
 pub returns-in-None : goal.returns-in-None
-returns-in-None c =
-    let found = c.get_str.ensures ∙ first_value-rows (found_of c.args.words.now) c.args.id.now in
-    subst (λ (o : Option (Bor (List ℕ))). option_map (λ s. s.now) o ≡ first_of c.args.id.now (rows_of (found_of c.args.words.now))) c.in-None.is found
+returns-in-None c = subst (λ (o : Option (Bor (List ℕ))). option_map (λ s. s.now) o ≡ first_of c.args.id.now (rows_of (found_of c.args.words.now))) c.in-None.is c.said.ensures

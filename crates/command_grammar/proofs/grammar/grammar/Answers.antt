@@ -1,0 +1,10 @@
+use Rattle.std.proofs.Common.{◌∙◌, ap}
+use Rattle.command_grammar.specs.Grammar.{with_connections, with_listings, with_makers}
+use Rattle.command_grammar.proofs.GrammarLemmas.{made_as}
+use Rattle.command_grammar.proofs.grammar.grammar.Goals as goal
+
+pub returns : goal.returns
+returns c =
+    let connections = c.in_ok-command.ensures.app ∙ ap with_connections c.root-command.ensures.app in
+    let makers = c.in_ok-command-2.ensures.app ∙ ap with_makers connections in
+    made_as c.with_listings.result (ap with_listings makers) c.with_listings.ensures.app

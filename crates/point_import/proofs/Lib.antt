@@ -1,0 +1,4 @@
+mod AcceptedLines
+mod AskedNames
+mod AskedPuts
+mod Numbering

@@ -1,0 +1,4 @@
+pub mod PutPoints
+pub mod ImportFaults
+pub mod ImportedLines
+pub mod LoneImports

@@ -1,0 +1,4 @@
+pub mod NameIds
+pub mod LinePoints
+pub mod OpenRules
+pub mod LoneHistories
