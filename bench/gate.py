@@ -38,6 +38,7 @@ def descends(pid, root, stats):
 def look(root, spent):
     """Notes what each prover process has taken so far."""
     stats = stats_of_all()
+    provers = {}
     for pid, fields in stats.items():
         try:
             with open(f"/proc/{pid}/cmdline") as file:
@@ -45,12 +46,17 @@ def look(root, spent):
             folder = os.readlink(f"/proc/{pid}/cwd")
         except OSError:
             continue
-        if os.path.basename(words[0]) != "rattle" or "--crate-name" not in words or not descends(pid, root, stats):
+        if os.path.basename(words[0]) == "rattle" and "--crate-name" in words and descends(pid, root, stats):
+            provers[pid] = (words, folder)
+    for pid, (words, folder) in provers.items():
+        fields = stats[pid]
+        # A prover's own processes are counted with it, as they end: utime, stime, and the same of its children.
+        if int(fields[1]) in provers:
             continue
         crate = words[words.index("--crate-name") + 1]
         kind = "edits" if "/rt-edit" in folder else "tests" if "--test" in words else "check"
-        # The process by its number and the time of its start: utime and stime stand before.
-        spent[pid, fields[19]] = (crate, kind, (int(fields[11]) + int(fields[12])) / TICKS)
+        # The process by its number and the time of its start.
+        spent[pid, fields[19]] = (crate, kind, sum(int(fields[i]) for i in (11, 12, 13, 14)) / TICKS)
 
 
 def main():
