@@ -1,5 +1,6 @@
 //! Why a JSON value is no point.
-ghost use Rattle.std.specs.Prelude.{◌≡◌, ◌++◌, OnOk};
+ghost use Rattle.std.specs.Prelude.{◌≡◌, ◌++◌, OnOk, OnErr};
+ghost use Rattle.tsd_base.specs.Faults.{Keeps};
 ghost use Rattle.json_points.specs.declared.fault.ElementFault.TheVariants.{OutOfMemory};
 ghost use Rattle.json_points.specs.ElementFaults.{element_fault_text, from_tags, member_text};
 
@@ -48,10 +49,23 @@ impl Member {
 }
 
 impl ElementFault {
-    /// Writes why an element is no point, behind what was written before. It fails only for want of memory.
-    #[tactic(auto, using(std::proofs::lemmas::List::append_assoc), unfolding(crate::specs::ElementFaults::element_fault_text))]
+    /// Writes why an element is no point, behind what was written before. It fails only for want of memory, and then nothing is written.
     pub fn write_text(&self, out: &mut Vec<u8>) -> Result<(), AllocError>
-        ensures { OnOk result (out.new.items ≡ out.old.items ++ element_fault_text self.now) }
+        ensures ok { OnOk result (out.new.items ≡ out.old.items ++ element_fault_text self.now) }
+        ensures err { OnErr result (out.new.items ≡ out.old.items) }
+    {
+        let start = out.len();
+        let written = self.write_behind(out);
+        if written.is_err() {
+            out.truncate(start);
+        }
+        written
+    }
+
+    #[tactic(auto, using(std::proofs::lemmas::List::append_assoc), unfolding(crate::specs::ElementFaults::element_fault_text))]
+    fn write_behind(&self, out: &mut Vec<u8>) -> Result<(), AllocError>
+        ensures ok { OnOk result (out.new.items ≡ out.old.items ++ element_fault_text self.now) }
+        ensures err { OnErr result (Keeps out.old.items out.new.items) }
     {
         match self {
             ElementFault::NotObject => out.extend_from_slice(b"not an object"),

@@ -79,6 +79,7 @@ module _ (taken taken' taken'' left left' left'' : Option (List ℕ)) (old mid n
         leaves = t.leaves;
         most = all_most p.more p.most;
         keeps = t.is;
+        loses = tt;
         finds = subst (λ (r : Reading). Finds left'' r (Ok Last)) (sym moved) (f, p.count.1 refl, some);
       }
     where
@@ -96,6 +97,7 @@ module _ (taken taken' taken'' left left' left'' : Option (List ℕ)) (old mid n
         leaves = Consumes-trans left left' left'' h.more p.more h.leaves p.leaves;
         most = all_most p.more p.most;
         keeps = all_is p.more p.keeps;
+        loses = tt;
         finds = subst (λ (r : Reading). Finds left'' r (Err fault.Failed)) (sym (sym (ap (λ r. with_bytes r p.more) h.is ∙ with_both old h.more p.more) ∙ same)) (f, some);
       }
   not_taken fault.Full f some p = absurd p.count
@@ -105,6 +107,7 @@ module _ (taken taken' taken'' left left' left'' : Option (List ℕ)) (old mid n
     leaves = Consumes-trans left left' left'' h.more p.more h.leaves p.leaves;
     most = all_most p.more p.most;
     keeps = tt;
+    loses = (h.more, p.more, refl, p.keeps ∙ h.is);
     finds = tt;
   }
 
@@ -118,10 +121,10 @@ module _ (taken taken' left left' : Option (List ℕ)) (old new : Reading) (h : 
   line_finds TooLong f = f
 
   pub line_next : (line : NextLine) → new.taken ≤ 2 ^ 40 → FirstLine new.longest new.bytes (Some line) → NextLineIs taken taken' left left' old (Ok line) new
-  line_next line most f = record { more = h.more; takes = h.takes; leaves = h.leaves; most = most_of most; keeps = h.is; finds = subst (λ (r : Reading). Finds left' r (Ok line)) h.is (line_finds line f) }
+  line_next line most f = record { more = h.more; takes = h.takes; leaves = h.leaves; most = most_of most; keeps = h.is; loses = tt; finds = subst (λ (r : Reading). Finds left' r (Ok line)) h.is (line_finds line f) }
 
   pub full : IsFront new.longest new.bytes → new.taken ≡ 2 ^ 40 → NextLineIs taken taken' left left' old (Err fault.Full) new
-  full f is = record { more = h.more; takes = h.takes; leaves = h.leaves; most = most_of (omega (arith, is)); keeps = h.is; finds = subst (λ (r : Reading). Finds left' r (Err fault.Full)) h.is (f, is) }
+  full f is = record { more = h.more; takes = h.takes; leaves = h.leaves; most = most_of (omega (arith, is)); keeps = h.is; loses = tt; finds = subst (λ (r : Reading). Finds left' r (Err fault.Full)) h.is (f, is) }
 
 -- ---- one piece
 -- nothing is fed where a piece couldn't be taken or there was no memory for it

@@ -72,6 +72,17 @@ IfKept (Err Failed) P = P
 IfKept (Err Full) P = P
 IfKept (Err OutOfMemory) P = Unit {0}
 
+-- where there was none, the pieces that were taken before the last one are kept
+abbrev pub IfNoRoom : {T : Type 0} → Result T InputFault → Type 0 → Type 0
+IfNoRoom (Ok answer) P = Unit {0}
+IfNoRoom (Err Failed) P = Unit {0}
+IfNoRoom (Err Full) P = Unit {0}
+IfNoRoom (Err OutOfMemory) P = P
+
+-- a front of what was taken is kept
+abbrev pub KeepsFront : Reading → List ℕ → Reading → Type 0
+KeepsFront old more new = (front : List ℕ) × (last : List ℕ) × (more ≡ front ++ last) × (new ≡ with_bytes old front)
+
 -- More bytes were taken of the source, up to 2^40 in all, and the next line is found in them.
 pub record NextLineIs (taken taken' left left' : Option (List ℕ)) (old : Reading) (result : Result NextLine InputFault) (new : Reading) : Type 0 where
   pub more : List ℕ
@@ -79,6 +90,7 @@ pub record NextLineIs (taken taken' left left' : Option (List ℕ)) (old : Readi
   pub leaves : Consumes left left' more
   pub most : old.taken + length more ≤ 2 ^ 40
   pub keeps : IfKept result (new ≡ with_bytes old more)
+  pub loses : IfNoRoom result (KeepsFront old more new)
   pub finds : Finds left' (with_bytes old more) result
 
 -- so many bytes were taken, of which none is the source's end; a failure takes none

@@ -108,6 +108,8 @@ impl LineReader {
     }
 
     /// What stands next, for which bytes of the source are taken where they are needed. Nothing is used up.
+    ///
+    /// Where there is no memory for a piece that was taken, that piece alone is lost.
     pub fn next_line<S: Source>(&mut self, source: &mut S) -> Result<NextLine, InputFault>
         ensures next { NextLineIs (S.taken source.old) (S.taken source.new) (S.left source.old) (S.left source.new) self.old result self.new }
         ensures later { S.faults source.old ≤ S.faults source.new }

@@ -1,5 +1,5 @@
 //! Why a request about names can't be answered.
-ghost use Rattle.std.specs.Prelude.{◌≡◌, ◌++◌, OnOk};
+ghost use Rattle.std.specs.Prelude.{◌≡◌, ◌++◌, OnOk, OnErr};
 ghost use Rattle.name_requests.specs.declared.fault.AssignFault.TheVariants as assign;
 ghost use Rattle.name_requests.specs.declared.fault.SuggestFault.TheVariants as suggest;
 ghost use Rattle.name_requests.specs.RequestFaults.{assign_fault_text, suggest_fault_text};
@@ -20,10 +20,12 @@ pub enum AssignFault {
 }
 
 impl AssignFault {
-    /// Writes why nothing can be given ids, behind what was written before. It fails only for want of memory.
+    /// Writes why nothing can be given ids, behind what was written before. It fails only for want of memory, and then nothing is
+    /// written.
     #[tactic(auto, unfolding(crate::specs::RequestFaults::assign_fault_text))]
     pub fn write_text(&self, out: &mut Vec<u8>) -> Result<(), AllocError>
-        ensures { OnOk result (out.new.items ≡ out.old.items ++ assign_fault_text self.now) }
+        ensures ok { OnOk result (out.new.items ≡ out.old.items ++ assign_fault_text self.now) }
+        ensures err { OnErr result (out.new.items ≡ out.old.items) }
     {
         match self {
             AssignFault::NotJson => out.extend_from_slice(b"body is not JSON"),
@@ -66,10 +68,12 @@ pub enum SuggestFault {
 }
 
 impl SuggestFault {
-    /// Writes why nothing can be suggested, behind what was written before. It fails only for want of memory.
+    /// Writes why nothing can be suggested, behind what was written before. It fails only for want of memory, and then nothing is
+    /// written.
     #[tactic(auto, unfolding(crate::specs::RequestFaults::suggest_fault_text))]
     pub fn write_text(&self, out: &mut Vec<u8>) -> Result<(), AllocError>
-        ensures { OnOk result (out.new.items ≡ out.old.items ++ suggest_fault_text self.now) }
+        ensures ok { OnOk result (out.new.items ≡ out.old.items ++ suggest_fault_text self.now) }
+        ensures err { OnErr result (out.new.items ≡ out.old.items) }
     {
         match self {
             SuggestFault::NotJson => out.extend_from_slice(b"body is not JSON"),

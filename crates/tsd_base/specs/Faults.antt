@@ -1,5 +1,5 @@
 -- The texts of faults.
-use Rattle.std.specs.Prelude.{ℕ, ◌+◌, ◌/◌, ◌%◌, nat_lt, List, [], ◌∷◌, ◌++◌, codes, decimal, if◌then◌else◌}
+use Rattle.std.specs.Prelude.{◌≡◌, ℕ, ◌+◌, ◌/◌, ◌%◌, nat_lt, List, [], ◌∷◌, ◌++◌, length, take, codes, decimal, if◌then◌else◌}
 use Rattle.tsd_base.specs.declared.kinds.Kind.{Kind}
 use Rattle.tsd_base.specs.declared.kinds.Kind.TheVariants as kinds
 use Rattle.tsd_base.specs.declared.names.NameFault.{NameFault}
@@ -10,6 +10,10 @@ use Rattle.tsd_base.specs.declared.tags.TagsFault.{TagsFault}
 use Rattle.tsd_base.specs.declared.tags.TagsFault.TheVariants as tags
 use Rattle.tsd_base.specs.declared.points.PointFault.{PointFault}
 use Rattle.tsd_base.specs.declared.points.PointFault.TheVariants as points
+
+-- what was written before stays, and more may stand behind it
+abbrev pub Keeps : List ℕ → List ℕ → Type 0
+Keeps old new = take (length old) new ≡ old
 
 abbrev pub kind_text : Kind → List ℕ
 kind_text kinds.Metric = codes "metric"

@@ -1,6 +1,6 @@
 //! The texts of faults, which go behind what was written before.
-ghost use Rattle.std.specs.Prelude.{◌≡◌, ◌<◌, ◌++◌, [], ◌∷◌, codes, decimal, OnOk};
-ghost use Rattle.tsd_base.specs.Faults.{kind_text, hex_digit, hex_byte, name_fault_text, value_fault_text, tags_fault_text, point_fault_text};
+ghost use Rattle.std.specs.Prelude.{◌≡◌, ◌<◌, ◌++◌, [], ◌∷◌, codes, decimal, OnOk, OnErr};
+ghost use Rattle.tsd_base.specs.Faults.{Keeps, kind_text, hex_digit, hex_byte, name_fault_text, value_fault_text, tags_fault_text, point_fault_text};
 
 use crate::decimals::write_number;
 use crate::kinds::Kind;
@@ -26,10 +26,23 @@ impl Kind {
 }
 
 impl NameFault {
-    /// Writes why bytes are no name of a kind.
-    #[tactic(auto, using(std::proofs::lemmas::List::append_assoc), unfolding(crate::specs::Faults::name_fault_text))]
+    /// Writes why bytes are no name of a kind. Where there is no memory nothing is written.
     pub fn write_text(&self, kind: Kind, out: &mut Vec<u8>) -> Result<(), AllocError>
-        ensures { OnOk result (out.new.items ≡ out.old.items ++ name_fault_text kind self.now) }
+        ensures ok { OnOk result (out.new.items ≡ out.old.items ++ name_fault_text kind self.now) }
+        ensures err { OnErr result (out.new.items ≡ out.old.items) }
+    {
+        let start = out.len();
+        let written = self.write_behind(kind, out);
+        if written.is_err() {
+            out.truncate(start);
+        }
+        written
+    }
+
+    #[tactic(auto, using(std::proofs::lemmas::List::append_assoc), unfolding(crate::specs::Faults::name_fault_text))]
+    fn write_behind(&self, kind: Kind, out: &mut Vec<u8>) -> Result<(), AllocError>
+        ensures ok { OnOk result (out.new.items ≡ out.old.items ++ name_fault_text kind self.now) }
+        ensures err { OnErr result (Keeps out.old.items out.new.items) }
     {
         match self {
             NameFault::Empty => {
@@ -66,10 +79,23 @@ impl ValueFault {
 }
 
 impl TagsFault {
-    /// Writes why pairs are no tags.
-    #[tactic(auto, using(std::proofs::lemmas::List::append_assoc), unfolding(crate::specs::Faults::tags_fault_text))]
+    /// Writes why pairs are no tags. Where there is no memory nothing is written.
     pub fn write_text(&self, out: &mut Vec<u8>) -> Result<(), AllocError>
-        ensures { OnOk result (out.new.items ≡ out.old.items ++ tags_fault_text self.now) }
+        ensures ok { OnOk result (out.new.items ≡ out.old.items ++ tags_fault_text self.now) }
+        ensures err { OnErr result (out.new.items ≡ out.old.items) }
+    {
+        let start = out.len();
+        let written = self.write_behind(out);
+        if written.is_err() {
+            out.truncate(start);
+        }
+        written
+    }
+
+    #[tactic(auto, using(std::proofs::lemmas::List::append_assoc), unfolding(crate::specs::Faults::tags_fault_text))]
+    fn write_behind(&self, out: &mut Vec<u8>) -> Result<(), AllocError>
+        ensures ok { OnOk result (out.new.items ≡ out.old.items ++ tags_fault_text self.now) }
+        ensures err { OnErr result (Keeps out.old.items out.new.items) }
     {
         match self {
             TagsFault::NoTags => out.extend_from_slice(b"no tags"),
@@ -87,10 +113,23 @@ impl TagsFault {
 }
 
 impl PointFault {
-    /// Writes why a line is no point.
-    #[tactic(auto, using(std::proofs::lemmas::List::append_assoc), unfolding(crate::specs::Faults::point_fault_text))]
+    /// Writes why a line is no point. Where there is no memory nothing is written.
     pub fn write_text(&self, out: &mut Vec<u8>) -> Result<(), AllocError>
-        ensures { OnOk result (out.new.items ≡ out.old.items ++ point_fault_text self.now) }
+        ensures ok { OnOk result (out.new.items ≡ out.old.items ++ point_fault_text self.now) }
+        ensures err { OnErr result (out.new.items ≡ out.old.items) }
+    {
+        let start = out.len();
+        let written = self.write_behind(out);
+        if written.is_err() {
+            out.truncate(start);
+        }
+        written
+    }
+
+    #[tactic(auto, using(std::proofs::lemmas::List::append_assoc), unfolding(crate::specs::Faults::point_fault_text))]
+    fn write_behind(&self, out: &mut Vec<u8>) -> Result<(), AllocError>
+        ensures ok { OnOk result (out.new.items ≡ out.old.items ++ point_fault_text self.now) }
+        ensures err { OnErr result (Keeps out.old.items out.new.items) }
     {
         match self {
             PointFault::FewWords { found } => {
@@ -123,8 +162,9 @@ impl PointFault {
 
 #[tactic(auto, using(std::proofs::lemmas::List::append_assoc))]
 fn write_bad_byte(at: usize, byte: u8, out: &mut Vec<u8>) -> Result<(), AllocError>
-    ensures { OnOk result (out.new.items
+    ensures ok { OnOk result (out.new.items
         ≡ out.old.items ++ (codes " name has byte 0x" ++ hex_byte byte ++ codes " at " ++ decimal at)) }
+    ensures err { OnErr result (Keeps out.old.items out.new.items) }
 {
     out.extend_from_slice(b" name has byte 0x")?;
     write_byte(byte, out)?;
@@ -133,7 +173,8 @@ fn write_bad_byte(at: usize, byte: u8, out: &mut Vec<u8>) -> Result<(), AllocErr
 }
 
 fn write_tag(index: usize, out: &mut Vec<u8>) -> Result<(), AllocError>
-    ensures { OnOk result (out.new.items ≡ out.old.items ++ (codes "tag " ++ decimal index)) }
+    ensures ok { OnOk result (out.new.items ≡ out.old.items ++ (codes "tag " ++ decimal index)) }
+    ensures err { OnErr result (Keeps out.old.items out.new.items) }
 {
     out.extend_from_slice(b"tag ")?;
     write_number(index as u64, out)
@@ -141,7 +182,8 @@ fn write_tag(index: usize, out: &mut Vec<u8>) -> Result<(), AllocError>
 
 /// Writes a byte in two hexadecimal digits.
 fn write_byte(byte: u8, out: &mut Vec<u8>) -> Result<(), AllocError>
-    ensures { OnOk result (out.new.items ≡ out.old.items ++ hex_byte byte) }
+    ensures ok { OnOk result (out.new.items ≡ out.old.items ++ hex_byte byte) }
+    ensures err { OnErr result (out.new.items ≡ out.old.items) }
 {
     out.extend_from_slice(&[hex_digit(byte / 16), hex_digit(byte % 16)])
 }

@@ -1,2 +1,3 @@
 pub mod Links
 pub mod MemLinks
+pub mod TcpLinks

@@ -1,12 +1,13 @@
 //! Doors over a listener of the system.
 //!
 //! They tell nothing of content: no proof knows what a system gives or takes.
-ghost use Rattle.std.specs.Prelude.{◌≡◌, ◌≢◌, ◌≤◌, ◌+◌, ◌-◌, ◌^◌, None, Some, IfOk, IfSome};
-ghost use Rattle.std.specs.Option.{option_map};
+ghost use Rattle.std.specs.Prelude.{◌≡◌, ◌≢◌, None, IfOk, IfSome};
+ghost use Rattle.tsd_doors.specs.TcpLinks.{no_links};
 
 use crate::doors::{Bell, Doors};
 use crate::tcp_ends::{TcpInlet, TcpKept, TcpOutlet, both_ends, close_ends};
 use std::alloc::Global;
+use std::marker::Model;
 use std::net::{IpAddr, Ipv4Addr, Ipv6Addr, Net, Shutdown, SocketAddr, TcpListener, TcpStream};
 use std::os::fd::OwnedFd;
 use std::rt::Clock;
@@ -51,6 +52,8 @@ struct OpenDoors {
 }
 
 /// Doors over a listener of the system, for which `net` stands.
+///
+/// Contracts see them as their counts and their count of faults.
 #[derive(Drop)]
 pub struct TcpDoors<N> {
     net: N,
@@ -61,12 +64,29 @@ pub struct TcpDoors<N> {
     returned: u64,
     out: u64,
     faults: u64,
-    ghost counted: { returned + out ≤ 2 ^ 64 - 1 },
+}
+
+impl<N> Model for TcpDoors<N> {
+    ghost use Rattle.std.specs.Prelude.{◌≤◌, ◌+◌, ◌-◌, ◌^◌};
+    ghost use Rattle.std.specs.Option.{option_map};
+    ghost use Rattle.tsd_doors.specs.TcpLinks.{DoorsOverNet};
+    ghost use Rattle.tsd_doors.specs.declared.tcp_doors.OpenDoors.{OpenDoors};
+
+    ghost Value = { DoorsOverNet };
+
+    ghost view = { λ s. record {
+      counts = record { returned = s.returned; out = s.out; port = option_map (λ (o : OpenDoors). o.port) s.bound };
+      faults = s.faults;
+    } };
+
+    ghost invariant = { λ s. s.returned + s.out ≤ 2 ^ 64 - 1 };
 }
 
 impl<N> TcpDoors<N> {
     /// Doors that aren't bound yet. They will be at this address, or on all interfaces of the machine.
-    pub fn make(net: N, alloc: Global, address: Option<IpAddr>) -> TcpDoors<N> {
+    pub fn make(net: N, alloc: Global, address: Option<IpAddr>) -> TcpDoors<N>
+        ensures { result ≡ no_links }
+    {
         TcpDoors {
             net,
             alloc,
@@ -95,11 +115,9 @@ impl<N: Net<Listener = TcpListener, Stream = TcpStream> + Clock + Send + Drop> D
 
     type Kept = TcpKept;
 
-    ghost use Rattle.tsd_doors.specs.declared.tcp_doors.OpenDoors.{OpenDoors};
+    ghost counts = { λ d. d.counts };
 
-    ghost counts = { λ s. record { returned = s.returned; out = s.out; port = option_map (λ (o : OpenDoors). o.port) s.bound } };
-
-    ghost faults = { λ s. s.faults };
+    ghost faults = { λ d. d.faults };
 
     ghost waiting = { λ _. None };
 

@@ -1,8 +1,8 @@
 //! What tells the time, and a clock in memory, whose times and failures are chosen beforehand.
 ghost use Rattle.std.specs.Prelude.{◌≡◌, ◌≤◌, ◌∷◌, ◌↔◌, ℕ, List, [], Option, Some, IsOk, IsErr, IfOk, OnErr, Contains, drop};
 ghost use Rattle.tsd_io.specs.Causes.{HasCause, joined};
-ghost use Rattle.tsd_io.specs.Memory.{faults_after, moments_of, one_more};
-ghost use Rattle.tsd_io.specs.Ticks.{Ticks};
+ghost use Rattle.tsd_io.specs.Memory.{faults_after, moments_of};
+ghost use Rattle.tsd_io.specs.Ticks.{Ticks, IsCalled};
 
 use crate::ports::Failed;
 use std::alloc::{AllocError, Global};
@@ -16,14 +16,18 @@ pub trait Clock: Sized {
     /// How often it failed. It never falls, and stands still at the last `u64`.
     ghost faults: { Self → ℕ };
 
+    /// How often it was called, where it tells that. It stands still at the last `u64`.
+    ghost calls: { Self → Option ℕ };
+
     /// The moment that it is now.
     ///
-    /// Where the moments are told it is the first of them, which is taken off, but the last one stays. After `Failed` what is
-    /// told is as before, and the next call may go on.
+    /// Where the moments are told it is the first of them, which is taken off, but the last one stays. After `Failed` the moments
+    /// are as before, and the next call may go on. A call that fails counts too.
     fn now(&mut self) -> Result<u64, Failed>
         ensures ok { IfOk result (λ moment. Ticks (moments self.old) moment (moments self.new)) }
         ensures err { OnErr result (moments self.new ≡ moments self.old) }
-        ensures cause { HasCause (faults self.old) (faults self.new) result };
+        ensures cause { HasCause (faults self.old) (faults self.new) result }
+        ensures calls { IsCalled (calls self.old) (calls self.new) };
 
     /// A clock in the same state, with a count of faults of its own that begins at 0. It fails only for want of memory.
     fn twin(&self, alloc: Global) -> Result<Self, AllocError>
@@ -98,14 +102,16 @@ impl Clock for MemClock {
 
     ghost faults = { λ s. s.faults };
 
+    ghost calls = { λ s. Some s.calls };
+
     fn now(&mut self) -> Result<u64, Failed>
         // As of each clock.
         ensures ok { IfOk result (λ moment. Ticks (Some self.old.moments) moment (Some self.new.moments)) }
         ensures err { OnErr result (Some self.new.moments ≡ Some self.old.moments) }
         ensures cause { HasCause self.old.faults self.new.faults result }
+        ensures calls { IsCalled (Some self.old.calls) (Some self.new.calls) }
 
         // The calls on the list fail, and no others.
-        ensures calls { self.new.calls ≡ one_more self.old.calls }
         ensures failing { self.new.failing ≡ self.old.failing }
         ensures fails { IsErr result ↔ Contains self.old.failing self.new.calls }
         ensures never { self.old.failing ≡ [] → IsOk result }

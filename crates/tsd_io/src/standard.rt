@@ -129,6 +129,8 @@ impl<T: time::Clock + Copy> Clock for SystemClock<T> {
 
     ghost faults = { λ faults. faults };
 
+    ghost calls = { λ _. None };
+
     fn now(&mut self) -> Result<u64, Failed> {
         let moment = millis(&self.time);
         if moment.is_err() {

@@ -3,8 +3,8 @@ use Rattle.std.specs.Prelude.{decimal}
 use Rattle.http_reply.proofs.Writes.{onward, onward_if}
 use Rattle.http_reply.proofs.reply_head.write_fields.Goals as goal
 
-pub returns : goal.returns
-returns c =
+pub returns-clause-ok : goal.returns-clause-ok
+returns-clause-ok c =
     let old = c.args.out.now.items in
     let one = c.extend_from_slice.new.self.items in
     let two = c.extend_from_slice-2.new.self.items in
