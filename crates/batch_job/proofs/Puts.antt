@@ -31,6 +31,7 @@ use Rattle.point_put.specs.Entries.{ForName, ForNames}
 use Rattle.point_put.specs.Entries.ForName.{none, look, full, bump, reverse, forward}
 use Rattle.point_put.specs.Entries.ForNames.{nil, more}
 use Rattle.point_put.specs.PutPoint.{DidStore, PutSays, WasStored as PutSo}
+use Rattle.point_put.proofs.CallerLemmas.{names_in_turn, names_to_end}
 use Rattle.uid_table.specs.IdSteps.{DidLook}
 use Rattle.point_lines.specs.OpenRules.{AllowsAll}
 use Rattle.batch_job.specs.PendingPuts.{Adds, AddsSome, AreResolved, points_in}
@@ -65,7 +66,7 @@ module _ (old new : Seen) (c : Admission) (point : DataPoint) (resolved : AreRes
       after = w.after_is ∙ cut
 
       are_reads : AreReads so.names
-      are_reads = names_read c (first old.length h) so.entries have (subst IsLawful cut w.lawful).0
+      are_reads = names_read c (first old.length h) (names_in_turn so.entries) have (subst IsLawful cut w.lawful).0
 
       did : DidStore false (first new.length h) point stored.row so.put
       did = subst (λ appends. DidStore appends (first new.length h) point stored.row so.put) cells so.did
@@ -122,10 +123,11 @@ module _ (old new : Seen) (c : Admission) (point : DataPoint) (resolved : AreRes
   not_exhausted kind (list, made, asked) =
       let p = made.since.lives resolved.by.possible in
       let x = asked p.history p.lawful p.fits in
-      let reads = refused list made p.history p.lawful p.fits x.0 in
-      let bumped = x.1.1 in
-      let read = reads bumped.0 bumped.1 in
-      not_a_bump read.0 kind (sym read.1 ∙ bumped.2.0)
+      let reads = refused list made p.history p.lawful p.fits (names_to_end x.1) in
+      let last = x.2.1 in
+      let among : Contains list last.2 = subst (λ (ds : List Placed). Contains ds last.2) (sym last.3) (Contains-append_right last.0 (last.1 ∷ last.2 ∷ []) last.2 (Contains-append_right (last.1 ∷ []) (last.2 ∷ []) last.2 (here last.2 []))) in
+      let read = reads last.2 among in
+      not_a_bump read.0 kind (sym read.1 ∙ last.5.0)
     where
       not_a_bump : (row : Row) (kind : Kind) → Read row ≡ Bump kind → ⊥
       not_a_bump row kind e = cc

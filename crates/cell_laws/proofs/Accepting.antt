@@ -32,7 +32,7 @@ use Rattle.cell_model.specs.KindWidths.{Widths, kind_bytes}
 use Rattle.cell_model.specs.IdRows.{id_row, id_of, name_of}
 use Rattle.cell_laws.proofs.SameWidths.{carry, carry_back}
 use Rattle.cell_model.specs.Lawful.{IsLawful, MayStep, HadCell, Wrote}
-use Rattle.cell_laws.specs.Laws.{StandingWasAccepted, AcceptedTimesStand, StandingIsAccepted}
+use Rattle.cell_laws.specs.Laws.{IsPutInRow, AcceptedInRow, StandingWasAccepted, StandingWasAcceptedInRow, AcceptedTimesStand, StandingIsAccepted}
 use Rattle.cell_model.specs.Readings.{Reading, reading_of, Meets, point_row, IsNamed, Named, DotReads, CellReads, IsStanding, IsPut, AcceptedBy, Accepted}
 use Rattle.list_lemmas.proofs.ListMembers.{here, split, not_in}
 use Rattle.list_lemmas.proofs.SameLists.{same_rising}
@@ -158,9 +158,9 @@ reading_once w names row d r s x y =
     let value = x.value_is ∙ sym y.value_is in
     λ i. record { metric = metric i; tags = tags i; time = time i; value = value i }
 
-accepted_more : (names : Kind → ℕ → Option (List ℕ)) (h : History) (e : Entry) (r : Reading) → AcceptedBy names h r → AcceptedBy names (Then h e) r
-accepted_more names h e r (inl based) = inl based
-accepted_more names h e r (inr w) = inr (w.0, (w.1.0, entry_at-more h e w.0 w.1.0 w.1.1), w.2)
+accepted_more : (names : Kind → ℕ → Option (List ℕ)) (h : History) (e : Entry) (row : List ℕ) (r : Reading) → AcceptedInRow names h row r → AcceptedInRow names (Then h e) row r
+accepted_more names h e row r (inl based) = inl based
+accepted_more names h e row r (inr w) = inr (w.0, (w.1.0, entry_at-more h e w.0 w.1.0 w.1.1), w.2)
 
 only_dot : (x d : Dot) → Contains (x ∷ []) d → x ≡ d
 only_dot x d c = at (split x d [] c)
@@ -169,37 +169,37 @@ only_dot x d c = at (split x d [] c)
     at (inl same) = same
     at (inr none) = absurd (not_in d none)
 
-wrote_accepted : (h0 h : History) (e : Entry) (step : Step) → Begins h0 h → IsLawful h → (row : Row) (q v : List ℕ) (r : Reading) → ((a b : List ℕ) → HadCell h0 row a b → CellReads (store_after h).widths (name_of h) row.bytes a b r → AcceptedBy (name_of h) h0 r)
-    → (IsPut step r → IsPut e.step r) → Wrote row q v step → MayStep h0 e.caller step → CellReads (store_after h).widths (name_of h) row.bytes q v r → AcceptedBy (name_of h) (Then h0 e) r
-wrote_accepted h0 h e (PutPoint point p qual value) b l row q v r go put w may c =
+wrote_in_row : (h0 h : History) (e : Entry) (step : Step) → Begins h0 h → IsLawful h → (row : Row) (q v : List ℕ) (r : Reading) → ((a b : List ℕ) → HadCell h0 row a b → CellReads (store_after h).widths (name_of h) row.bytes a b r → AcceptedInRow (name_of h) h0 row.bytes r)
+    → (IsPutInRow row.bytes step r → IsPutInRow row.bytes e.step r) → Wrote row q v step → MayStep h0 e.caller step → CellReads (store_after h).widths (name_of h) row.bytes q v r → AcceptedInRow (name_of h) (Then h0 e) row.bytes r
+wrote_in_row h0 h e (PutPoint point p qual value) b l row q v r go put w may c =
     let x = put_reads h0 h point p qual value b l may in
     let dot = put_dot point x.len in
     let reads : IsDots q v (dot ∷ []) = moved qual value q v (dot ∷ []) w.1 w.2 x.reads in
     let same : dot ≡ c.dot = only_dot dot c.dot (subst (λ (ds : List Dot). Contains ds c.dot) (one_dots q v c.dots (dot ∷ []) c.reads (inl reads)) c.among) in
     let here : DotReads (store_after h).widths (name_of h) row.bytes c.dot (reading_of point) = subst (λ (y : Row). DotReads (store_after h).widths (name_of h) y.bytes c.dot (reading_of point)) w.0 (subst (λ (d : Dot). DotReads (store_after h).widths (name_of h) p.bytes d (reading_of point)) same x.dot_reads) in
-    inr (e, (len h0 + 1, entry_at-last h0 e), put (reading_once (store_after h).widths (name_of h) row.bytes c.dot (reading_of point) r here c.dot_reads))
-wrote_accepted h0 h e (PutMerged p qual value) b l row q v r go put w may c =
+    inr (e, (len h0 + 1, entry_at-last h0 e), put (points_row p x.in_points ∙ ap (λ (y : Row). point_row y.bytes) w.0, reading_once (store_after h).widths (name_of h) row.bytes c.dot (reading_of point) r here c.dot_reads))
+wrote_in_row h0 h e (PutMerged p qual value) b l row q v r go put w may c =
     let reads : IsDots q v may.dots = moved qual value q v may.dots w.1 w.2 may.reads in
     let had = may.each c.dot (subst (λ (ds : List Dot). Contains ds c.dot) (one_dots q v c.dots may.dots c.reads (inl reads)) c.among) in
-    accepted_more (name_of h) h0 e r (go had.0 had.1 (subst (λ (x : Row). HadCell h0 x had.0 had.1) w.0 had.3) (record { dots = had.2; reads = inl had.4; dot = c.dot; among = had.5; dot_reads = c.dot_reads }))
-wrote_accepted h0 h e (AppendPoint point p piece) b l row q v r go put w may c = absurd w
-wrote_accepted h0 h e Open b l row q v r go put w may c = absurd w
-wrote_accepted h0 h e (Read p) b l row q v r go put w may c = absurd w
-wrote_accepted h0 h e (NextRow t x y) b l row q v r go put w may c = absurd w
-wrote_accepted h0 h e (Bump k) b l row q v r go put w may c = absurd w
-wrote_accepted h0 h e (Claim p x y) b l row q v r go put w may c = absurd w
-wrote_accepted h0 h e (DropCells p which) b l row q v r go put w may c = absurd w
+    accepted_more (name_of h) h0 e row.bytes r (go had.0 had.1 (subst (λ (x : Row). HadCell h0 x had.0 had.1) w.0 had.3) (record { dots = had.2; reads = inl had.4; dot = c.dot; among = had.5; dot_reads = c.dot_reads }))
+wrote_in_row h0 h e (AppendPoint point p piece) b l row q v r go put w may c = absurd w
+wrote_in_row h0 h e Open b l row q v r go put w may c = absurd w
+wrote_in_row h0 h e (Read p) b l row q v r go put w may c = absurd w
+wrote_in_row h0 h e (NextRow t x y) b l row q v r go put w may c = absurd w
+wrote_in_row h0 h e (Bump k) b l row q v r go put w may c = absurd w
+wrote_in_row h0 h e (Claim p x y) b l row q v r go put w may c = absurd w
+wrote_in_row h0 h e (DropCells p which) b l row q v r go put w may c = absurd w
 
 -- what a cell that was there reads was accepted
-pub had_accepted : (h0 h : History) → Begins h0 h → IsLawful h → (row : Row) (q v : List ℕ) (r : Reading) → row.table ≡ Points → HadCell h0 row q v → CellReads (store_after h).widths (name_of h) row.bytes q v r → AcceptedBy (name_of h) h0 r
-had_accepted (Base base) h b l row q v r t (inl based) c =
-    inl (record { row = row.bytes; qual = q; value = v; stands = ap (λ (x : Row). value_at base x q) (sym (points_row row t)) ∙ based; reads = carry_back b (λ (w : Widths). CellReads w (name_of h) row.bytes q v r) c })
-had_accepted (Base base) h b l row q v r t (inr w) c = absurd (not_Some w.0 (sym w.1.1))
-had_accepted (Then h0 e) h b l row q v r t had c =
+had_in_row : (h0 h : History) → Begins h0 h → IsLawful h → (row : Row) (q v : List ℕ) (r : Reading) → row.table ≡ Points → HadCell h0 row q v → CellReads (store_after h).widths (name_of h) row.bytes q v r → AcceptedInRow (name_of h) h0 row.bytes r
+had_in_row (Base base) h b l row q v r t (inl based) c =
+    inl (record { qual = q; value = v; stands = ap (λ (x : Row). value_at base x q) (sym (points_row row t)) ∙ based; reads = carry_back b (λ (w : Widths). CellReads w (name_of h) row.bytes q v r) c })
+had_in_row (Base base) h b l row q v r t (inr w) c = absurd (not_Some w.0 (sym w.1.1))
+had_in_row (Then h0 e) h b l row q v r t had c =
     let before = trans_begins (longer whole) b in
     elim (cell_split h0 e row q v had) [
-      | inl earlier ↦ accepted_more (name_of h) h0 e r (had_accepted h0 h before l row q v r t earlier c)
-      | inr w ↦ wrote_accepted h0 h e e.step before l row q v r (λ a d x y. had_accepted h0 h before l row a d r t x y) (λ x. x) w (lawful_begins b l).1.may c
+      | inl earlier ↦ accepted_more (name_of h) h0 e row.bytes r (had_in_row h0 h before l row q v r t earlier c)
+      | inr w ↦ wrote_in_row h0 h e e.step before l row q v r (λ a d x y. had_in_row h0 h before l row a d r t x y) (λ x. x) w (lawful_begins b l).1.may c
     ]
 
 -- ---- the column
@@ -220,11 +220,11 @@ as_column : (v : List ℕ) (ds : List Dot) → ArePieces v ds → HoldsDots colu
 as_column v ds are = inr (record { qual_is = refl; pieces = are })
 
 -- what the column reads was accepted
-column_accepted : (h0 h : History) → Begins h0 h → IsLawful h → (row : Row) (v : List ℕ) (r : Reading) → row.table ≡ Points → value_at (store_after h0) row column_qual ≡ Some v → CellReads (store_after h).widths (name_of h) row.bytes column_qual v r → AcceptedBy (name_of h) h0 r
-column_accepted (Base base) h b l row v r t is c =
-    inl (record { row = row.bytes; qual = column_qual; value = v; stands = ap (λ (x : Row). value_at base x column_qual) (sym (points_row row t)) ∙ is; reads = carry_back b (λ (w : Widths). CellReads w (name_of h) row.bytes column_qual v r) c })
-column_accepted (Then h0 e) h b l row v r t is c =
-    at (column_changes h0 e.caller e.step (store_after h0) (len h0 + 1) row t lb.1.may) (λ w was d. column_accepted h0 h before l row w r t was d)
+column_in_row : (h0 h : History) → Begins h0 h → IsLawful h → (row : Row) (v : List ℕ) (r : Reading) → row.table ≡ Points → value_at (store_after h0) row column_qual ≡ Some v → CellReads (store_after h).widths (name_of h) row.bytes column_qual v r → AcceptedInRow (name_of h) h0 row.bytes r
+column_in_row (Base base) h b l row v r t is c =
+    inl (record { qual = column_qual; value = v; stands = ap (λ (x : Row). value_at base x column_qual) (sym (points_row row t)) ∙ is; reads = carry_back b (λ (w : Widths). CellReads w (name_of h) row.bytes column_qual v r) c })
+column_in_row (Then h0 e) h b l row v r t is c =
+    at (column_changes h0 e.caller e.step (store_after h0) (len h0 + 1) row t lb.1.may) (λ w was d. column_in_row h0 h before l row w r t was d)
   where
     names : Kind → ℕ → Option (List ℕ)
     names = name_of h
@@ -235,8 +235,8 @@ column_accepted (Then h0 e) h b l row v r t is c =
     lb : IsLawful (Then h0 e)
     lb = lawful_begins b l
 
-    at : Changes (store_after h0) (store_after (Then h0 e)) row e.step → ((w : List ℕ) → value_at (store_after h0) row column_qual ≡ Some w → CellReads (store_after h).widths (name_of h) row.bytes column_qual w r → AcceptedBy (name_of h) h0 r) → AcceptedBy (name_of h) (Then h0 e) r
-    at (stays same) go = accepted_more (name_of h) h0 e r (go v (sym same ∙ is) c)
+    at : Changes (store_after h0) (store_after (Then h0 e)) row e.step → ((w : List ℕ) → value_at (store_after h0) row column_qual ≡ Some w → CellReads (store_after h).widths (name_of h) row.bytes column_qual w r → AcceptedInRow (name_of h) h0 row.bytes r) → AcceptedInRow (name_of h) (Then h0 e) row.bytes r
+    at (stays same) go = accepted_more (name_of h) h0 e row.bytes r (go v (sym same ∙ is) c)
     at (grows point piece step now) go = behind (value_at (store_after h0) row column_qual) refl value_is
       where
         value_is : v ≡ or_nothing (value_at (store_after h0) row column_qual) ++ piece
@@ -248,12 +248,12 @@ column_accepted (Then h0 e) h b l row v r t is c =
         x : AppendReads h point row piece
         x = appended_reads h0 h point row piece before l may
 
-        last : x.dot ≡ c.dot → AcceptedBy (name_of h) (Then h0 e) r
+        last : x.dot ≡ c.dot → AcceptedInRow (name_of h) (Then h0 e) row.bytes r
         last same =
             let here : DotReads (store_after h).widths (name_of h) row.bytes c.dot (reading_of point) = subst (λ (d : Dot). DotReads (store_after h).widths (name_of h) row.bytes d (reading_of point)) same x.dot_reads in
-            inr (e, (len h0 + 1, entry_at-last h0 e), subst (λ (s : Step). IsPut s r) (sym step) (reading_once (store_after h).widths (name_of h) row.bytes c.dot (reading_of point) r here c.dot_reads))
+            inr (e, (len h0 + 1, entry_at-last h0 e), subst (λ (s : Step). IsPutInRow row.bytes s r) (sym step) (points_row row t, reading_once (store_after h).widths (name_of h) row.bytes c.dot (reading_of point) r here c.dot_reads))
 
-        behind : (o : Option (List ℕ)) → value_at (store_after h0) row column_qual ≡ o → v ≡ or_nothing o ++ piece → AcceptedBy (name_of h) (Then h0 e) r
+        behind : (o : Option (List ℕ)) → value_at (store_after h0) row column_qual ≡ o → v ≡ or_nothing o ++ piece → AcceptedInRow (name_of h) (Then h0 e) row.bytes r
         behind None was parts =
             let reads = subst (λ (y : List ℕ). HoldsDots column_qual y c.dots) parts c.reads in
             last (only_dot x.dot c.dot (subst (λ (ds : List Dot). Contains ds c.dot) (one_dots column_qual piece c.dots (x.dot ∷ []) reads (as_column piece (x.dot ∷ []) x.reads)) c.among))
@@ -262,17 +262,42 @@ column_accepted (Then h0 e) h b l row v r t is c =
             let reads = subst (λ (y : List ℕ). HoldsDots column_qual y c.dots) parts c.reads in
             let same = one_dots column_qual (w ++ piece) c.dots (old.0 ++ x.dot ∷ []) reads (as_column (w ++ piece) (old.0 ++ x.dot ∷ []) (pieces_more w piece old.0 (x.dot ∷ []) old.1 x.reads)) in
             elim (Contains-append_cases old.0 (x.dot ∷ []) c.dot (subst (λ (ds : List Dot). Contains ds c.dot) same c.among)) [
-              | inl early ↦ accepted_more (name_of h) h0 e r (go w was (record { dots = old.0; reads = as_column w old.0 old.1; dot = c.dot; among = early; dot_reads = c.dot_reads }))
+              | inl early ↦ accepted_more (name_of h) h0 e row.bytes r (go w was (record { dots = old.0; reads = as_column w old.0 old.1; dot = c.dot; among = early; dot_reads = c.dot_reads }))
               | inr late ↦ last (only_dot x.dot c.dot late)
             ]
 
 -- what a cell that stood reads was accepted
-pub stood_accepted : (h0 h : History) → Begins h0 h → IsLawful h → (row : Row) (q v : List ℕ) (r : Reading) → row.table ≡ Points → value_at (store_after h0) row q ≡ Some v → CellReads (store_after h).widths (name_of h) row.bytes q v r → AcceptedBy (name_of h) h0 r
-stood_accepted h0 h b l row q v r t is c = at (column_or_not q)
+stood_in_row : (h0 h : History) → Begins h0 h → IsLawful h → (row : Row) (q v : List ℕ) (r : Reading) → row.table ≡ Points → value_at (store_after h0) row q ≡ Some v → CellReads (store_after h).widths (name_of h) row.bytes q v r → AcceptedInRow (name_of h) h0 row.bytes r
+stood_in_row h0 h b l row q v r t is c = at (column_or_not q)
   where
-    at : (q ≡ column_qual) ⊎ (q ≡ column_qual → ⊥) → AcceptedBy (name_of h) h0 r
-    at (inl same) = column_accepted h0 h b l row v r t (ap (value_at (store_after h0) row) (sym same) ∙ is) (subst (λ (x : List ℕ). CellReads (store_after h).widths (name_of h) row.bytes x v r) same c)
-    at (inr other) = had_accepted h0 h b l row q v r t (had_cell h0 row q v (lawful_begins b l) t other is) c
+    at : (q ≡ column_qual) ⊎ (q ≡ column_qual → ⊥) → AcceptedInRow (name_of h) h0 row.bytes r
+    at (inl same) = column_in_row h0 h b l row v r t (ap (value_at (store_after h0) row) (sym same) ∙ is) (subst (λ (x : List ℕ). CellReads (store_after h).widths (name_of h) row.bytes x v r) same c)
+    at (inr other) = had_in_row h0 h b l row q v r t (had_cell h0 row q v (lawful_begins b l) t other is) c
+
+-- what was accepted in a row was accepted
+put_somewhere : (row : List ℕ) (step : Step) (r : Reading) → IsPutInRow row step r → IsPut step r
+put_somewhere row (PutPoint point p qual value) r put = put.1
+put_somewhere row (AppendPoint point p piece) r put = put.1
+put_somewhere row Open r put = absurd put
+put_somewhere row (Read p) r put = absurd put
+put_somewhere row (NextRow t x y) r put = absurd put
+put_somewhere row (Bump k) r put = absurd put
+put_somewhere row (Claim p x y) r put = absurd put
+put_somewhere row (PutMerged p x y) r put = absurd put
+put_somewhere row (DropCells p which) r put = absurd put
+
+somewhere : (names : Kind → ℕ → Option (List ℕ)) (h : History) (row : List ℕ) (r : Reading) → AcceptedInRow names h row r → AcceptedBy names h r
+somewhere names h row r (inl f) = inl (record { row = row; qual = f.qual; value = f.value; stands = f.stands; reads = f.reads })
+somewhere names h row r (inr w) = inr (w.0, w.1, put_somewhere row w.0.step r w.2)
+
+pub had_accepted : (h0 h : History) → Begins h0 h → IsLawful h → (row : Row) (q v : List ℕ) (r : Reading) → row.table ≡ Points → HadCell h0 row q v → CellReads (store_after h).widths (name_of h) row.bytes q v r → AcceptedBy (name_of h) h0 r
+had_accepted h0 h b l row q v r t had c = somewhere (name_of h) h0 row.bytes r (had_in_row h0 h b l row q v r t had c)
+
+pub stood_accepted : (h0 h : History) → Begins h0 h → IsLawful h → (row : Row) (q v : List ℕ) (r : Reading) → row.table ≡ Points → value_at (store_after h0) row q ≡ Some v → CellReads (store_after h).widths (name_of h) row.bytes q v r → AcceptedBy (name_of h) h0 r
+stood_accepted h0 h b l row q v r t is c = somewhere (name_of h) h0 row.bytes r (stood_in_row h0 h b l row q v r t is c)
+
+pub standing_was_accepted_in_row : StandingWasAcceptedInRow
+standing_was_accepted_in_row h row r l f = stood_in_row h h whole l (point_row row) f.qual f.value r refl f.stands f.reads
 
 pub standing_was_accepted : StandingWasAccepted
 standing_was_accepted h r l f = stood_accepted h h whole l (point_row f.row) f.qual f.value r refl f.stands f.reads

@@ -74,6 +74,8 @@ pub use Rattle.cell_laws.proofs.Accepting.{AppendReads, PutReads, appended_reads
 -- a reading that meets another and has its value is that one
 pub use Rattle.cell_laws.proofs.Accepting.{same_reading}
 -- ---- sights
+-- the first entries of a history fit, up to the seen length or to a greater one
+pub use Rattle.cell_laws.proofs.InOrder.{fits_longer}
 -- one of a caller that did nothing; what is the caller's in one is so in a later one
 pub use Rattle.cell_laws.proofs.Carry.{nothing_waited, own_after}
 

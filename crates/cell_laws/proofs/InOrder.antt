@@ -86,13 +86,13 @@ made_in_order {old} {new} {own} h m f =
       each = λ p c. let d = deeds_each h old.caller old.length new.length p (subst (λ (xs : List Placed). Contains xs p) (sym is) c) in (d.within, d.stands);
     }
 
-len_first_is : (n : ℕ) (h : History) → n ≤ len h → n ≤ len (first n h)
-len_first_is n (Base base) le = le
-len_first_is n (Then h e) le = at (nat_le (len h + 1) n) refl (len_first_is n h)
+len_first_least : (m n : ℕ) (h : History) → m ≤ n → m ≤ len h → m ≤ len (first n h)
+len_first_least m n (Base base) le long = long
+len_first_least m n (Then h e) le long = at (nat_le (len h + 1) n) refl (len_first_least m n h le)
   where
-    at : (b : Bool) → nat_le (len h + 1) n ≡ b → (n ≤ len h → n ≤ len (first n h)) → n ≤ len (if b then Then h e else first n h)
-    at true t go = le
-    at false t go = let under : n < len h + 1 = search (rules, t) in go (omega (arith, under))
+    at : (b : Bool) → nat_le (len h + 1) n ≡ b → (m ≤ len h → m ≤ len (first n h)) → m ≤ len (if b then Then h e else first n h)
+    at true t go = long
+    at false t go = let under : n < len h + 1 = search (rules, t) in go (omega (arith, under, le))
 
 pub entry_first : (n : ℕ) (h : History) (place : ℕ) (e : Entry) → place ≤ n → entry_at h place ≡ Some e → entry_at (first n h) place ≡ Some e
 entry_first n (Base base) place e le at = at
@@ -107,11 +107,14 @@ pub entry_begins : {a h : History} (place : ℕ) (e : Entry) → Begins a h → 
 entry_begins place e whole is = is
 entry_begins place e (longer {h = h} {e = x} b) is = entry_at-more h x e place (entry_begins place e b is)
 
--- the first entries, up to the seen length, fit
-pub fits_first : (s : Seen) (h : History) → Fits s h → Fits s (first s.length h)
-fits_first s h f = record {
-  base = base_of_begins (begins_first s.length h) ∙ f.base;
-  long = len_first_is s.length h f.long;
-  seen = λ place e saw. entry_first s.length h place e saw.0 (f.seen place e saw);
-  no_other = λ place e low mine at. f.no_other place e low mine (entry_begins place e (begins_first s.length h) at);
+-- the first entries fit, up to the seen length or to a greater one
+pub fits_longer : (s : Seen) (h : History) (n : ℕ) → s.length ≤ n → Fits s h → Fits s (first n h)
+fits_longer s h n le f = record {
+  base = base_of_begins (begins_first n h) ∙ f.base;
+  long = len_first_least s.length n h le f.long;
+  seen = λ place e saw. let within = saw.0 in entry_first n h place e (omega (arith, within, le)) (f.seen place e saw);
+  no_other = λ place e low mine at. f.no_other place e low mine (entry_begins place e (begins_first n h) at);
 }
+
+pub fits_first : (s : Seen) (h : History) → Fits s h → Fits s (first s.length h)
+fits_first s h f = fits_longer s h s.length (omega arith) f

@@ -23,6 +23,7 @@ mod Worked
 mod Compacted
 mod SeenIds
 mod Placing
+mod Untouched
 mod Lining
 mod Points
 pub mod CallerLemmas

@@ -35,7 +35,7 @@ above a b le = at (nat_le (b + 1) a) refl
     at false e = refl
 
 -- a beginning is the first entries
-begins_is_first : {h0 h : History} → Begins h0 h → first (len h0) h ≡ h0
+pub begins_is_first : {h0 h : History} → Begins h0 h → first (len h0) h ≡ h0
 begins_is_first {h0} whole = first_len h0
 begins_is_first (longer {h0} {h} {e} b) = ap (λ t. if t then Then h e else first (len h0) h) (above (len h0) (len h) (len_begins b)) ∙ begins_is_first b
 

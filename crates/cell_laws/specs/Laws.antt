@@ -1,5 +1,5 @@
 -- Laws over every lawful history.
-use Rattle.std.specs.Prelude.{◌≡◌, ◌≢◌, ℕ, ◌-◌, ◌≤◌, ◌⊎◌, ◌↔◌, List, [], ◌∷◌, ◌++◌, Contains, Some}
+use Rattle.std.specs.Prelude.{◌≡◌, ◌≢◌, ℕ, ◌-◌, ◌<◌, ◌≤◌, ◌⊎◌, ◌↔◌, List, [], ◌∷◌, ◌++◌, Contains, Option, Some}
 use Rattle.tsd_base.specs.declared.kinds.Kind.{Kind}
 use Rattle.tsd_base.specs.declared.kinds.Kind.TheVariants.{Metric, TagKey, TagValue}
 use Rattle.tsd_base.specs.Alphabet.{IsName}
@@ -28,8 +28,8 @@ use Rattle.cell_model.specs.History.History.{Then}
 use Rattle.cell_model.specs.IdRows.{id_in, id_of, name_of, id_number, id_row, name_row}
 use Rattle.cell_model.specs.Layout.{RowResolved}
 use Rattle.cell_model.specs.Sound.{IsSound}
-use Rattle.cell_model.specs.Lawful.{IsLawful, IsAllowed, MayStep, HadCell, given, claimed}
-use Rattle.cell_model.specs.Readings.{Reading, Meets, OneValued, IsStanding, Accepted, point_row}
+use Rattle.cell_model.specs.Lawful.{IsLawful, IsAllowed, MayStep, HadCell, Wrote, given, claimed}
+use Rattle.cell_model.specs.Readings.{Reading, reading_of, Meets, OneValued, CellReads, IsStanding, Accepted, point_row}
 use Rattle.cell_model.specs.Seen.{Seen, Saw, Fits, KnowsCell, Knows, HasSeenOpening, Waited, Stepped, IsPossible}
 use Rattle.cell_model.specs.Deeds.{Made, InOrder, placed}
 
@@ -199,6 +199,48 @@ CompactionIsInvisible = (h : History) (e : Entry) (r : Reading) → IsLawful (Th
 abbrev pub SameAcceptedSameStanding : Type 0
 SameAcceptedSameStanding = (g h : History) → IsLawful g → IsLawful h → OneValued (Accepted g) → OneValued (Accepted h) → ((r : Reading) → Accepted g r ↔ Accepted h r)
     → (r : Reading) → IsStanding g r ↔ IsStanding h r
+
+-- the step writes the cell of this qualifier in the row: it puts it, merges into it, or appends to it where it is the column
+abbrev pub WritesAt : Row → List ℕ → Step → Type 0
+WritesAt row qual (PutPoint point r q value) = (r ≡ row) × (q ≡ qual)
+WritesAt row qual (AppendPoint point r piece) = (r ≡ row) × (column_qual ≡ qual)
+WritesAt row qual (PutMerged r q value) = (r ≡ row) × (q ≡ qual)
+WritesAt row qual _ = ⊥
+
+-- between the two lengths no entry merges or drops cells, and none writes this cell of the row
+abbrev pub IsUntouched : History → ℕ → ℕ → Row → List ℕ → Type 0
+IsUntouched h n m row qual = (place : ℕ) (e : Entry) → n < place → place ≤ m → entry_at h place ≡ Some e → (IsCompaction e.step → ⊥) × (WritesAt row qual e.step → ⊥)
+
+-- then the cell, or its absence, is at the later length what it is at the earlier one
+abbrev pub UntouchedStays : Type 0
+UntouchedStays = (h : History) (n m : ℕ) (row : Row) (qual : List ℕ) → IsLawful h → row.table ≡ Points → n ≤ m → IsUntouched h n m row qual
+    → value_at (store_after (first m h)) row qual ≡ value_at (store_after (first n h)) row qual
+
+-- a cell that an entry wrote stands, without merges and drops, until an entry writes its qualifier again
+abbrev pub WrittenStands : Type 0
+WrittenStands = (h : History) (place m : ℕ) (e : Entry) (row : Row) (qual value : List ℕ) → IsLawful h → row.table ≡ Points → entry_at h place ≡ Some e → Wrote row qual value e.step → place ≤ m → IsUntouched h place m row qual
+    → value_at (store_after (first m h)) row qual ≡ Some value
+
+-- a cell of this point row of the store has the reading, with these names
+pub record HasInRow (names : Kind → ℕ → Option (List ℕ)) (s : Store) (row : List ℕ) (r : Reading) : Type 0 where
+  pub qual : List ℕ
+  pub value : List ℕ
+  pub stands : value_at s (point_row row) qual ≡ Some value
+  pub reads : CellReads s.widths names row qual value r
+
+-- the step puts or appends a point of this reading in the row
+abbrev pub IsPutInRow : List ℕ → Step → Reading → Type 0
+IsPutInRow row (PutPoint point p qual value) r = (p ≡ point_row row) × (reading_of point ≡ r)
+IsPutInRow row (AppendPoint point p piece) r = (p ≡ point_row row) × (reading_of point ≡ r)
+IsPutInRow row _ r = ⊥
+
+-- the reading is of a cell that the row has in the base, with these names, or of a point that was put or appended in it
+abbrev pub AcceptedInRow : (Kind → ℕ → Option (List ℕ)) → History → List ℕ → Reading → Type 0
+AcceptedInRow names h row r = HasInRow names (base_of h) row r ⊎ ((e : Entry) × Had h e × IsPutInRow row e.step r)
+
+-- each reading that stands in a row was accepted in that row
+abbrev pub StandingWasAcceptedInRow : Type 0
+StandingWasAcceptedInRow = (h : History) (row : List ℕ) (r : Reading) → IsLawful h → HasInRow (name_of h) (store_after h) row r → AcceptedInRow (name_of h) h row r
 
 -- a wait makes no entry
 abbrev pub WaitIsMade : Type 0

@@ -7,7 +7,7 @@ use Rattle.serde_json.specs.Data.{Data}
 use Rattle.tsd_base.specs.Points.{DataPoint}
 use Rattle.cell_model.specs.declared.answers.Stored.{Stored}
 use Rattle.cell_model.specs.declared.events.Placed.{Placed}
-use Rattle.cell_model.specs.History.{History, first, store_after}
+use Rattle.cell_model.specs.History.{History, first}
 use Rattle.cell_model.specs.Layout.{names_of}
 use Rattle.cell_model.specs.Seen.{Seen, Fits, InEach}
 use Rattle.cell_model.specs.Deeds.{deeds, Made, Since}
@@ -16,7 +16,7 @@ use Rattle.point_put.specs.Admissions.{Admission}
 use Rattle.point_put.specs.declared.fault.PutFault.{PutFault}
 use Rattle.point_put.specs.declared.fault.PutFault.TheVariants.{OutOfMemory}
 use Rattle.point_put.specs.PutPoint.{PointAsked}
-use Rattle.point_put.proofs.CallerLemmas.{none_for}
+use Rattle.point_put.proofs.CallerLemmas.{none_in_turn}
 use Rattle.compactor.specs.Queues.{HasRows}
 use Rattle.compactor.proofs.CallerLemmas.{rows_none, rows_joined}
 use Rattle.queued_put.specs.PutRows.{IsPutRow, MayHaveRows}
@@ -95,7 +95,7 @@ may_have_put c ds old new before after begun h l f =
 -- ---- nothing of an element
 
 pub read_nothing : (c : Admission) (read : Result DataPoint ElementFault) (h : History) → ReadBegun c read h []
-read_nothing c (Ok point) h = (Err OutOfMemory, none_for (store_after h).widths c (names_of point))
+read_nothing c (Ok point) h = (Err OutOfMemory, none_in_turn c h (names_of point))
 read_nothing c (Err fault) h = refl
 
 first_nothing : (c : Admission) (rest : List Data) (h : History) → FirstBegun c rest h []

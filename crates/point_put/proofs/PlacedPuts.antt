@@ -22,7 +22,7 @@ use Rattle.point_put.specs.ShownIds.{AllShown, KeyShown}
 use Rattle.point_put.specs.PutPoint.{PutSays, StoreMade}
 use Rattle.point_put.specs.StoredTexts.{answer_at, place_of}
 use Rattle.point_put.specs.TextPuts.{IsFewFor, point_at}
-use Rattle.point_put.proofs.Asking.{none_for}
+use Rattle.point_put.proofs.Asking.{none_for, none_in_turn}
 use Rattle.point_put.proofs.Outcomes.{put_done}
 
 -- the row of a placed point is one of its hour
@@ -65,7 +65,7 @@ refilled_as p q time fine value value' same r = subst (λ v. IsRefilled p time f
 
 -- a put whose names were all shown takes one step
 pub put_shown : (c : Admission) (point : DataPoint) (old new : Seen) (key : RowKey) (r : Result Stored PutFault) → AllShown old (names_of point) → StoreMade c.config.appends point old r new → PutSays c point old r new
-put_shown c point old new key r all made = put_done c point old old new key r (record { list = []; made = nothing_made old; entries = none_for old.base.widths c (names_of point); answered = all }) made
+put_shown c point old new key r all made = put_done c point old old new key r (record { list = []; made = nothing_made old; entries = none_for old.base.widths c (names_of point); turns = λ h l f. none_in_turn c h (names_of point); answered = all }) made
 
 -- a step of a put loses nothing
 pub stored_later : (appends : Bool) (point : DataPoint) (old new : Seen) (r : Result Stored PutFault) → StoreMade appends point old r new → IsLater old new

@@ -1,7 +1,9 @@
 -- The entries that a caller makes for the names of a point, where ids have these widths.
-use Rattle.std.specs.Prelude.{◌≡◌, ℕ, true, false, List, [], ◌∷◌, ◌++◌, Contains, Option, None}
+use Rattle.std.specs.Prelude.{◌≡◌, ℕ, ◌-◌, true, false, List, [], ◌∷◌, ◌++◌, Contains, Option, None}
 use Rattle.tsd_base.specs.declared.kinds.Kind.{Kind}
 use Rattle.cell_model.specs.KindWidths.{Widths}
+use Rattle.cell_model.specs.History.{History, first, store_after}
+use Rattle.cell_model.specs.IdRows.{IsResolved, AllResolved}
 use Rattle.cell_model.specs.declared.events.Step.TheVariants.{Bump}
 use Rattle.cell_model.specs.declared.events.Reply.TheVariants.{BumpReply}
 use Rattle.cell_model.specs.declared.events.Placed.{Placed}
@@ -27,19 +29,37 @@ pub data ForNames (w : Widths) (c : Admission) : List (Kind × List ℕ) → Lis
   nil : ForNames w c [] []
   more : {kind : Kind} {name : List ℕ} {names : List (Kind × List ℕ)} {part list : List Placed} → ForName w c kind name part → ForNames w c names list → ForNames w c ((kind, name) ∷ names) (part ++ list)
 
--- names of the kind aren't given ids, and a read found no cell of this one
+-- the name is resolved in the history before each of these entries
+abbrev pub ResolvedBefore : History → Kind × List ℕ → List Placed → Type 0
+ResolvedBefore h n list = (d : Placed) → Contains list d → IsResolved (first (d.place - 1) h) n
+
+-- the entries for these names, one name after the other: each name is resolved before there is an entry for a later one
+pub data InTurn (c : Admission) (h : History) : List (Kind × List ℕ) → List Placed → Type 0 where
+  done : InTurn c h [] []
+  then_next : {kind : Kind} {name : List ℕ} {names : List (Kind × List ℕ)} {part list : List Placed} → ForName (store_after h).widths c kind name part → ResolvedBefore h (kind, name) list → InTurn c h names list
+      → InTurn c h ((kind, name) ∷ names) (part ++ list)
+
+-- The entries end with those for this one of the names: each name before it is resolved, and for the names behind it there is no entry.
+pub record EndsAt (c : Admission) (h : History) (names : List (Kind × List ℕ)) (kind : Kind) (name : List ℕ) (list : List Placed) : Type 0 where
+  pub before : List (Kind × List ℕ)
+  pub behind : List (Kind × List ℕ)
+  pub names_are : names ≡ before ++ (kind, name) ∷ behind
+  pub resolved : AllResolved h before
+  pub entries : InTurn c h (before ++ (kind, name) ∷ []) list
+
+-- the last entry is a read that found no cell of the name
+abbrev pub EndsUnfound : Kind → List ℕ → List Placed → Type 0
+EndsUnfound kind name list = (front : List Placed) × (d : Placed) × (list ≡ front ++ d ∷ []) × DidLook d kind name None
+
+-- names of the kind aren't given ids, and the last entry is a read that found no cell of this one
 abbrev pub WasUnknown : Admission → Kind → List ℕ → List Placed → Type 0
-WasUnknown c kind name list = (makes c.config kind ≡ false) × ((d : Placed) × Contains list d × DidLook d kind name None)
+WasUnknown c kind name list = (makes c.config kind ≡ false) × EndsUnfound kind name list
 
 -- names of the kind are given ids, the patterns don't allow this one, and the last entry is a read that found no cell of it
 abbrev pub WasFiltered : Admission → Kind → List ℕ → List Placed → Type 0
-WasFiltered c kind name list =
-    (makes c.config kind ≡ true) × (allowed c.patterns kind name ≡ false) × ((front : List Placed) × (d : Placed) × (list ≡ front ++ d ∷ []) × DidLook d kind name None)
+WasFiltered c kind name list = (makes c.config kind ≡ true) × (allowed c.patterns kind name ≡ false) × EndsUnfound kind name list
 
--- names of the kind are given ids, and a bump found the counter full
-abbrev pub WasExhausted : Admission → Kind → List Placed → Type 0
-WasExhausted c kind list = (makes c.config kind ≡ true) × ((d : Placed) × Contains list d × Did d (Bump kind) (BumpReply Full))
-
--- those of the names that stand before this one
-abbrev pub Before : List (Kind × List ℕ) → Kind → List ℕ → (List (Kind × List ℕ) → Type 0) → Type 0
-Before names kind name P = (before : List (Kind × List ℕ)) × (after : List (Kind × List ℕ)) × (names ≡ before ++ (kind, name) ∷ after) × P before
+-- the name may be given an id, and the last entries are a read that found no cell of it and a bump that found the counter full
+abbrev pub WasExhausted : Admission → Kind → List ℕ → List Placed → Type 0
+WasExhausted c kind name list =
+    IsAdmitted c kind name × ((front : List Placed) × (r : Placed) × (b : Placed) × (list ≡ front ++ r ∷ b ∷ []) × DidLook r kind name None × Did b (Bump kind) (BumpReply Full))

@@ -1,5 +1,5 @@
 -- What a put is answered, by the entries that its caller makes for it.
-use Rattle.std.specs.Prelude.{◌≡◌, ℕ, Bool, List, [], ◌∷◌, ◌++◌, Some, Result, Ok, Err}
+use Rattle.std.specs.Prelude.{◌≡◌, ℕ, ◌-◌, Bool, List, [], ◌∷◌, ◌++◌, Some, Result, Ok, Err}
 use Rattle.tsd_base.specs.Points.{DataPoint}
 use Rattle.cell_model.specs.declared.answers.Stored.{Stored}
 use Rattle.cell_model.specs.declared.row.Row.{Row}
@@ -16,7 +16,7 @@ use Rattle.uid_table.specs.IdSteps.{Did}
 use Rattle.point_put.specs.declared.fault.PutFault.{PutFault}
 use Rattle.point_put.specs.declared.fault.PutFault.TheVariants.{Unknown, Filtered, Exhausted, OutOfMemory, Stopped}
 use Rattle.point_put.specs.Admissions.{Admission}
-use Rattle.point_put.specs.Entries.{ForNames, WasUnknown, WasFiltered, WasExhausted, Before}
+use Rattle.point_put.specs.Entries.{InTurn, EndsAt, WasUnknown, WasFiltered, WasExhausted}
 
 -- the entry puts the point in this row, or with appends it appends it there, in the layout with the ids that its names have after the history
 pub record DidStore (appends : Bool) (h : History) (point : DataPoint) (row : Row) (d : Placed) : Type 0 where
@@ -25,12 +25,13 @@ pub record DidStore (appends : Bool) (h : History) (point : DataPoint) (row : Ro
   pub did : Did d (store_step appends point row qual value) Written
   pub layout : PointBasis (store_after h).widths (λ kind name id. id_of h kind name ≡ Some id) point row qual value
 
--- the entries for the names, and one more, which puts or appends the point
+-- the entries for the names, and one more, before which all of them are resolved, and which puts or appends the point
 pub record WasStored (c : Admission) (point : DataPoint) (h : History) (list : List Placed) (stored : Stored) : Type 0 where
   pub names : List Placed
   pub put : Placed
   pub list_is : list ≡ names ++ put ∷ []
-  pub entries : ForNames (store_after h).widths c (names_of point) names
+  pub entries : InTurn c h (names_of point) names
+  pub resolved : AllResolved (first (put.place - 1) h) (names_of point)
   pub did : DidStore c.config.appends h point stored.row put
   pub base : stored.base ≡ base_time point.time
 
@@ -45,14 +46,15 @@ StoreMade appends point old (Err OutOfMemory) new = Made old [] new
 StoreMade appends point old (Err Stopped) new = Made old [] new
 
 -- A point was asked, by these entries of its caller and the history as long as the caller has seen it. Accepted, they have one put, or with appends
--- one append, of the point; refused, they have neither, and the names before the one that is told are resolved; without memory or stopped, they have neither.
+-- one append, of the point; refused, they have neither, and end with those for the name that is told; without memory or stopped, they have neither.
+-- In each case a name is resolved before the next one is asked.
 abbrev pub PointAsked : Admission → DataPoint → History → List Placed → Result Stored PutFault → Type 0
 PointAsked c point h list (Ok stored) = WasStored c point h list stored
-PointAsked c point h list (Err (Unknown kind name)) = ForNames (store_after h).widths c (names_of point) list × WasUnknown c kind name list × Before (names_of point) kind name (AllResolved h)
-PointAsked c point h list (Err (Filtered kind name)) = ForNames (store_after h).widths c (names_of point) list × WasFiltered c kind name list × Before (names_of point) kind name (AllResolved h)
-PointAsked c point h list (Err (Exhausted kind)) = ForNames (store_after h).widths c (names_of point) list × WasExhausted c kind list × ((name : List ℕ) × Before (names_of point) kind name (AllResolved h))
-PointAsked c point h list (Err OutOfMemory) = ForNames (store_after h).widths c (names_of point) list
-PointAsked c point h list (Err Stopped) = ForNames (store_after h).widths c (names_of point) list
+PointAsked c point h list (Err (Unknown kind name)) = EndsAt c h (names_of point) kind name list × WasUnknown c kind name list
+PointAsked c point h list (Err (Filtered kind name)) = EndsAt c h (names_of point) kind name list × WasFiltered c kind name list
+PointAsked c point h list (Err (Exhausted kind)) = (name : List ℕ) × EndsAt c h (names_of point) kind name list × WasExhausted c kind name list
+PointAsked c point h list (Err OutOfMemory) = InTurn c h (names_of point) list
+PointAsked c point h list (Err Stopped) = InTurn c h (names_of point) list
 
 -- the caller made these entries and no other, by which the point was asked, in each history that fits
 abbrev pub PutSays : Admission → DataPoint → Seen → Result Stored PutFault → Seen → Type 0

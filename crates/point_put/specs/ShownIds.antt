@@ -1,20 +1,28 @@
 -- What a caller has seen of the names of a point.
-use Rattle.std.specs.Prelude.{ℕ, ◌<◌, ◌≤◌, List, length, slice_index_or, Result, Ok, Err}
+use Rattle.std.specs.Prelude.{◌≡◌, ℕ, ◌<◌, ◌≤◌, List, [], ◌∷◌, ◌++◌, length, slice_index_or, Result, Ok, Err}
 use Rattle.tsd_base.specs.declared.kinds.Kind.{Kind}
 use Rattle.cell_model.specs.declared.events.Placed.{Placed}
-use Rattle.cell_model.specs.Seen.{Seen}
+use Rattle.cell_model.specs.Seen.{Seen, InEach}
 use Rattle.cell_model.specs.Deeds.{Made}
 pub use Rattle.uid_table.specs.ShownKeys.{AllShown, IdsShown, Rising, PairsShown, KeyShown}
 use Rattle.point_put.specs.declared.fault.PutFault.{PutFault}
 use Rattle.point_put.specs.declared.fault.PutFault.TheVariants.{Unknown, Filtered, Exhausted, OutOfMemory, Stopped}
 use Rattle.point_put.specs.Admissions.{Admission}
-use Rattle.point_put.specs.Entries.{ForNames, WasUnknown, WasFiltered, WasExhausted, Before}
+use Rattle.point_put.specs.Entries.{ForNames, InTurn, WasUnknown, WasFiltered, WasExhausted}
+
+-- the entries end with those for this one of the names: an id of each name before it was seen, and for the names behind it there is no entry
+pub record StopsAt (c : Admission) (names : List (Kind × List ℕ)) (s : Seen) (kind : Kind) (name : List ℕ) (list : List Placed) : Type 0 where
+  pub before : List (Kind × List ℕ)
+  pub behind : List (Kind × List ℕ)
+  pub names_are : names ≡ before ++ (kind, name) ∷ behind
+  pub shown : AllShown s before
+  pub entries : InEach s (λ h. InTurn c h (before ++ (kind, name) ∷ []) list)
 
 -- what keeps the names from being resolved
 abbrev pub Fails : Admission → List (Kind × List ℕ) → Seen → PutFault → List Placed → Type 0
-Fails c names s (Unknown kind name) list = WasUnknown c kind name list × Before names kind name (AllShown s)
-Fails c names s (Filtered kind name) list = WasFiltered c kind name list × Before names kind name (AllShown s)
-Fails c names s (Exhausted kind) list = WasExhausted c kind list × ((name : List ℕ) × Before names kind name (AllShown s))
+Fails c names s (Unknown kind name) list = StopsAt c names s kind name list × WasUnknown c kind name list
+Fails c names s (Filtered kind name) list = StopsAt c names s kind name list × WasFiltered c kind name list
+Fails c names s (Exhausted kind) list = (name : List ℕ) × StopsAt c names s kind name list × WasExhausted c kind name list
 Fails c names s OutOfMemory list = Unit {0}
 Fails c names s Stopped list = Unit {0}
 
@@ -23,11 +31,12 @@ abbrev pub Answered : {T : Type 0} → Admission → List (Kind × List ℕ) →
 Answered c names s (Ok x) list = AllShown s names
 Answered c names s (Err fault) list = Fails c names s fault list
 
--- the names were asked, in this order
+-- the names were asked, in this order, each once those before it were resolved
 pub record NamesAsked {T : Type 0} (c : Admission) (names : List (Kind × List ℕ)) (old : Seen) (result : Result T PutFault) (new : Seen) : Type 0 where
   pub list : List Placed
   pub made : Made old list new
   pub entries : ForNames old.base.widths c names list
+  pub turns : InEach new (λ h. InTurn c h names list)
   pub answered : Answered c names new result list
 
 -- the pairs before this place are below the id, the others above it

@@ -38,7 +38,7 @@ use Rattle.uid_table.specs.declared.placed_point.PlacedPoint.{PlacedPoint}
 use Rattle.uid_table.specs.ShownKeys.{AllShown, IdsShown, PairsShown, KeyShown}
 use Rattle.uid_table.specs.PlacedPoints.{IsPlaced}
 use Rattle.uid_table.specs.KnownSeries.{IsShownSeries, IsShownSlot, KeepsSeries, KeepsNone}
-use Rattle.uid_table.specs.Cache.{AreAmong, IsShownId, KeepsIds, KeepsNames}
+use Rattle.uid_table.specs.Cache.{AreAmong, IsCapped, IsShownId, KeepsIds, KeepsNames}
 use Rattle.cell_laws.proofs.CallerLemmas.{wait_made, step_extends, extends_joined}
 use Rattle.uid_table.proofs.Shows.{shown_kept, with_base}
 
@@ -82,6 +82,11 @@ module _ {K V : Type 0} (eq : K → K → Bool) (exact : (k j : K) → eq k j �
       → ((e : K × V) → Contains old.entries e → P e) → P (k, v) → (e : K × V) → Contains new.entries e → P e
   after_put P old new k v (Ok x) done kept all one e is = each_put P old k v all one e (subst (λ (c : LruCache K V). Contains c.entries e) done is)
   after_put P old new k v (Err x) done kept all one e is = all e (subst (λ (c : LruCache K V). Contains c.entries e) kept is)
+
+  -- nor does it change how many there may be
+  pub cap_put : {T E : Type 0} (old new : LruCache K V) (k : K) (v : V) (r : Result T E) → OnOk r (new ≡ lru_cache (put_entries eq old k v) old.cap) → OnErr r (new ≡ old) → new.cap ≡ old.cap
+  cap_put old new k v (Ok x) done kept = ap (λ (c : LruCache K V). c.cap) done
+  cap_put old new k v (Err x) done kept = ap (λ (c : LruCache K V). c.cap) kept
 
   -- a look leaves the pairs
   pub after_get : (old new : LruCache K V) (k : K) → new ≡ lru_cache (promoted (eq k) old.entries) old.cap → AreAmong new.entries old.entries
@@ -163,13 +168,21 @@ series_kept s t slots on all k d lt = slot_kept s t _ on (all k d lt)
 pub none_kept : (s : Seen) (slots : List (Option (Box KnownSeries))) → KeepsNone slots → KeepsSeries s slots
 none_kept s slots none k d lt = subst (IsShownSlot s) (sym (none k d lt)) tt
 
+-- how many pairs a cache may have, whatever it has
+pub cap_of : {K V : Type 0} (c : LruCache K V) (es : List (K × V)) (cap : ℕ) → c ≡ lru_cache es cap → c.cap ≡ cap
+cap_of c es cap is = ap (λ (x : LruCache _ _). x.cap) is
+
 -- no pair is kept
 pub no_pairs : {K V : Type 0} (P : K × V → Type 0) (c : LruCache K V) (cap : ℕ) → c ≡ lru_cache [] cap → (e : K × V) → Contains c.entries e → P e
 no_pairs P c cap is e h = absurd (not_in e (subst (λ (x : LruCache _ _). Contains x.entries e) is h))
 
-pub kept_on : (s t : Seen) (ids : List (NameKey × ℕ)) (names : List (IdKey × List ℕ)) (slots : List (Option (Box KnownSeries))) → KeepsIds s ids × KeepsNames s names × KeepsSeries s slots → IsLater s t
-    → KeepsIds t ids × KeepsNames t names × KeepsSeries t slots
-kept_on s t ids names slots all on = (ids_kept s t ids on all.0, names_kept s t names on all.1, series_kept s t slots on all.2)
+pub kept_on : {C : Type 0} (s t : Seen) (ids : List (NameKey × ℕ)) (names : List (IdKey × List ℕ)) (slots : List (Option (Box KnownSeries))) → KeepsIds s ids × KeepsNames s names × KeepsSeries s slots × C → IsLater s t
+    → KeepsIds t ids × KeepsNames t names × KeepsSeries t slots × C
+kept_on s t ids names slots all on = (ids_kept s t ids on all.0, names_kept s t names on all.1, series_kept s t slots on all.2, all.3)
+
+-- no call changes how many pairs may be kept
+pub capped_on : (ids names ids' names' : ℕ) → ids' ≡ ids → names' ≡ names → IsCapped ids names → IsCapped ids' names'
+capped_on ids names ids' names' a b capped = subst (λ (n : ℕ × ℕ). IsCapped n.0 n.1) (λ i. (sym a i, sym b i)) capped
 
 -- a look leaves what is kept shown
 pub look_kept : {K V : Type 0} (P : K × V → Type 0) (old new : List (K × V)) → AreAmong new old → ((e : K × V) → Contains old e → P e) → (e : K × V) → Contains new e → P e

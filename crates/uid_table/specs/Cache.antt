@@ -1,5 +1,5 @@
 -- The pairs of names and ids that are kept.
-use Rattle.std.specs.Prelude.{ℕ, List, Contains}
+use Rattle.std.specs.Prelude.{ℕ, ◌≤◌, List, Contains}
 use Rattle.cell_model.specs.Seen.{Seen, IsPossible}
 use Rattle.uid_table.specs.declared.cache.NameKey.{NameKey}
 use Rattle.uid_table.specs.declared.cache.IdKey.{IdKey}
@@ -24,3 +24,7 @@ KeepsIds s ids = (pair : NameKey × ℕ) → Contains ids pair → IsShownId s p
 -- and of each name
 abbrev pub KeepsNames : Seen → List (IdKey × List ℕ) → Type 0
 KeepsNames s names = (pair : IdKey × List ℕ) → Contains names pair → IsShownName s pair
+
+-- at most so many pairs are kept by name, and so many by id; a cache has at most its capacity
+abbrev pub IsCapped : ℕ → ℕ → Type 0
+IsCapped ids names = (ids ≤ 1000000) × (names ≤ 1000000)

@@ -81,7 +81,7 @@ pub fn name_key(alloc: Global, kind: Kind, name: &Name) -> Result<NameKey, Alloc
     Ok(NameKey { kind, row })
 }
 
-/// Ids by the names that have them.
+/// Ids by the names that have them. A cache has at most as many pairs as its capacity, which no call here changes.
 pub type Ids = LruCache<NameKey, u32>;
 
 /// Names by the ids that they have.
@@ -98,17 +98,28 @@ pub fn nothing_kept(alloc: Global, cap: u32) -> Result<(Ids, Names), AllocError>
     Ok((LruCache::sparse(alloc, cap)?, LruCache::sparse(alloc, cap)?))
 }
 
+/// Forgets what is kept. How many pairs may be kept stays as it is.
+pub fn forget(ids: &mut Ids, names: &mut Names)
+    ensures ids { ids.new ≡ lru_cache [] ids.old.cap }
+    ensures names { names.new ≡ lru_cache [] names.old.cap }
+{
+    ids.clear();
+    names.clear();
+}
+
 /// The id that is kept for a name.
 pub fn kept_id(ids: &mut Ids, key: &NameKey) -> Option<u32>
     ensures found { IfSome result (λ id. Contains ids.old.entries (key.now, id)) }
     ensures kept { AreAmong ids.new.entries ids.old.entries }
+    ensures cap { ids.new.cap ≡ ids.old.cap }
 {
     ids.get(key).copied()
 }
 
 /// Keeps the id of a name, where there is memory for it.
 pub fn keep_id(ids: &mut Ids, key: NameKey, id: u32)
-    ensures { (s : Seen) → KeepsIds s ids.old.entries → IsShownId s (key, id) → KeepsIds s ids.new.entries }
+    ensures shown { (s : Seen) → KeepsIds s ids.old.entries → IsShownId s (key, id) → KeepsIds s ids.new.entries }
+    ensures cap { ids.new.cap ≡ ids.old.cap }
 {
     let _ = ids.put(key, id);
 }
@@ -117,6 +128,7 @@ pub fn keep_id(ids: &mut Ids, key: NameKey, id: u32)
 pub fn kept_name(names: &mut Names, alloc: Global, key: IdKey) -> Result<Option<Name>, AllocError>
     ensures found { IfOk result (λ found. IfSome found (λ name. Contains names.old.entries (key, name))) }
     ensures kept { AreAmong names.new.entries names.old.entries }
+    ensures cap { names.new.cap ≡ names.old.cap }
 {
     match names.get(&key) {
         Some(name) => Ok(Some(name.again(alloc)?)),
@@ -126,7 +138,8 @@ pub fn kept_name(names: &mut Names, alloc: Global, key: IdKey) -> Result<Option<
 
 /// Keeps a copy of the name of an id, where there is memory for it.
 pub fn keep_name(names: &mut Names, alloc: Global, key: IdKey, name: &Name)
-    ensures { (s : Seen) → KeepsNames s names.old.entries → IsShownName s (key, name.now) → KeepsNames s names.new.entries }
+    ensures shown { (s : Seen) → KeepsNames s names.old.entries → IsShownName s (key, name.now) → KeepsNames s names.new.entries }
+    ensures cap { names.new.cap ≡ names.old.cap }
 {
     if let Ok(name) = name.again(alloc) {
         let _ = names.put(key, name);

@@ -13,7 +13,8 @@ ghost use Rattle.uid_table.specs.IdSteps.{MadeSo, ResolveMade, AssignMade, NameM
 
 use crate::assign::look_or_give;
 use crate::cache::{
-    IdKey, Ids, NameKey, Names, keep_id, keep_name, kept_id, kept_name, name_key, nothing_kept,
+    IdKey, Ids, NameKey, Names, forget, keep_id, keep_name, kept_id, kept_name, name_key,
+    nothing_kept,
 };
 use crate::id_answers::{AssignFault, Assigned, ResolveFault};
 use crate::id_name::name_in;
@@ -54,14 +55,14 @@ pub struct Uids<R: Rows + Drop> {
 }
 
 impl<R: Rows + Drop> Model for Uids<R> {
-    ghost use Rattle.uid_table.specs.Cache.{KeepsIds, KeepsNames};
+    ghost use Rattle.uid_table.specs.Cache.{IsCapped, KeepsIds, KeepsNames};
     ghost use Rattle.uid_table.specs.KnownSeries.{KeepsSeries};
 
     ghost Value = { R };
 
     ghost view = { λ u. u.rows };
 
-    ghost invariant = { λ u. KeepsIds (R.seen u.rows) u.ids.entries × KeepsNames (R.seen u.rows) u.names.entries × KeepsSeries (R.seen u.rows) u.series };
+    ghost invariant = { λ u. KeepsIds (R.seen u.rows) u.ids.entries × KeepsNames (R.seen u.rows) u.names.entries × KeepsSeries (R.seen u.rows) u.series × IsCapped u.ids.cap u.names.cap };
 }
 
 impl<R: Rows + Drop> Uids<R> {
@@ -103,8 +104,7 @@ impl<R: Rows + Drop> Uids<R> {
     pub fn drop_cache(&mut self)
         ensures { self.new ≡ self.old }
     {
-        self.ids.clear();
-        self.names.clear();
+        forget(&mut self.ids, &mut self.names);
         self.series.clear();
     }
 
@@ -221,6 +221,7 @@ fn resolve_in<R: Rows>(
     ensures id { IfOk result (HasShown (R.seen rows.new) key.kind key.row.bytes) }
     ensures leaves { Leaves is_resolve_stop result (R.seen rows.new) (R.stops rows.old) (R.stops rows.new) }
     ensures kept { KeepsIds (R.seen rows.new) ids.new.entries }
+    ensures cap { ids.new.cap ≡ ids.old.cap }
 {
     match kept_id(ids, &key) {
         Some(id) => Ok(id),
@@ -242,6 +243,7 @@ fn resolve_anew<R: Rows>(
     ensures id { IfOk result (HasShown (R.seen rows.new) key.kind key.row.bytes) }
     ensures leaves { Leaves is_resolve_stop result (R.seen rows.new) (R.stops rows.old) (R.stops rows.new) }
     ensures kept { KeepsIds (R.seen rows.new) ids.new.entries }
+    ensures cap { ids.new.cap ≡ ids.old.cap }
 {
     let kind = key.kind;
     let shown = look(rows, alloc, kind, &key.row)?;
@@ -271,6 +273,7 @@ fn assign_in<R: Rows>(
     ensures id { IfOk result (λ a. HasShown (R.seen rows.new) key.kind key.row.bytes (answered_id a)) }
     ensures leaves { Leaves is_assign_stop result (R.seen rows.new) (R.stops rows.old) (R.stops rows.new) }
     ensures kept { KeepsIds (R.seen rows.new) ids.new.entries }
+    ensures cap { ids.new.cap ≡ ids.old.cap }
 {
     match kept_id(ids, &key) {
         Some(id) => Ok(Assigned::Existing { id }),
@@ -295,6 +298,7 @@ fn assign_anew<R: Rows>(
     ensures id { IfOk result (λ a. HasShown (R.seen rows.new) key.kind key.row.bytes (answered_id a)) }
     ensures leaves { Leaves is_assign_stop result (R.seen rows.new) (R.stops rows.old) (R.stops rows.new) }
     ensures kept { KeepsIds (R.seen rows.new) ids.new.entries }
+    ensures cap { ids.new.cap ≡ ids.old.cap }
 {
     let assigned = look_or_give(rows, alloc, rule, key.kind, name, &key.row)?;
     keep_id(ids, key, assigned.id());
@@ -314,6 +318,7 @@ fn name_of_in<R: Rows>(
     ensures name { IfOk result (HasShownName (R.seen rows.new) key.kind key.id) }
     ensures leaves { Leaves is_stop result (R.seen rows.new) (R.stops rows.old) (R.stops rows.new) }
     ensures kept { KeepsNames (R.seen rows.new) names.new.entries }
+    ensures cap { names.new.cap ≡ names.old.cap }
 {
     match kept_name(names, alloc, key) {
         Ok(Some(name)) => Ok(name),
@@ -335,6 +340,7 @@ fn name_anew<R: Rows>(
     ensures name { IfOk result (HasShownName (R.seen rows.new) key.kind key.id) }
     ensures leaves { Leaves is_stop result (R.seen rows.new) (R.stops rows.old) (R.stops rows.new) }
     ensures kept { KeepsNames (R.seen rows.new) names.new.entries }
+    ensures cap { names.new.cap ≡ names.old.cap }
 {
     let name = name_in(rows, alloc, key.kind, key.id)?;
     keep_name(names, alloc, key, &name);

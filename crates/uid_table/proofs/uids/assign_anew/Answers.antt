@@ -8,4 +8,4 @@ returns-in_err-assigned-clause-kept g c = ids_kept _ _ _ (made_on _ _ _ c.look_o
 pub returns-clause-kept : goal.returns-clause-kept
 returns-clause-kept g c =
     let shown = shown_as _ c.args.key _ _ _ _ refl refl c.id.ensures c.in_ok-assigned.ensures.id c.in_ok-assigned.ensures.leaves.possible in
-    c.keep_id.ensures _ (ids_kept _ _ _ (made_on _ _ _ c.look_or_give.ensures.made) c.requires.kept) shown
+    c.keep_id.ensures.shown _ (ids_kept _ _ _ (made_on _ _ _ c.look_or_give.ensures.made) c.requires.kept) shown
