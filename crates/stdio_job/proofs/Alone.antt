@@ -13,6 +13,7 @@ use Rattle.list_lemmas.proofs.ListMembers.{here}
 use Rattle.tsd_daemon.specs.declared.served.Served.{Served}
 use Rattle.tsd_daemon.specs.declared.served.Served.TheVariants as answer
 use Rattle.tsd_daemon.specs.Exchanges.Ran.{start}
+use Rattle.tsd_daemon.proofs.CallerLemmas.{no_piece_yet}
 use Rattle.tsd_daemon.specs.ServedConns.{Fills, IsServed, Serves}
 use Rattle.stdio_job.specs.LoneConnections.{IsServedAlone}
 
@@ -54,6 +55,7 @@ none_served w c = record {
     in_range = omega arith;
     ran = start;
     table = record { rest = []; requests = refl; replies = refl; moment = None; moments = refl; begun = (refl, refl) };
+    pieces = no_piece_yet;
   };
 }
 

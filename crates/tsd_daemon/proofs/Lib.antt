@@ -1,4 +1,5 @@
 mod Giving
+mod LastTaken
 mod Points
 mod Moving
 mod Pieces

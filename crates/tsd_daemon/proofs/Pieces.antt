@@ -8,6 +8,7 @@ use Rattle.telnet_put.specs.Unread.{Unread}
 use Rattle.point_put.specs.Admissions.{Admission}
 use Rattle.tsd_daemon.specs.declared.served.Served.{Served}
 use Rattle.tsd_daemon.specs.declared.served.Served.TheVariants as answer
+use Rattle.tsd_daemon.specs.ConnClocks.{ClockTells}
 use Rattle.tsd_daemon.specs.ConnPieces.{PieceTaken, TakesNext}
 use Rattle.tsd_daemon.specs.ConnRequests.{ConnRequest}
 use Rattle.tsd_daemon.specs.ConnRequests.ConnRequest.{Telnet}
@@ -161,38 +162,38 @@ piece_moved taken taken' left left' held held' waiting old new (Err answer.Clock
 piece_moved taken taken' left left' held held' waiting old new (Err answer.OutOfMemory) g t = (g, t)
 
 -- what waited was given, and a piece was taken
-pub talk_piece : (c : Admission) (from : Start) (taken left taken' left' moments : Option (List ℕ)) (now : Stand) (held' : Option (List ℕ)) (input new : PieceTaken) (come : List ℕ → List ConnRequest)
-    → Talks c from (record { taken = taken; left = left; moments = moments; size = input.taken }) now come → PieceMoves taken taken' left left' now.held held' now.waiting input (Ok tt) new
-    → Talks c from (record { taken = taken'; left = left'; moments = moments; size = new.taken }) (record { seen = now.seen; held = held'; queue = now.queue; waiting = []; counts = now.counts }) (λ more. come (new.piece ++ more))
-talk_piece c from taken left taken' left' moments now held' input new come k (g, t) =
-    subst (λ (piece : List ℕ). Talks c from (record { taken = taken'; left = left'; moments = moments; size = new.taken }) (record { seen = now.seen; held = held'; queue = now.queue; waiting = []; counts = now.counts }) (λ more. come (piece ++ more))) (sym t.next.0)
-    (talk_took c from (record { taken = taken; left = left; moments = moments; size = input.taken }) taken' left' new.taken _ come t.more (talk_gave c from _ now held' come k g) t.takes t.leaves t.count)
+pub talk_piece : (c : Admission) (from : Start) (taken left taken' left' : Option (List ℕ)) (clock : ClockTells) (now : Stand) (held' : Option (List ℕ)) (input new : PieceTaken) (come : List ℕ → List ConnRequest)
+    → Talks c from (record { taken = taken; left = left; clock = clock; size = input.taken }) now come → come [] ≡ [] → PieceMoves taken taken' left left' now.held held' now.waiting input (Ok tt) new
+    → Talks c from (record { taken = taken'; left = left'; clock = clock; size = new.taken }) (record { seen = now.seen; held = held'; queue = now.queue; waiting = []; counts = now.counts }) (λ more. come (new.piece ++ more))
+talk_piece c from taken left taken' left' clock now held' input new come k none (g, t) =
+    subst (λ (piece : List ℕ). Talks c from (record { taken = taken'; left = left'; clock = clock; size = new.taken }) (record { seen = now.seen; held = held'; queue = now.queue; waiting = []; counts = now.counts }) (λ more. come (piece ++ more))) (sym t.next.0)
+    (talk_took c from (record { taken = taken; left = left; clock = clock; size = input.taken }) taken' left' new.taken _ come t.more (talk_gave c from _ now held' come k g) refl none t.takes t.leaves t.count t.within)
 
 -- what waited was given, and no piece was taken
-quiet_end : (c : Admission) (from : Start) (taken left taken' left' moments : Option (List ℕ)) (now : Stand) (held' : Option (List ℕ)) (input new : PieceTaken) (r : Result (Unit {0}) Served) (come : List ℕ → List ConnRequest)
-    → Talks c from (record { taken = taken; left = left; moments = moments; size = input.taken }) now come → come [] ≡ [] → Gives now.held held' now.waiting [] → (t : TakesNext taken taken' left left' input r new) → t.more ≡ []
-    → Quiet c from (record { taken = taken'; left = left'; moments = moments; size = input.taken }) (record { seen = now.seen; held = held'; queue = now.queue; waiting = []; counts = now.counts })
-quiet_end c from taken left taken' left' moments now held' input new r come k none g t nothing =
+quiet_end : (c : Admission) (from : Start) (taken left taken' left' : Option (List ℕ)) (clock : ClockTells) (now : Stand) (held' : Option (List ℕ)) (input new : PieceTaken) (r : Result (Unit {0}) Served) (come : List ℕ → List ConnRequest)
+    → Talks c from (record { taken = taken; left = left; clock = clock; size = input.taken }) now come → come [] ≡ [] → Gives now.held held' now.waiting [] → (t : TakesNext taken taken' left left' input r new) → t.more ≡ []
+    → Quiet c from (record { taken = taken'; left = left'; clock = clock; size = input.taken }) (record { seen = now.seen; held = held'; queue = now.queue; waiting = []; counts = now.counts })
+quiet_end c from taken left taken' left' clock now held' input new r come k none g t nothing =
     let grows : input.taken ≡ input.taken + length t.more = sym (ap (λ (m : List ℕ). input.taken + length m) nothing ∙ add-zero input.taken) in
-    talk_quiet c from (record { taken = taken'; left = left'; moments = moments; size = input.taken }) (record { seen = now.seen; held = held'; queue = now.queue; waiting = []; counts = now.counts }) (λ more. come (t.more ++ more))
-    (talk_took c from (record { taken = taken; left = left; moments = moments; size = input.taken }) taken' left' input.taken _ come t.more (talk_gave c from _ now held' come k g) t.takes t.leaves grows)
+    talk_quiet c from (record { taken = taken'; left = left'; clock = clock; size = input.taken }) (record { seen = now.seen; held = held'; queue = now.queue; waiting = []; counts = now.counts }) (λ more. come (t.more ++ more))
+    (talk_took c from (record { taken = taken; left = left; clock = clock; size = input.taken }) taken' left' input.taken _ come t.more (talk_gave c from _ now held' come k g) refl none t.takes t.leaves grows t.within)
     refl (ap (λ (m : List ℕ). come (m ++ [])) nothing ∙ none)
 
-pub talk_no_piece : (c : Admission) (from : Start) (taken left taken' left' moments : Option (List ℕ)) (now : Stand) (held' : Option (List ℕ)) (input new : PieceTaken) (end : Served) (come : List ℕ → List ConnRequest)
-    → input.taken ≤ 2 ^ 40 → Talks c from (record { taken = taken; left = left; moments = moments; size = input.taken }) now come → come [] ≡ [] → PieceMoves taken taken' left left' now.held held' now.waiting input (Err end) new
-    → Ends c from taken' left' moments end now.seen held' now.queue
-talk_no_piece c from taken left taken' left' moments now held' input new answer.WriteFault come le k none (g, same, also) =
-    subst (λ (l : Option (List ℕ)). Ends c from taken' l moments answer.WriteFault now.seen held' now.queue) (sym also)
-    (subst (λ (x : Option (List ℕ)). Ends c from x left moments answer.WriteFault now.seen held' now.queue) (sym same) (talk_failed c from (record { taken = taken; left = left; moments = moments; size = input.taken }) now held' come le k g))
-talk_no_piece c from taken left taken' left' moments now held' input new answer.End come le k none (g, t) = (quiet_end c from taken left taken' left' moments now held' input new (Err answer.End) come k none g t t.next.0).end t.next.1
-talk_no_piece c from taken left taken' left' moments now held' input new answer.ReadFault come le k none (g, t) = (quiet_end c from taken left taken' left' moments now held' input new (Err answer.ReadFault) come k none g t t.next.0).failed t.next.1
-talk_no_piece c from taken left taken' left' moments now held' input new answer.SessionFull come le k none (g, t) = (quiet_end c from taken left taken' left' moments now held' input new (Err answer.SessionFull) come k none g t t.next.0).full t.next.1
-talk_no_piece c from taken left taken' left' moments now held' input new answer.Stopped come le k none (g, t) = absurd t.next
-talk_no_piece c from taken left taken' left' moments now held' input new answer.Exit come le k none (g, t) = absurd t.next
-talk_no_piece c from taken left taken' left' moments now held' input new answer.Die come le k none (g, t) = absurd t.next
-talk_no_piece c from taken left taken' left' moments now held' input new answer.Closed come le k none (g, t) = absurd t.next
-talk_no_piece c from taken left taken' left' moments now held' input new answer.ClockFault come le k none (g, t) = absurd t.next
-talk_no_piece c from taken left taken' left' moments now held' input new answer.OutOfMemory come le k none (g, t) = absurd t.next
+pub talk_no_piece : (c : Admission) (from : Start) (taken left taken' left' : Option (List ℕ)) (clock : ClockTells) (now : Stand) (held' : Option (List ℕ)) (input new : PieceTaken) (end : Served) (come : List ℕ → List ConnRequest)
+    → input.taken ≤ 2 ^ 40 → Talks c from (record { taken = taken; left = left; clock = clock; size = input.taken }) now come → come [] ≡ [] → PieceMoves taken taken' left left' now.held held' now.waiting input (Err end) new
+    → Ends c from taken' left' clock end now.seen held' now.queue
+talk_no_piece c from taken left taken' left' clock now held' input new answer.WriteFault come le k none (g, same, also) =
+    subst (λ (l : Option (List ℕ)). Ends c from taken' l clock answer.WriteFault now.seen held' now.queue) (sym also)
+    (subst (λ (x : Option (List ℕ)). Ends c from x left clock answer.WriteFault now.seen held' now.queue) (sym same) (talk_failed c from (record { taken = taken; left = left; clock = clock; size = input.taken }) now held' come le k g))
+talk_no_piece c from taken left taken' left' clock now held' input new answer.End come le k none (g, t) = (quiet_end c from taken left taken' left' clock now held' input new (Err answer.End) come k none g t t.next.0).end t.next.1
+talk_no_piece c from taken left taken' left' clock now held' input new answer.ReadFault come le k none (g, t) = (quiet_end c from taken left taken' left' clock now held' input new (Err answer.ReadFault) come k none g t t.next.0).failed t.next.1
+talk_no_piece c from taken left taken' left' clock now held' input new answer.SessionFull come le k none (g, t) = (quiet_end c from taken left taken' left' clock now held' input new (Err answer.SessionFull) come k none g t t.next.0).full t.next.1
+talk_no_piece c from taken left taken' left' clock now held' input new answer.Stopped come le k none (g, t) = absurd t.next
+talk_no_piece c from taken left taken' left' clock now held' input new answer.Exit come le k none (g, t) = absurd t.next
+talk_no_piece c from taken left taken' left' clock now held' input new answer.Die come le k none (g, t) = absurd t.next
+talk_no_piece c from taken left taken' left' clock now held' input new answer.Closed come le k none (g, t) = absurd t.next
+talk_no_piece c from taken left taken' left' clock now held' input new answer.ClockFault come le k none (g, t) = absurd t.next
+talk_no_piece c from taken left taken' left' clock now held' input new answer.OutOfMemory come le k none (g, t) = absurd t.next
 
 -- ---- telnet requests that are to come
 

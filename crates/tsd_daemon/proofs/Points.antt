@@ -9,15 +9,15 @@ use Rattle.row_key.specs.declared.tables.Table.TheVariants.{Points}
 use Rattle.cell_model.specs.declared.answers.RowsFault.{RowsFault}
 use Rattle.cell_model.specs.declared.answers.Stored.{Stored}
 use Rattle.cell_model.specs.declared.events.Placed.{Placed}
-use Rattle.cell_model.specs.History.{History, first, store_after}
+use Rattle.cell_model.specs.History.{History, first}
 use Rattle.cell_model.specs.Layout.{names_of}
 use Rattle.cell_model.specs.Seen.{Seen, IsPossible}
 use Rattle.cell_model.specs.Deeds.{Made, deeds}
 use Rattle.compactor.specs.Queues.{HasRows}
 use Rattle.compactor.proofs.CallerLemmas.{added_row, rows_none}
 use Rattle.point_put.specs.Admissions.{Admission}
-use Rattle.point_put.specs.Entries.{ForNames}
-use Rattle.point_put.proofs.CallerLemmas.{none_for}
+use Rattle.point_put.specs.Entries.{InTurn}
+use Rattle.point_put.proofs.CallerLemmas.{none_in_turn}
 use Rattle.point_put.specs.declared.fault.TextFault.{TextFault}
 use Rattle.point_put.specs.declared.fault.TextFault.TheVariants.{Unread, Unput}
 use Rattle.point_put.specs.declared.fault.PutFault.{PutFault}
@@ -123,7 +123,7 @@ text_denied c text old new queue fault (Ok answer) says told how = λ counts.
 
 -- whatever came of it, the put was begun
 begun_of : (c : Admission) (h : History) (own : List Placed) (read : Result DataPoint PointFault) → own ≡ [] → BegunBy c h own (point_asked (Put read))
-begun_of c h own (Ok point) none = (Err OutOfMemory, subst (ForNames (store_after h).widths c (names_of point)) (sym none) (none_for (store_after h).widths c (names_of point)))
+begun_of c h own (Ok point) none = (Err OutOfMemory, subst (InTurn c h (names_of point)) (sym none) (none_in_turn c h (names_of point)))
 begun_of c h own (Err fault) none = none
 
 pub text_begun : (c : Admission) (text : List ℕ) (old new : Seen) (queue : List Stored) (outcome : Result StoredText TextFault) → TextSays c text old outcome new → WasBegun c None (put_of text) old queue new queue

@@ -1,6 +1,6 @@
 -- Exchanges that were done, and one more.
 use Rattle.std.proofs.Common.{◌≡◌, ℕ, ◌+◌, ◌^◌, ◌≤◌, Bool, true, false, ◌||◌, List, [], ◌∷◌, ◌++◌, length, refl, sym, ap, subst, ◌∙◌, append_assoc, append-nil, arith}
-use Rattle.std.specs.Prelude.{None, Some, option_to_list, filter, if◌then◌else◌}
+use Rattle.std.specs.Prelude.{Option, None, Some, option_to_list, filter, if◌then◌else◌}
 use Rattle.std.specs.List.{list_any}
 use Rattle.list_lemmas.proofs.ListCuts.{filter_join}
 use Rattle.list_lemmas.proofs.ListParts.{length_push}
@@ -17,6 +17,7 @@ use Rattle.http_exchange.specs.declared.http_call.Call.{Call}
 use Rattle.tsd_daemon.specs.declared.counts.Counts.{Counts}
 use Rattle.tsd_daemon.specs.declared.served.Served.{Served}
 use Rattle.tsd_daemon.specs.declared.served.Served.TheVariants as answer
+use Rattle.tsd_daemon.specs.ConnClocks.{CalledForEach, CalledOnce}
 use Rattle.tsd_daemon.specs.ConnRequests.{ConnRequest, closes_conn, end_of}
 use Rattle.tsd_daemon.specs.ConnRequests.ConnRequest.{Telnet, Http}
 use Rattle.tsd_daemon.specs.ConnReplies.{counts_with, one_more}
@@ -101,16 +102,17 @@ pub record ClosesSo (request : ConnRequest) (end : Served) : Type 0 where
   pub table : (c : Admission) (h : History) (caller n n2 : ℕ) (done : List Exchange) (input output times : List ℕ) → Closes end done input output times (deeds h caller n n2) → Table end c h caller n n2 done input output times
   pub queue : (before rows : List Stored) (later : List Placed) (after : List Stored) → HasRows before rows after → QueueTable end before rows later after
   pub fills : (count : ℕ) → count ≤ 2 ^ 40 → Fills end count
+  pub called : (calls : Option ℕ) (times : List ℕ) (after : Option ℕ) → CalledForEach calls times after → CalledOnce end calls times after
   pub closes : closes_conn request ≡ true
 
 exits : ClosesSo (Telnet Exit) answer.Exit
-exits = record { table = λ c h caller n n2 done input output times t. t; queue = λ before rows later after q. q; fills = λ count le. le; closes = refl }
+exits = record { table = λ c h caller n n2 done input output times t. t; queue = λ before rows later after q. q; fills = λ count le. le; called = λ calls times after once. once; closes = refl }
 
 dies : ClosesSo (Telnet Die) answer.Die
-dies = record { table = λ c h caller n n2 done input output times t. t; queue = λ before rows later after q. q; fills = λ count le. le; closes = refl }
+dies = record { table = λ c h caller n n2 done input output times t. t; queue = λ before rows later after q. q; fills = λ count le. le; called = λ calls times after once. once; closes = refl }
 
 call_closes : (call : Call) → call.closing ≡ true → ClosesSo (Http call) answer.Closed
-call_closes call is = record { table = λ c h caller n n2 done input output times t. t; queue = λ before rows later after q. q; fills = λ count le. le; closes = is }
+call_closes call is = record { table = λ c h caller n n2 done input output times t. t; queue = λ before rows later after q. q; fills = λ count le. le; called = λ calls times after once. once; closes = is }
 
 pub closes_so : (request : ConnRequest) (end : Served) → end_of request ≡ Some end → ClosesSo request end
 closes_so (Telnet Exit) end e = subst (λ r. ClosesSo (Telnet Exit) r) (same_Some _ _ e) exits
@@ -150,9 +152,10 @@ pub record BreaksSo (end : Served) : Type 0 where
   pub table : (c : Admission) (h : History) (caller n n2 : ℕ) (done : List Exchange) (input output times : List ℕ) → BreaksOff c h caller n n2 done input output times → Table end c h caller n n2 done input output times
   pub queue : (before rows : List Stored) (later : List Placed) (after : List Stored) → MayHaveRows before rows later after → QueueTable end before rows later after
   pub fills : (count : ℕ) → count ≤ 2 ^ 40 → Fills end count
+  pub called : (calls : Option ℕ) (times : List ℕ) (after : Option ℕ) → CalledForEach calls times after → CalledOnce end calls times after
 
 pub memory_breaks : BreaksSo answer.OutOfMemory
-memory_breaks = record { table = λ c h caller n n2 done input output times t. t; queue = λ before rows later after q. q; fills = λ count le. le }
+memory_breaks = record { table = λ c h caller n n2 done input output times t. t; queue = λ before rows later after q. q; fills = λ count le. le; called = λ calls times after once. once }
 
 pub stop_breaks : BreaksSo answer.Stopped
-stop_breaks = record { table = λ c h caller n n2 done input output times t. t; queue = λ before rows later after q. q; fills = λ count le. le }
+stop_breaks = record { table = λ c h caller n n2 done input output times t. t; queue = λ before rows later after q. q; fills = λ count le. le; called = λ calls times after once. once }

@@ -7,7 +7,7 @@ use Rattle.tsd_base.specs.Points.{DataPoint}
 use Rattle.cell_laws.proofs.CallerLemmas.{nothing_made, since_joined}
 use Rattle.cell_model.specs.declared.answers.Stored.{Stored}
 use Rattle.cell_model.specs.declared.events.Placed.{Placed}
-use Rattle.cell_model.specs.History.{History, first, store_after}
+use Rattle.cell_model.specs.History.{History, first}
 use Rattle.cell_model.specs.Layout.{names_of}
 use Rattle.cell_model.specs.Seen.{Seen, InEach}
 use Rattle.cell_model.specs.Deeds.{deeds, Since}
@@ -15,22 +15,26 @@ use Rattle.compactor.specs.Queues.{HasRows}
 use Rattle.compactor.proofs.CallerLemmas.{rows_joined, rows_none}
 use Rattle.point_put.specs.Admissions.{Admission}
 use Rattle.point_put.specs.declared.fault.PutFault.TheVariants as put_fault
-use Rattle.point_put.proofs.CallerLemmas.{none_for}
+use Rattle.point_put.proofs.CallerLemmas.{none_in_turn}
 use Rattle.queued_put.specs.PutRows.{MayHaveRows}
 use Rattle.queued_put.proofs.CallerLemmas.{may_follow, may_have}
 use Rattle.tsd_daemon.specs.declared.served.Served.{Served}
 use Rattle.tsd_daemon.specs.declared.served.Served.TheVariants as answer
 use Rattle.tsd_daemon.specs.declared.counts.Counts.{Counts}
 use Rattle.tsd_daemon.specs.declared.counts.Counted.{Counted}
-use Rattle.tsd_daemon.specs.ConnClocks.{Gave}
+use Rattle.tsd_io.specs.Ticks.{IsCalled}
+use Rattle.tsd_daemon.specs.ConnClocks.{CalledOnce, ClockTells, Gave, Ticked}
+use Rattle.tsd_daemon.specs.ConnPieces.{longest_piece}
 use Rattle.tsd_daemon.specs.ConnRequests.{ConnRequest, asks_clock, conn_requests, end_of, point_asked}
 use Rattle.tsd_daemon.specs.ConnRequests.ConnRequest.{Telnet, Http}
 use Rattle.tsd_daemon.specs.ConnReplies.{counts_with, no_counts}
+use Rattle.tsd_daemon.specs.LastPieces.{TakenLast}
 use Rattle.tsd_daemon.specs.Exchanges.{AnsweredBetween, BegunBetween, BegunBy, Exchange, Ran, counts_of, moments_in, requests_in, rows_in}
 use Rattle.tsd_daemon.specs.Exchanges.Ran.{start, then_asked}
 use Rattle.tsd_daemon.specs.ServedConns.{AllAnswered, Fills, FirstBegun, QueueTable, Table}
 use Rattle.tsd_daemon.specs.Talks.{Ends, Gives, GivesLast, GivesSome, IsNext, Replied, Stand, Start, Taken, Talks, Told, WasBegun}
-use Rattle.tsd_daemon.proofs.GivenMoments.{moments_joined}
+use Rattle.tsd_daemon.proofs.GivenMoments.{no_ticks, ticks_joined}
+use Rattle.tsd_daemon.proofs.LastTaken.{more_given, no_piece_yet, one_answered, piece_taken}
 use Rattle.tsd_daemon.proofs.TalkLemmas.{BreaksSo, closes_so, counts_push, goes_on, moments_push, open_push, replies_push, requests_next, requests_push, rows_push}
 
 abbrev pub Requests : Type 0
@@ -49,10 +53,10 @@ ran_more c from mid new done counts moment request before reply how after who is
     then_asked (exchange moment request reply r.stored) (ran h l (r.since.extends.fits h f)) r.since.extends.length (subst (λ (k : Counts). AnsweredBetween c h from.caller mid.length new.length k moment request reply r.stored) is mine)
 
 -- its reply waits
-told_answered : (c : Admission) (from : Start) (t : Taken) (moments : Option (List ℕ)) (done : List Exchange) (old : Stand) (seen : Seen) (queue : List Stored) (come come' : Requests) (moment : Option ℕ) (request : ConnRequest) (reply : List ℕ) (how : Counted)
-    → Told c from t done old come → Gave t.moments (option_to_list moment) moments → IsNext request come come' → (r : Replied c old.counts moment request old.seen old.queue reply how seen queue)
-    → Told c from (record t { moments = moments }) (done ++ exchange moment request reply r.stored ∷ []) (record { seen = seen; held = old.held; queue = queue; waiting = old.waiting ++ reply; counts = counts_with old.counts how }) come'
-told_answered c from t moments done old seen queue come come' moment request reply how k given next r =
+told_answered : (c : Admission) (from : Start) (t : Taken) (clock : ClockTells) (done : List Exchange) (old : Stand) (seen : Seen) (queue : List Stored) (come come' : Requests) (moment : Option ℕ) (request : ConnRequest) (reply : List ℕ) (how : Counted)
+    → Told c from t done old come → Ticked t.clock (option_to_list moment) clock → IsNext request come come' → (r : Replied c old.counts moment request old.seen old.queue reply how seen queue)
+    → Told c from (record t { clock = clock }) (done ++ exchange moment request reply r.stored ∷ []) (record { seen = seen; held = old.held; queue = queue; waiting = old.waiting ++ reply; counts = counts_with old.counts how }) come'
+told_answered c from t clock done old seen queue come come' moment request reply how k given next r =
     let x = exchange moment request reply r.stored in
     record {
       input = k.input;
@@ -60,7 +64,7 @@ told_answered c from t moments done old seen queue come come' moment request rep
       takes = k.takes;
       leaves = k.leaves;
       gives = k.gives;
-      ticks = subst (λ (times : List ℕ). Gave from.moments times moments) (sym (moments_push done x)) (moments_joined from.moments t.moments moments (moments_in done) (option_to_list moment) k.ticks given);
+      ticks = subst (λ (times : List ℕ). Ticked from.clock times clock) (sym (moments_push done x)) (ticks_joined from.clock t.clock clock (moments_in done) (option_to_list moment) k.ticks given);
       size = k.size;
       since = since_joined from.seen old.seen seen k.since r.since;
       ran = ran_more c from.seen old.seen seen done old.counts moment request old.queue reply how queue k.since.caller k.counted k.ran r;
@@ -68,6 +72,7 @@ told_answered c from t moments done old seen queue come come' moment request rep
       requests = λ more. requests_next done x _ (come more) (come' more) (k.requests more) (next.next more);
       queued = subst (λ (rows : List Stored). HasRows from.queue rows queue) (sym (rows_push done x)) (rows_joined from.queue old.queue queue (rows_in done) r.stored k.queued r.rows);
       counted = ap (λ (n : Counts). counts_with n how) k.counted ∙ ap (λ h. counts_with (counts_of done) h) r.how_is ∙ sym (counts_push done x);
+      pieces = one_answered done x k.input k.output k.pieces;
     }
 
 -- ---- bytes that are given
@@ -88,6 +93,7 @@ told_gave c from t done old held waiting come k g = record {
   requests = k.requests;
   queued = k.queued;
   counted = k.counted;
+  pieces = more_given done k.input k.output g.given k.pieces;
 }
 
 -- what waited was given
@@ -95,12 +101,12 @@ pub talk_gave : (c : Admission) (from : Start) (t : Taken) (old : Stand) (held :
     → Talks c from t (record { seen = old.seen; held = held; queue = old.queue; waiting = []; counts = old.counts }) come
 talk_gave c from t old held come k g = record { done = k.done; told = told_gave c from t k.done old held [] come k.told g; open_still = k.open_still }
 
-pub talk_replied : (c : Admission) (from : Start) (t : Taken) (moments : Option (List ℕ)) (old : Stand) (seen : Seen) (held : Option (List ℕ)) (queue : List Stored) (waiting : List ℕ) (come come' : Requests) (moment : Option ℕ) (request : ConnRequest) (reply : List ℕ) (how : Counted)
-    → Talks c from t old come → Gave t.moments (option_to_list moment) moments → IsNext request come come' → Replied c old.counts moment request old.seen old.queue reply how seen queue → Gives old.held held (old.waiting ++ reply) waiting → end_of request ≡ None
-    → Talks c from (record t { moments = moments }) (record { seen = seen; held = held; queue = queue; waiting = waiting; counts = counts_with old.counts how }) come'
-talk_replied c from t moments old seen held queue waiting come come' moment request reply how k given next r g still = record {
+pub talk_replied : (c : Admission) (from : Start) (t : Taken) (clock : ClockTells) (old : Stand) (seen : Seen) (held : Option (List ℕ)) (queue : List Stored) (waiting : List ℕ) (come come' : Requests) (moment : Option ℕ) (request : ConnRequest) (reply : List ℕ) (how : Counted)
+    → Talks c from t old come → Ticked t.clock (option_to_list moment) clock → IsNext request come come' → Replied c old.counts moment request old.seen old.queue reply how seen queue → Gives old.held held (old.waiting ++ reply) waiting → end_of request ≡ None
+    → Talks c from (record t { clock = clock }) (record { seen = seen; held = held; queue = queue; waiting = waiting; counts = counts_with old.counts how }) come'
+talk_replied c from t clock old seen held queue waiting come come' moment request reply how k given next r g still = record {
   done = k.done ++ exchange moment request reply r.stored ∷ [];
-  told = told_gave c from (record t { moments = moments }) _ _ held waiting come' (told_answered c from t moments k.done old seen queue come come' moment request reply how k.told given next r) g;
+  told = told_gave c from (record t { clock = clock }) _ _ held waiting come' (told_answered c from t clock k.done old seen queue come come' moment request reply how k.told given next r) g;
   open_still = open_push k.done (exchange moment request reply r.stored) k.open_still (goes_on request still);
 }
 
@@ -117,10 +123,10 @@ most_of : (n size : ℕ) → n ≡ size → size ≤ 2 ^ 40 → n ≤ 2 ^ 40
 most_of n size is le = omega (arith, is, le)
 
 -- after these exchanges the connection ended so
-told_ends : (c : Admission) (from : Start) (t : Taken) (moments : Option (List ℕ)) (done : List Exchange) (now : Stand) (come : Requests) (result : Served) (seen : Seen) (queue : List Stored) (times : List ℕ) → (k : Told c from t done now come) → Since now.seen seen
-    → Gave from.moments times moments → InEach seen (λ h. Table result c h from.seen.caller now.seen.length seen.length done k.input k.output times)
-    → InEach seen (λ h. QueueTable result from.queue (rows_in done) (deeds h from.seen.caller now.seen.length seen.length) queue) → Fills result (length k.input) → Ends c from t.taken t.left moments result seen now.held queue
-told_ends c from t moments done now come result seen queue times k since ticks table queued fills = record {
+told_ends : (c : Admission) (from : Start) (t : Taken) (clock : ClockTells) (done : List Exchange) (now : Stand) (come : Requests) (result : Served) (seen : Seen) (queue : List Stored) (times : List ℕ) → (k : Told c from t done now come) → Since now.seen seen
+    → Gave from.clock.moments times clock.moments → CalledOnce result from.clock.calls times clock.calls → InEach seen (λ h. Table result c h from.seen.caller now.seen.length seen.length done k.input k.output times)
+    → InEach seen (λ h. QueueTable result from.queue (rows_in done) (deeds h from.seen.caller now.seen.length seen.length) queue) → Fills result (length k.input) → Ends c from t.taken t.left clock result seen now.held queue
+told_ends c from t clock done now come result seen queue times k since ticks called table queued fills = record {
   input = k.input;
   output = k.output;
   times = times;
@@ -128,50 +134,52 @@ told_ends c from t moments done now come result seen queue times k since ticks t
   leaves = k.leaves;
   gives = k.gives;
   ticks = ticks;
+  called = called;
   since = since_joined from.seen now.seen seen k.since since;
   served = λ h l f. record {
-    served = record { done = done; last = now.seen.length; in_range = since.extends.length; ran = k.ran h l (since.extends.fits h f); table = table h l f };
+    served = record { done = done; last = now.seen.length; in_range = since.extends.length; ran = k.ran h l (since.extends.fits h f); table = table h l f; pieces = k.pieces };
     queued = queued h l f;
   };
   fills = fills;
 }
 
 -- and no entry was made behind them
-told_rests : (c : Admission) (from : Start) (t : Taken) (done : List Exchange) (now : Stand) (come : Requests) (result : Served) → (k : Told c from t done now come)
+told_rests : (c : Admission) (from : Start) (t : Taken) (clock : ClockTells) (done : List Exchange) (now : Stand) (come : Requests) (result : Served) → (k : Told c from t done now come)
+    → Gave from.clock.moments (moments_in done) clock.moments → CalledOnce result from.clock.calls (moments_in done) clock.calls
     → ((h : History) → deeds h from.seen.caller now.seen.length now.seen.length ≡ [] → Table result c h from.seen.caller now.seen.length now.seen.length done k.input k.output (moments_in done))
-    → ((later : List Placed) → QueueTable result from.queue (rows_in done) later now.queue) → Fills result (length k.input) → Ends c from t.taken t.left t.moments result now.seen now.held now.queue
-told_rests c from t done now come result k table queued fills =
-    told_ends c from t t.moments done now come result now.seen now.queue (moments_in done) k (nothing_made now.seen).since k.ticks
+    → ((later : List Placed) → QueueTable result from.queue (rows_in done) later now.queue) → Fills result (length k.input) → Ends c from t.taken t.left clock result now.seen now.held now.queue
+told_rests c from t clock done now come result k ticks called table queued fills =
+    told_ends c from t clock done now come result now.seen now.queue (moments_in done) k (nothing_made now.seen).since ticks called
     (λ h l f. table h (ap (λ n. deeds h n now.seen.length now.seen.length) (sym k.since.caller) ∙ (nothing_made now.seen).made h f)) (λ h l f. queued _) fills
 
 -- the sink failed while what waited was given
 told_unsent : (c : Admission) (from : Start) (t : Taken) (done : List Exchange) (old : Stand) (held : Option (List ℕ)) (come : Requests) → t.size ≤ 2 ^ 40 → Told c from t done old come → GivesSome old.held held old.waiting
-    → Ends c from t.taken t.left t.moments answer.WriteFault old.seen held old.queue
+    → Ends c from t.taken t.left t.clock answer.WriteFault old.seen held old.queue
 told_unsent c from t done old held come le k (rest, g) =
     let m = told_gave c from t done old held rest come k g in
-    told_rests c from t done _ come answer.WriteFault m (λ h none. record { rest = come []; requests = all_of m.input _ (come []) (m.requests []); unsent = rest; replies = m.replies; moments = refl; no_later = none })
+    told_rests c from t t.clock done _ come answer.WriteFault m m.ticks.gave m.ticks.called (λ h none. record { rest = come []; requests = all_of m.input _ (come []) (m.requests []); unsent = rest; replies = m.replies; moments = refl; no_later = none })
     (λ later. m.queued) (most_of (length m.input) t.size m.size le)
 
 pub talk_failed : (c : Admission) (from : Start) (t : Taken) (old : Stand) (held : Option (List ℕ)) (come : Requests) → t.size ≤ 2 ^ 40 → Talks c from t old come → GivesSome old.held held old.waiting
-    → Ends c from t.taken t.left t.moments answer.WriteFault old.seen held old.queue
+    → Ends c from t.taken t.left t.clock answer.WriteFault old.seen held old.queue
 talk_failed c from t old held come le k g = told_unsent c from t k.done old held come le k.told g
 
 -- the reply to a request that was answered couldn't be given whole
-pub talk_unsent : (c : Admission) (from : Start) (t : Taken) (moments : Option (List ℕ)) (old : Stand) (seen : Seen) (held : Option (List ℕ)) (queue : List Stored) (come come' : Requests) (moment : Option ℕ) (request : ConnRequest) (reply : List ℕ) (how : Counted)
-    → t.size ≤ 2 ^ 40 → Talks c from t old come → Gave t.moments (option_to_list moment) moments → IsNext request come come' → Replied c old.counts moment request old.seen old.queue reply how seen queue → GivesSome old.held held (old.waiting ++ reply)
-    → Ends c from t.taken t.left moments answer.WriteFault seen held queue
-talk_unsent c from t moments old seen held queue come come' moment request reply how le k given next r g =
-    told_unsent c from (record t { moments = moments }) _ _ held come' le (told_answered c from t moments k.done old seen queue come come' moment request reply how k.told given next r) g
+pub talk_unsent : (c : Admission) (from : Start) (t : Taken) (clock : ClockTells) (old : Stand) (seen : Seen) (held : Option (List ℕ)) (queue : List Stored) (come come' : Requests) (moment : Option ℕ) (request : ConnRequest) (reply : List ℕ) (how : Counted)
+    → t.size ≤ 2 ^ 40 → Talks c from t old come → Ticked t.clock (option_to_list moment) clock → IsNext request come come' → Replied c old.counts moment request old.seen old.queue reply how seen queue → GivesSome old.held held (old.waiting ++ reply)
+    → Ends c from t.taken t.left clock answer.WriteFault seen held queue
+talk_unsent c from t clock old seen held queue come come' moment request reply how le k given next r g =
+    told_unsent c from (record t { clock = clock }) _ _ held come' le (told_answered c from t clock k.done old seen queue come come' moment request reply how k.told given next r) g
 
 -- a request that closes was answered, and all replies were given
-pub talk_closed : (c : Admission) (from : Start) (t : Taken) (moments : Option (List ℕ)) (old : Stand) (seen : Seen) (held : Option (List ℕ)) (queue : List Stored) (come come' : Requests) (moment : Option ℕ) (request : ConnRequest) (reply : List ℕ) (how : Counted) (end : Served)
-    → t.size ≤ 2 ^ 40 → Talks c from t old come → Gave t.moments (option_to_list moment) moments → IsNext request come come' → Replied c old.counts moment request old.seen old.queue reply how seen queue → Gives old.held held (old.waiting ++ reply) [] → end_of request ≡ Some end
-    → Ends c from t.taken t.left moments end seen held queue
-talk_closed c from t moments old seen held queue come come' moment request reply how end le k given next r g ends =
+pub talk_closed : (c : Admission) (from : Start) (t : Taken) (clock : ClockTells) (old : Stand) (seen : Seen) (held : Option (List ℕ)) (queue : List Stored) (come come' : Requests) (moment : Option ℕ) (request : ConnRequest) (reply : List ℕ) (how : Counted) (end : Served)
+    → t.size ≤ 2 ^ 40 → Talks c from t old come → Ticked t.clock (option_to_list moment) clock → IsNext request come come' → Replied c old.counts moment request old.seen old.queue reply how seen queue → Gives old.held held (old.waiting ++ reply) [] → end_of request ≡ Some end
+    → Ends c from t.taken t.left clock end seen held queue
+talk_closed c from t clock old seen held queue come come' moment request reply how end le k given next r g ends =
     let so = closes_so request end ends in
-    let t' : Taken = record t { moments = moments } in
-    let m = told_gave c from t' _ _ held [] come' (told_answered c from t moments k.done old seen queue come come' moment request reply how k.told given next r) g in
-    told_rests c from t' _ _ come' end m (λ h none. so.table c h from.seen.caller seen.length seen.length _ m.input m.output (moments_in (k.done ++ exchange moment request reply r.stored ∷ [])) (record {
+    let t' : Taken = record t { clock = clock } in
+    let m = told_gave c from t' _ _ held [] come' (told_answered c from t clock k.done old seen queue come come' moment request reply how k.told given next r) g in
+    told_rests c from t' clock _ _ come' end m m.ticks.gave (so.called _ _ _ m.ticks.called) (λ h none. so.table c h from.seen.caller seen.length seen.length _ m.input m.output (moments_in (k.done ++ exchange moment request reply r.stored ∷ [])) (record {
       all = record { requests = only_of m.input _ (come' []) (m.requests []) (next.last so.closes []); replies = sym (append-nil m.output) ∙ m.replies; moments = refl; no_later = none };
       before = requests_in k.done;
       last = request;
@@ -189,12 +197,12 @@ next_of_all : (input : List ℕ) (done : List Exchange) (request : ConnRequest) 
 next_of_all input done request come come' requests next = all_of input _ (request ∷ come' []) (requests [] ∙ ap (λ t. requests_in done ++ t) (next.next []))
 
 -- a request was begun and isn't answered, where no reply waits
-pub talk_begun : (c : Admission) (from : Start) (t : Taken) (moments : Option (List ℕ)) (old : Stand) (seen : Seen) (queue : List Stored) (come come' : Requests) (moment : Option ℕ) (request : ConnRequest) (end : Served)
-    → t.size ≤ 2 ^ 40 → Talks c from t old come → Gave t.moments (option_to_list moment) moments → IsNext request come come' → WasBegun c moment request old.seen old.queue seen queue → old.waiting ≡ [] → BreaksSo end
-    → Ends c from t.taken t.left moments end seen old.held queue
-talk_begun c from t moments old seen queue come come' moment request end le k given next b none so =
-    told_ends c from t moments k.done old come end seen queue (moments_in k.done ++ option_to_list moment) k.told b.since
-    (moments_joined from.moments t.moments moments (moments_in k.done) (option_to_list moment) k.told.ticks given)
+pub talk_begun : (c : Admission) (from : Start) (t : Taken) (clock : ClockTells) (old : Stand) (seen : Seen) (queue : List Stored) (come come' : Requests) (moment : Option ℕ) (request : ConnRequest) (end : Served)
+    → t.size ≤ 2 ^ 40 → Talks c from t old come → Ticked t.clock (option_to_list moment) clock → IsNext request come come' → WasBegun c moment request old.seen old.queue seen queue → old.waiting ≡ [] → BreaksSo end
+    → Ends c from t.taken t.left clock end seen old.held queue
+talk_begun c from t clock old seen queue come come' moment request end le k given next b none so =
+    let ticks = ticks_joined from.clock t.clock clock (moments_in k.done) (option_to_list moment) k.told.ticks given in
+    told_ends c from t clock k.done old come end seen queue (moments_in k.done ++ option_to_list moment) k.told b.since ticks.gave (so.called _ _ _ ticks.called)
     (λ h l f. so.table c h from.seen.caller old.seen.length seen.length k.done k.told.input k.told.output (moments_in k.done ++ option_to_list moment) (record {
       rest = request ∷ come' [];
       requests = next_of_all k.told.input k.done request come come' k.told.requests next;
@@ -208,10 +216,10 @@ talk_begun c from t moments old seen queue come come' moment request end le k gi
     (so.fills (length k.told.input) (most_of (length k.told.input) t.size k.told.size le))
 
 -- the clock failed, which the next request asks, where no reply waits
-pub talk_momentless : (c : Admission) (from : Start) (t : Taken) (old : Stand) (come come' : Requests) (request : ConnRequest) → t.size ≤ 2 ^ 40 → Talks c from t old come → IsNext request come come' → asks_clock request ≡ true → old.waiting ≡ []
-    → Ends c from t.taken t.left t.moments answer.ClockFault old.seen old.held old.queue
-talk_momentless c from t old come come' request le k next asks none =
-    told_rests c from t k.done old come answer.ClockFault k.told (λ h nothing. record {
+pub talk_momentless : (c : Admission) (from : Start) (t : Taken) (clock : ClockTells) (old : Stand) (come come' : Requests) (request : ConnRequest) → t.size ≤ 2 ^ 40 → Talks c from t old come → IsNext request come come' → asks_clock request ≡ true
+    → clock.moments ≡ t.clock.moments → IsCalled t.clock.calls clock.calls → old.waiting ≡ [] → Ends c from t.taken t.left clock answer.ClockFault old.seen old.held old.queue
+talk_momentless c from t clock old come come' request le k next asks same called none =
+    told_rests c from t clock k.done old come answer.ClockFault k.told (subst (λ (m : Option (List ℕ)). Gave from.clock.moments (moments_in k.done) m) (sym same) k.told.ticks.gave) (t.clock.calls, k.told.ticks.called, called) (λ h nothing. record {
       request = request;
       rest = come' [];
       requests = next_of_all k.told.input k.done request come come' k.told.requests next;
@@ -231,35 +239,35 @@ nothing_begun c h caller n (Telnet request ∷ rest) none = (refl, subst (λ (ow
   where
     at : (point : Option DataPoint) → BegunBy c (first n h) [] point
     at None = refl
-    at (Some point) = (Err put_fault.OutOfMemory, none_for (store_after (first n h)).widths c (names_of point))
+    at (Some point) = (Err put_fault.OutOfMemory, none_in_turn c (first n h) (names_of point))
 
 -- there was no memory, where no reply waits
 pub talk_memory : (c : Admission) (from : Start) (t : Taken) (old : Stand) (come : Requests) → t.size ≤ 2 ^ 40 → Talks c from t old come → old.waiting ≡ []
-    → Ends c from t.taken t.left t.moments answer.OutOfMemory old.seen old.held old.queue
+    → Ends c from t.taken t.left t.clock answer.OutOfMemory old.seen old.held old.queue
 talk_memory c from t old come le k none =
-    told_rests c from t k.done old come answer.OutOfMemory k.told
+    told_rests c from t t.clock k.done old come answer.OutOfMemory k.told k.told.ticks.gave k.told.ticks.called
     (λ h nothing. record { rest = come []; requests = all_of k.told.input _ (come []) (k.told.requests []); replies = all_given k.told.output old.waiting _ k.told.replies none; moment = None; moments = sym (append-nil (moments_in k.done)); begun = nothing_begun c h from.seen.caller old.seen.length (come []) nothing })
     (λ later. may_have from.queue (rows_in k.done) old.queue later k.told.queued) (most_of (length k.told.input) t.size k.told.size le)
 
 -- what waited was given, and there was no memory; or the sink failed
 pub talk_broken : (c : Admission) (from : Start) (t : Taken) (old : Stand) (held : Option (List ℕ)) (result : Served) (come : Requests) → t.size ≤ 2 ^ 40 → Talks c from t old come → GivesLast old.held held old.waiting answer.OutOfMemory result
-    → Ends c from t.taken t.left t.moments result old.seen held old.queue
-talk_broken c from t old held result come le k (inl (g, is)) = subst (λ (r : Served). Ends c from t.taken t.left t.moments r old.seen held old.queue) (sym is) (talk_memory c from t _ come le (talk_gave c from t old held come k g) refl)
-talk_broken c from t old held result come le k (inr (g, is)) = subst (λ (r : Served). Ends c from t.taken t.left t.moments r old.seen held old.queue) (sym is) (talk_failed c from t old held come le k g)
+    → Ends c from t.taken t.left t.clock result old.seen held old.queue
+talk_broken c from t old held result come le k (inl (g, is)) = subst (λ (r : Served). Ends c from t.taken t.left t.clock r old.seen held old.queue) (sym is) (talk_memory c from t _ come le (talk_gave c from t old held come k g) refl)
+talk_broken c from t old held result come le k (inr (g, is)) = subst (λ (r : Served). Ends c from t.taken t.left t.clock r old.seen held old.queue) (sym is) (talk_failed c from t old held come le k g)
 
 -- where no reply waits and no request is left in what was taken
 pub record Quiet (c : Admission) (from : Start) (t : Taken) (old : Stand) : Type 0 where
-  pub end : t.size < 2 ^ 40 → Ends c from t.taken t.left t.moments answer.End old.seen old.held old.queue
-  pub failed : t.size < 2 ^ 40 → Ends c from t.taken t.left t.moments answer.ReadFault old.seen old.held old.queue
-  pub full : t.size ≡ 2 ^ 40 → Ends c from t.taken t.left t.moments answer.SessionFull old.seen old.held old.queue
+  pub end : t.size < 2 ^ 40 → Ends c from t.taken t.left t.clock answer.End old.seen old.held old.queue
+  pub failed : t.size < 2 ^ 40 → Ends c from t.taken t.left t.clock answer.ReadFault old.seen old.held old.queue
+  pub full : t.size ≡ 2 ^ 40 → Ends c from t.taken t.left t.clock answer.SessionFull old.seen old.held old.queue
 
 pub talk_quiet : (c : Admission) (from : Start) (t : Taken) (old : Stand) (come : Requests) → Talks c from t old come → old.waiting ≡ [] → come [] ≡ [] → Quiet c from t old
 talk_quiet c from t old come k quiet none =
     let is = k.told.size in
     record {
-      end = λ lt. told_rests c from t k.done old come answer.End k.told (λ h nothing. record { all = all h nothing; open_still = k.open_still }) (λ later. k.told.queued) (omega (arith, is, lt));
-      failed = λ lt. told_rests c from t k.done old come answer.ReadFault k.told (λ h nothing. record { all = all h nothing; open_still = k.open_still }) (λ later. k.told.queued) (omega (arith, is, lt));
-      full = λ eq. told_rests c from t k.done old come answer.SessionFull k.told (λ h nothing. record { all = all h nothing; open_still = k.open_still }) (λ later. k.told.queued) (is ∙ eq);
+      end = λ lt. told_rests c from t t.clock k.done old come answer.End k.told k.told.ticks.gave k.told.ticks.called (λ h nothing. record { all = all h nothing; open_still = k.open_still }) (λ later. k.told.queued) (omega (arith, is, lt));
+      failed = λ lt. told_rests c from t t.clock k.done old come answer.ReadFault k.told k.told.ticks.gave k.told.ticks.called (λ h nothing. record { all = all h nothing; open_still = k.open_still }) (λ later. k.told.queued) (omega (arith, is, lt));
+      full = λ eq. told_rests c from t t.clock k.done old come answer.SessionFull k.told k.told.ticks.gave k.told.ticks.called (λ h nothing. record { all = all h nothing; open_still = k.open_still }) (λ later. k.told.queued) (is ∙ eq);
     }
   where
     all : (h : History) → deeds h from.seen.caller old.seen.length old.seen.length ≡ [] → AllAnswered k.done k.told.input k.told.output (moments_in k.done) (deeds h from.seen.caller old.seen.length old.seen.length)
@@ -272,9 +280,10 @@ talk_quiet c from t old come k quiet none =
 
 -- ---- bytes that are taken
 
-told_took : (c : Admission) (from : Start) (t : Taken) (taken left : Option (List ℕ)) (size : ℕ) (done : List Exchange) (now : Stand) (come : Requests) (piece : List ℕ) → Told c from t done now come
-    → Appends t.taken taken piece → Consumes t.left left piece → size ≡ t.size + length piece → Told c from (record { taken = taken; left = left; moments = t.moments; size = size }) done now (λ more. come (piece ++ more))
-told_took c from t taken left size done now come piece k takes leaves grows = record {
+told_took : (c : Admission) (from : Start) (t : Taken) (taken left : Option (List ℕ)) (size : ℕ) (done : List Exchange) (now : Stand) (come : Requests) (piece : List ℕ) → (k : Told c from t done now come)
+    → Appends t.taken taken piece → Consumes t.left left piece → size ≡ t.size + length piece → TakenLast done (k.input ++ piece) k.output
+    → Told c from (record { taken = taken; left = left; clock = t.clock; size = size }) done now (λ more. come (piece ++ more))
+told_took c from t taken left size done now come piece k takes leaves grows last = record {
   input = k.input ++ piece;
   output = k.output;
   takes = Appends-trans from.taken t.taken taken k.input piece k.takes takes;
@@ -288,11 +297,16 @@ told_took c from t taken left size done now come piece k takes leaves grows = re
   requests = λ more. ap conn_requests (append_assoc k.input piece more) ∙ k.requests (piece ++ more);
   queued = k.queued;
   counted = k.counted;
+  pieces = last;
 }
 
-pub talk_took : (c : Admission) (from : Start) (t : Taken) (taken left : Option (List ℕ)) (size : ℕ) (now : Stand) (come : Requests) (piece : List ℕ) → Talks c from t now come
-    → Appends t.taken taken piece → Consumes t.left left piece → size ≡ t.size + length piece → Talks c from (record { taken = taken; left = left; moments = t.moments; size = size }) now (λ more. come (piece ++ more))
-talk_took c from t taken left size now come piece k takes leaves grows = record { done = k.done; told = told_took c from t taken left size k.done now come piece k.told takes leaves grows; open_still = k.open_still }
+-- where no reply waits and no request is left in what was taken
+pub talk_took : (c : Admission) (from : Start) (t : Taken) (taken left : Option (List ℕ)) (size : ℕ) (now : Stand) (come : Requests) (piece : List ℕ) → Talks c from t now come → now.waiting ≡ [] → come [] ≡ []
+    → Appends t.taken taken piece → Consumes t.left left piece → size ≡ t.size + length piece → length piece ≤ longest_piece
+    → Talks c from (record { taken = taken; left = left; clock = t.clock; size = size }) now (λ more. come (piece ++ more))
+talk_took c from t taken left size now come piece k quiet none takes leaves grows within =
+    let last = piece_taken k.done k.told.input k.told.output piece (only_of k.told.input (requests_in k.done) (come []) (k.told.requests []) none) k.open_still (all_given k.told.output now.waiting _ k.told.replies quiet) within in
+    record { done = k.done; told = told_took c from t taken left size k.done now come piece k.told takes leaves grows last; open_still = k.open_still }
 
 -- the same requests are to come
 told_come : (c : Admission) (from : Start) (t : Taken) (done : List Exchange) (now : Stand) (come come' : Requests) → Told c from t done now come → ((more : List ℕ) → come' more ≡ come more) → Told c from t done now come'
@@ -310,15 +324,16 @@ told_come c from t done now come come' k same = record {
   requests = λ more. k.requests more ∙ ap (λ r. requests_in done ++ r) (sym (same more));
   queued = k.queued;
   counted = k.counted;
+  pieces = k.pieces;
 }
 
 pub talk_come : (c : Admission) (from : Start) (t : Taken) (now : Stand) (come come' : Requests) → Talks c from t now come → ((more : List ℕ) → come' more ≡ come more) → Talks c from t now come'
 talk_come c from t now come come' k same = record { done = k.done; told = told_come c from t k.done now come come' k.told same; open_still = k.open_still }
 
 -- nothing was taken yet
-pub talk_start : (c : Admission) (seen : Seen) (taken left moments held : Option (List ℕ)) (queue : List Stored)
-    → Talks c (record { seen = seen; taken = taken; left = left; moments = moments; held = held; queue = queue }) (record { taken = taken; left = left; moments = moments; size = 0 }) (record { seen = seen; held = held; queue = queue; waiting = []; counts = no_counts }) conn_requests
-talk_start c seen taken left moments held queue = record {
+pub talk_start : (c : Admission) (seen : Seen) (taken left : Option (List ℕ)) (clock : ClockTells) (held : Option (List ℕ)) (queue : List Stored)
+    → Talks c (record { seen = seen; taken = taken; left = left; clock = clock; held = held; queue = queue }) (record { taken = taken; left = left; clock = clock; size = 0 }) (record { seen = seen; held = held; queue = queue; waiting = []; counts = no_counts }) conn_requests
+talk_start c seen taken left clock held queue = record {
   done = [];
   told = record {
     input = [];
@@ -326,7 +341,7 @@ talk_start c seen taken left moments held queue = record {
     takes = Appends-nil taken;
     leaves = Consumes-nil left;
     gives = Appends-nil held;
-    ticks = refl;
+    ticks = no_ticks clock;
     size = refl;
     since = (nothing_made seen).since;
     ran = λ h l f. start;
@@ -334,6 +349,7 @@ talk_start c seen taken left moments held queue = record {
     requests = λ more. refl;
     queued = rows_none queue;
     counted = refl;
+    pieces = no_piece_yet;
   };
   open_still = refl;
 }

@@ -4,6 +4,10 @@ use Rattle.std.specs.Io.KnownBytes.{Appends, Consumes, IsAtEnd}
 use Rattle.tsd_daemon.specs.declared.served.Served.{Served}
 use Rattle.tsd_daemon.specs.declared.served.Served.TheVariants as answer
 
+-- the most bytes that are taken at once
+abbrev pub longest_piece : ℕ
+longest_piece = 65536
+
 -- the last piece that was taken, and how many bytes were taken in all
 pub record PieceTaken : Type 0 where
   pub piece : List ℕ
@@ -27,4 +31,5 @@ pub record TakesNext (taken taken' left left' : Option (List ℕ)) (old : PieceT
   pub leaves : Consumes left left' more
   pub count : new.taken ≡ old.taken + length more
   pub most : new.taken ≤ 2 ^ 40
+  pub within : length more ≤ longest_piece
   pub next : NextPiece left' old more result new

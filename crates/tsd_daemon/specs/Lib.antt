@@ -5,6 +5,7 @@ pub mod Exchanges
 pub mod ServedConns
 pub mod ConnPieces
 pub mod Talks
+pub mod LastPieces
 pub mod PutAnswers
 pub mod TakenInTurn
 pub mod Headline

@@ -13,9 +13,10 @@ use Rattle.point_put.specs.Admissions.{Admission}
 use Rattle.queued_put.specs.PutRows.{MayHaveRows}
 use Rattle.tsd_daemon.specs.declared.served.Served.{Served}
 use Rattle.tsd_daemon.specs.declared.served.Served.TheVariants as answer
-use Rattle.tsd_daemon.specs.ConnClocks.{Gave}
+use Rattle.tsd_daemon.specs.ConnClocks.{CalledOnce, Gave}
 use Rattle.tsd_daemon.specs.ConnRequests.{ConnRequest, asks_clock, closes_conn, conn_requests, end_of}
 use Rattle.tsd_daemon.specs.Exchanges.{Exchange, moments_in, requests_in, replies_in, rows_in, BegunBetween, Ran}
+use Rattle.tsd_daemon.specs.LastPieces.{TakenLast}
 
 -- ---- the table of answers
 
@@ -95,6 +96,7 @@ pub record IsServed (c : Admission) (h : History) (caller n n2 : ℕ) (input out
   pub in_range : last ≤ n2
   pub ran : Ran c h caller n done last
   pub table : Table result c h caller last n2 done input output times
+  pub pieces : TakenLast done input output
 
 -- the same in each lawful history that fits what the caller has seen after it
 pub record Serves (c : Admission) (old : Seen) (input output times : List ℕ) (result : Served) (new : Seen) : Type 0 where
@@ -144,6 +146,10 @@ pub record Passes (taken taken' left left' held held' moments moments' : Option 
 
 abbrev pub ServesBytes : Admission → Seen → Served → Seen → List ℕ → List ℕ → List ℕ → Type 0
 ServesBytes c old result new input output times = Serves c old input output times result new × Fills result (length input)
+
+-- so it was served, and the clock was called for its moments alone, once for each, and once more where it failed
+abbrev pub AsksBytes : Admission → Seen → Option ℕ → Served → Seen → Option ℕ → List ℕ → List ℕ → List ℕ → Type 0
+AsksBytes c old calls result new calls' input output times = Serves c old input output times result new × CalledOnce result calls times calls'
 
 abbrev pub QueuesBytes : Admission → Seen → List Stored → Served → Seen → List Stored → List ℕ → List ℕ → List ℕ → Type 0
 QueuesBytes c old before result new after input output times = Queues c old before input output times result new after

@@ -20,10 +20,11 @@ use Rattle.tsd_daemon.specs.declared.counts.Counted.{Counted}
 use Rattle.tsd_daemon.specs.declared.counts.Counted.TheVariants as counted
 use Rattle.tsd_daemon.specs.ConnRequests.{ConnRequest, closes_conn, conn_requests}
 use Rattle.tsd_daemon.specs.ConnRequests.ConnRequest.{Telnet, Http}
-use Rattle.tsd_daemon.specs.ConnClocks.{Gave}
+use Rattle.tsd_daemon.specs.ConnClocks.{CalledOnce, ClockTells, Gave, Ticked}
 use Rattle.tsd_daemon.specs.ConnReplies.{no_counts}
 use Rattle.tsd_daemon.specs.ConnPieces.{PieceTaken, TakesNext}
 use Rattle.tsd_daemon.specs.Exchanges.{Exchange, AnsweredBetween, BegunBetween, Ran, counts_of, is_put, moments_in, replies_in, requests_in, rows_in}
+use Rattle.tsd_daemon.specs.LastPieces.{TakenLast}
 use Rattle.tsd_daemon.specs.ServedConns.{Fills, IsQueued}
 
 -- ---- one request
@@ -82,7 +83,7 @@ pub record Start : Type 0 where
   pub seen : Seen
   pub taken : Option (List ℕ)
   pub left : Option (List ℕ)
-  pub moments : Option (List ℕ)
+  pub clock : ClockTells
   pub held : Option (List ℕ)
   pub queue : List Stored
 
@@ -90,7 +91,7 @@ pub record Start : Type 0 where
 pub record Taken : Type 0 where
   pub taken : Option (List ℕ)
   pub left : Option (List ℕ)
-  pub moments : Option (List ℕ)
+  pub clock : ClockTells
   pub size : ℕ
 
 -- what else changed since
@@ -115,7 +116,7 @@ pub record Told (c : Admission) (from : Start) (t : Taken) (done : List Exchange
   pub takes : Appends from.taken t.taken input
   pub leaves : Consumes from.left t.left input
   pub gives : Appends from.held now.held output
-  pub ticks : Gave from.moments (moments_in done) t.moments
+  pub ticks : Ticked from.clock (moments_in done) t.clock
   pub size : length input ≡ t.size
   pub since : Since from.seen now.seen
   pub ran : InEach now.seen (λ h. Ran c h from.seen.caller from.seen.length done now.seen.length)
@@ -123,6 +124,7 @@ pub record Told (c : Admission) (from : Start) (t : Taken) (done : List Exchange
   pub requests : (more : List ℕ) → conn_requests (input ++ more) ≡ requests_in done ++ come more
   pub queued : HasRows from.queue (rows_in done) now.queue
   pub counted : now.counts ≡ counts_of done
+  pub pieces : TakenLast done input output
 
 -- the connection goes on
 pub record Talks (c : Admission) (from : Start) (t : Taken) (now : Stand) (come : List ℕ → List ConnRequest) : Type 0 where
@@ -131,30 +133,31 @@ pub record Talks (c : Admission) (from : Start) (t : Taken) (now : Stand) (come 
   pub open_still : list_any closes_conn (requests_in done) ≡ false
 
 -- the connection was served to this end
-pub record Ends (c : Admission) (from : Start) (taken left moments : Option (List ℕ)) (result : Served) (seen : Seen) (held : Option (List ℕ)) (queue : List Stored) : Type 0 where
+pub record Ends (c : Admission) (from : Start) (taken left : Option (List ℕ)) (clock : ClockTells) (result : Served) (seen : Seen) (held : Option (List ℕ)) (queue : List Stored) : Type 0 where
   pub input : List ℕ
   pub output : List ℕ
   pub times : List ℕ
   pub takes : Appends from.taken taken input
   pub leaves : Consumes from.left left input
   pub gives : Appends from.held held output
-  pub ticks : Gave from.moments times moments
+  pub ticks : Gave from.clock.moments times clock.moments
+  pub called : CalledOnce result from.clock.calls times clock.calls
   pub since : Since from.seen seen
   pub served : InEach seen (λ h. IsQueued c h from.seen.caller from.seen.length seen.length input output times result from.queue queue)
   pub fills : Fills result (length input)
 
 abbrev pub GoesOn : Admission → Start → Taken → Stand → (List ℕ → List ConnRequest) → Option Served → Type 0
 GoesOn c from t new come None = Talks c from t new come
-GoesOn c from t new come (Some result) = Ends c from t.taken t.left t.moments result new.seen new.held new.queue
+GoesOn c from t new come (Some result) = Ends c from t.taken t.left t.clock result new.seen new.held new.queue
 
 -- however the connection came here, it goes on or ended so
 abbrev pub Moves : Admission → Stand → (List ℕ → List ConnRequest) → Stand → (List ℕ → List ConnRequest) → Option Served → Type 0
 Moves c old come new come' result = (from : Start) (t : Taken) → t.size ≤ 2 ^ 40 → Talks c from t old come → GoesOn c from t new come' result
 
--- the same where the clock may give moments, too
-abbrev pub ClockMoves : Admission → Option (List ℕ) → Stand → (List ℕ → List ConnRequest) → Option (List ℕ) → Stand → (List ℕ → List ConnRequest) → Option Served → Type 0
-ClockMoves c moments old come moments' new come' result =
-    (from : Start) (t : Taken) → t.size ≤ 2 ^ 40 → Talks c from (record t { moments = moments }) old come → GoesOn c from (record t { moments = moments' }) new come' result
+-- the same where the clock may be called, too
+abbrev pub ClockMoves : Admission → ClockTells → Stand → (List ℕ → List ConnRequest) → ClockTells → Stand → (List ℕ → List ConnRequest) → Option Served → Type 0
+ClockMoves c clock old come clock' new come' result =
+    (from : Start) (t : Taken) → t.size ≤ 2 ^ 40 → Talks c from (record t { clock = clock }) old come → GoesOn c from (record t { clock = clock' }) new come' result
 
 -- the same where more was taken, too
 abbrev pub MovesOn : Admission → Taken → Stand → (List ℕ → List ConnRequest) → Taken → Stand → (List ℕ → List ConnRequest) → Type 0
@@ -166,10 +169,10 @@ PieceMoves taken taken' left left' held held' waiting old (Err answer.WriteFault
 PieceMoves taken taken' left left' held held' waiting old result new = Gives held held' waiting [] × TakesNext taken taken' left left' old result new
 
 -- a connection whose first piece was taken was served to an end, however it came there, where this is what bytes ask
-abbrev pub SessionServed : (List ℕ → List ConnRequest) → Admission → Seen → Option (List ℕ) → List Stored → PieceTaken → Option (List ℕ) → Option (List ℕ) → Option (List ℕ) → Served → Seen → Option (List ℕ) → List Stored → Option (List ℕ) → Option (List ℕ) → Option (List ℕ) → Type 0
-SessionServed asks c seen held queue input taken left moments result seen' held' queue' taken' left' moments' =
-    (from : Start) → Talks c from (record { taken = taken; left = left; moments = moments; size = input.taken }) (record { seen = seen; held = held; queue = queue; waiting = []; counts = no_counts }) (λ more. asks (input.piece ++ more))
-    → Ends c from taken' left' moments' result seen' held' queue'
+abbrev pub SessionServed : (List ℕ → List ConnRequest) → Admission → Seen → Option (List ℕ) → List Stored → PieceTaken → Option (List ℕ) → Option (List ℕ) → ClockTells → Served → Seen → Option (List ℕ) → List Stored → Option (List ℕ) → Option (List ℕ) → ClockTells → Type 0
+SessionServed asks c seen held queue input taken left clock result seen' held' queue' taken' left' clock' =
+    (from : Start) → Talks c from (record { taken = taken; left = left; clock = clock; size = input.taken }) (record { seen = seen; held = held; queue = queue; waiting = []; counts = no_counts }) (λ more. asks (input.piece ++ more))
+    → Ends c from taken' left' clock' result seen' held' queue'
 
 -- this request is the next, whatever more bytes come; behind one that closes none is
 pub record IsNext (request : ConnRequest) (come come' : List ℕ → List ConnRequest) : Type 0 where

@@ -1,9 +1,10 @@
 //! Working one call of an HTTP connection.
-ghost use Rattle.std.specs.Prelude.{◌≡◌, ℕ, true, List, [], Option, option_to_list, IfOk, OnErr};
+ghost use Rattle.std.specs.Prelude.{◌≡◌, ℕ, true, List, [], option_to_list, IfOk, OnErr};
 ghost use Rattle.http_routes.specs.Routes.{route_table, valued};
 ghost use Rattle.tsd_io.specs.Causes.{HasCause};
+ghost use Rattle.tsd_io.specs.Ticks.{IsCalled};
 ghost use Rattle.point_put.specs.Admissions.{admission};
-ghost use Rattle.tsd_daemon.specs.ConnClocks.{Gave};
+ghost use Rattle.tsd_daemon.specs.ConnClocks.{ClockTells, Ticked};
 ghost use Rattle.tsd_daemon.specs.ConnRequests.{ConnRequest, asks_clock};
 ghost use Rattle.tsd_daemon.specs.ConnRequests.ConnRequest.{Http};
 ghost use Rattle.tsd_daemon.specs.Exchanges.{moment_for};
@@ -41,8 +42,8 @@ pub fn exchange_call<R: Rows + Drop, K: Sink, C: Clock>(
 ) -> Option<Served>
     requires { valued router.now ≡ route_table }
     ensures moves { (come come' : List ℕ → List ConnRequest) → IsNext (Http call) come come'
-        → ClockMoves (admission config.now rule.now.patterns) (C.moments clock.old) (record { seen = R.seen names.old; held = K.held sink.old; queue = queue.old; waiting = session.old.replies; counts = session.old.counts }) come
-        (C.moments clock.new) (record { seen = R.seen names.new; held = K.held sink.new; queue = queue.new; waiting = session.new.replies; counts = session.new.counts }) come' result }
+        → ClockMoves (admission config.now rule.now.patterns) (record { moments = C.moments clock.old; calls = C.calls clock.old }) (record { seen = R.seen names.old; held = K.held sink.old; queue = queue.old; waiting = session.old.replies; counts = session.old.counts }) come
+        (record { moments = C.moments clock.new; calls = C.calls clock.new }) (record { seen = R.seen names.new; held = K.held sink.new; queue = queue.new; waiting = session.new.replies; counts = session.new.counts }) come' result }
     ensures causes { ClockCauses (K.faults sink.old) (K.faults sink.new) (R.stops names.old) (R.stops names.new) (C.faults clock.old) (C.faults clock.new) result }
     ensures number { K.number sink.new ≡ K.number sink.old }
 {
@@ -66,8 +67,8 @@ fn work_call<R: Rows + Drop, K: Sink, C: Clock>(
 ) -> Option<Served>
     requires { valued router.now ≡ route_table }
     ensures moves { (come come' : List ℕ → List ConnRequest) → IsNext (Http call.now) come come'
-        → ClockMoves (admission config.now rule.now.patterns) (C.moments clock.old) (record { seen = R.seen names.old; held = K.held sink.old; queue = queue.old; waiting = session.old.replies; counts = session.old.counts }) come
-        (C.moments clock.new) (record { seen = R.seen names.new; held = K.held sink.new; queue = queue.new; waiting = session.new.replies; counts = session.new.counts }) come' result }
+        → ClockMoves (admission config.now rule.now.patterns) (record { moments = C.moments clock.old; calls = C.calls clock.old }) (record { seen = R.seen names.old; held = K.held sink.old; queue = queue.old; waiting = session.old.replies; counts = session.old.counts }) come
+        (record { moments = C.moments clock.new; calls = C.calls clock.new }) (record { seen = R.seen names.new; held = K.held sink.new; queue = queue.new; waiting = session.new.replies; counts = session.new.counts }) come' result }
     ensures causes { ClockCauses (K.faults sink.old) (K.faults sink.new) (R.stops names.old) (R.stops names.new) (C.faults clock.old) (C.faults clock.new) result }
     ensures number { K.number sink.new ≡ K.number sink.old }
 {
@@ -95,8 +96,8 @@ fn call_in_turn<R: Rows + Drop, K: Sink, C: Clock>(
     requires router { valued router.now ≡ route_table }
     requires quiet { session.old.replies ≡ [] }
     ensures moves { (come come' : List ℕ → List ConnRequest) → IsNext (Http call.now) come come'
-        → ClockMoves (admission config.now rule.now.patterns) (C.moments clock.old) (record { seen = R.seen names.old; held = K.held sink.old; queue = queue.old; waiting = session.old.replies; counts = session.old.counts }) come
-        (C.moments clock.new) (record { seen = R.seen names.new; held = K.held sink.new; queue = queue.new; waiting = session.new.replies; counts = session.new.counts }) come' result }
+        → ClockMoves (admission config.now rule.now.patterns) (record { moments = C.moments clock.old; calls = C.calls clock.old }) (record { seen = R.seen names.old; held = K.held sink.old; queue = queue.old; waiting = session.old.replies; counts = session.old.counts }) come
+        (record { moments = C.moments clock.new; calls = C.calls clock.new }) (record { seen = R.seen names.new; held = K.held sink.new; queue = queue.new; waiting = session.new.replies; counts = session.new.counts }) come' result }
     ensures causes { ClockCauses (K.faults sink.old) (K.faults sink.new) (R.stops names.old) (R.stops names.new) (C.faults clock.old) (C.faults clock.new) result }
     ensures number { K.number sink.new ≡ K.number sink.old }
 {
@@ -110,8 +111,9 @@ fn call_in_turn<R: Rows + Drop, K: Sink, C: Clock>(
 
 /// The moment at which a call is worked, in milliseconds since 1970: the clock's where the call asks it, else 0.
 fn moment_of<C: Clock>(clock: &mut C, call: &Call) -> Result<u64, Failed>
-    ensures ok { IfOk result (λ now. Gave (C.moments clock.old) (option_to_list (moment_for call.now now)) (C.moments clock.new)) }
+    ensures ok { IfOk result (λ now. Ticked (record { moments = C.moments clock.old; calls = C.calls clock.old }) (option_to_list (moment_for call.now now)) (record { moments = C.moments clock.new; calls = C.calls clock.new })) }
     ensures err { OnErr result ((asks_clock (Http call.now) ≡ true) × (C.moments clock.new ≡ C.moments clock.old)) }
+    ensures called { OnErr result (IsCalled (C.calls clock.old) (C.calls clock.new)) }
     ensures cause { HasCause (C.faults clock.old) (C.faults clock.new) result }
 {
     if asks_clock(call) {
@@ -136,9 +138,9 @@ fn call_at<R: Rows + Drop, K: Sink>(
     requires router { valued router.now ≡ route_table }
     requires quiet { session.old.replies ≡ [] }
     ensures moves { (come come' : List ℕ → List ConnRequest) → IsNext (Http call.now) come come'
-        → (moments moments' : Option (List ℕ)) → Gave moments (option_to_list (moment_for call.now now)) moments'
-        → ClockMoves (admission config.now rule.now.patterns) moments (record { seen = R.seen names.old; held = K.held sink.old; queue = queue.old; waiting = session.old.replies; counts = session.old.counts }) come
-        moments' (record { seen = R.seen names.new; held = K.held sink.new; queue = queue.new; waiting = session.new.replies; counts = session.new.counts }) come' result }
+        → (told told' : ClockTells) → Ticked told (option_to_list (moment_for call.now now)) told'
+        → ClockMoves (admission config.now rule.now.patterns) told (record { seen = R.seen names.old; held = K.held sink.old; queue = queue.old; waiting = session.old.replies; counts = session.old.counts }) come
+        told' (record { seen = R.seen names.new; held = K.held sink.new; queue = queue.new; waiting = session.new.replies; counts = session.new.counts }) come' result }
     ensures causes { Causes (K.faults sink.old) (K.faults sink.new) (R.stops names.old) (R.stops names.new) result }
     ensures number { K.number sink.new ≡ K.number sink.old }
 {

@@ -5,7 +5,7 @@ ghost use Rattle.cell_model.specs.Seen.{InEach};
 ghost use Rattle.point_put.specs.Admissions.{admission};
 ghost use Rattle.tsd_daemon.specs.ConnRequests.{begins_http};
 ghost use Rattle.tsd_daemon.specs.Headline.{Headline};
-ghost use Rattle.tsd_daemon.specs.ServedConns.{ConnCauses, Passes, QueuesBytes, ServesBytes};
+ghost use Rattle.tsd_daemon.specs.ServedConns.{AsksBytes, ConnCauses, Passes, QueuesBytes, ServesBytes};
 
 use crate::conn_input::ConnInput;
 use crate::http_session::serve_http;
@@ -27,8 +27,9 @@ use uid_table::uids::Uids;
 /// that was accepted is added to the queue. At most 2^40 bytes are taken.
 ///
 /// Replies may wait to be given together, at most 64 KiB of them, but not while a point is put, not while an HTTP request is worked, and not
-/// while bytes are taken.
+/// while bytes are taken. Nothing is taken behind a request that closes.
 /// The clock is asked once for each HTTP request to `/api/query` that isn't refused, before it is worked, and for no other request.
+/// Where it fails it isn't asked again.
 pub fn serve_conn<R: Rows + Drop, S: Source, K: Sink, C: Clock>(
     alloc: Global,
     names: &mut Uids<R>,
@@ -47,6 +48,8 @@ pub fn serve_conn<R: Rows + Drop, S: Source, K: Sink, C: Clock>(
         (ServesBytes (admission config.now rule.now.patterns) (R.seen names.old) result (R.seen names.new)) }
     ensures queue { Passes (S.taken source.old) (S.taken source.new) (S.left source.old) (S.left source.new) (K.held sink.old) (K.held sink.new) (C.moments clock.old) (C.moments clock.new)
         (QueuesBytes (admission config.now rule.now.patterns) (R.seen names.old) queue.old result (R.seen names.new) queue.new) }
+    ensures calls { Passes (S.taken source.old) (S.taken source.new) (S.left source.old) (S.left source.new) (K.held sink.old) (K.held sink.new) (C.moments clock.old) (C.moments clock.new)
+        (AsksBytes (admission config.now rule.now.patterns) (R.seen names.old) (C.calls clock.old) result (R.seen names.new) (C.calls clock.new)) }
     ensures end { result ≡ Served.End → IsAtEnd (S.left source.new) }
     ensures causes { ConnCauses (S.faults source.old) (S.faults source.new) (K.faults sink.old) (K.faults sink.new) (R.stops names.old) (R.stops names.new) (C.faults clock.old) (C.faults clock.new) result }
     ensures source { S.number source.new ≡ S.number source.old }
@@ -70,6 +73,8 @@ fn serve_requests<R: Rows + Drop, S: Source, K: Sink, C: Clock>(
         (ServesBytes (admission config.now rule.now.patterns) (R.seen names.old) result (R.seen names.new)) }
     ensures queue { Passes (S.taken source.old) (S.taken source.new) (S.left source.old) (S.left source.new) (K.held sink.old) (K.held sink.new) (C.moments clock.old) (C.moments clock.new)
         (QueuesBytes (admission config.now rule.now.patterns) (R.seen names.old) queue.old result (R.seen names.new) queue.new) }
+    ensures calls { Passes (S.taken source.old) (S.taken source.new) (S.left source.old) (S.left source.new) (K.held sink.old) (K.held sink.new) (C.moments clock.old) (C.moments clock.new)
+        (AsksBytes (admission config.now rule.now.patterns) (R.seen names.old) (C.calls clock.old) result (R.seen names.new) (C.calls clock.new)) }
     ensures end { result ≡ Served.End → IsAtEnd (S.left source.new) }
     ensures causes { ConnCauses (S.faults source.old) (S.faults source.new) (K.faults sink.old) (K.faults sink.new) (R.stops names.old) (R.stops names.new) (C.faults clock.old) (C.faults clock.new) result }
     ensures source { S.number source.new ≡ S.number source.old }

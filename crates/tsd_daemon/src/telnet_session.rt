@@ -1,9 +1,10 @@
 //! A telnet session, from its bytes to its replies.
-ghost use Rattle.std.specs.Prelude.{◌≡◌, ℕ, ◌^◌, ◌<◌, ◌≤◌, List, [], Option, None};
+ghost use Rattle.std.specs.Prelude.{◌≡◌, ℕ, ◌^◌, ◌<◌, ◌≤◌, [], None};
 ghost use Rattle.std.specs.Io.KnownBytes.{IsAtEnd};
 ghost use Rattle.point_put.specs.Admissions.{admission};
 ghost use Rattle.telnet_put.specs.Requests.{Request};
 ghost use Rattle.telnet_put.specs.Sessions.{Gives, HasNext};
+ghost use Rattle.tsd_daemon.specs.ConnClocks.{ClockTells};
 ghost use Rattle.tsd_daemon.specs.ConnRequests.{telnet_asks};
 ghost use Rattle.tsd_daemon.specs.ServedConns.{ConnCauses};
 ghost use Rattle.tsd_daemon.specs.Talks.{Causes, Moves, SessionServed, telnet_to_come};
@@ -34,8 +35,8 @@ pub fn serve_telnet<R: Rows + Drop, S: Source, K: Sink>(
     input: &mut ConnInput,
 ) -> Served
     requires { input.old.taken ≤ 2 ^ 40 }
-    ensures served { (moments : Option (List ℕ)) → SessionServed telnet_asks (admission config.now rule.now.patterns) (R.seen names.old) (K.held sink.old) queue.old input.old (S.taken source.old) (S.left source.old) moments
-        result (R.seen names.new) (K.held sink.new) queue.new (S.taken source.new) (S.left source.new) moments }
+    ensures served { (clock : ClockTells) → SessionServed telnet_asks (admission config.now rule.now.patterns) (R.seen names.old) (K.held sink.old) queue.old input.old (S.taken source.old) (S.left source.old) clock
+        result (R.seen names.new) (K.held sink.new) queue.new (S.taken source.new) (S.left source.new) clock }
     ensures end { result ≡ Served.End → IsAtEnd (S.left source.new) }
     ensures causes { (ticks : ℕ) → ConnCauses (S.faults source.old) (S.faults source.new) (K.faults sink.old) (K.faults sink.new) (R.stops names.old) (R.stops names.new) ticks ticks result }
     ensures source { S.number source.new ≡ S.number source.old }

@@ -13,7 +13,7 @@ use Rattle.tsd_daemon.proofs.http_session.answer_calls.Goals as goal
 pub returns-in-Err-clause-moves : goal.returns-in-Err-clause-moves
 returns-in-Err-clause-moves g c = λ from t le k.
     let held = g.K.Sink.held in
-    talk_broken (admission c.args.config.now c.args.rule.now.patterns) from (record t { moments = g.C.Clock.moments c.loop-sink.clock }) (record { seen = g.R.Rows.seen c.loop-sink.names; held = held c.loop-sink.sink; queue = c.loop-sink.queue; waiting = c.loop-sink.session.replies; counts = c.loop-sink.session.counts })
+    talk_broken (admission c.args.config.now c.args.rule.now.patterns) from (record t { clock = record { moments = g.C.Clock.moments c.loop-sink.clock; calls = g.C.Clock.calls c.loop-sink.clock } }) (record { seen = g.R.Rows.seen c.loop-sink.names; held = held c.loop-sink.sink; queue = c.loop-sink.queue; waiting = c.loop-sink.session.replies; counts = c.loop-sink.session.counts })
     (held c.break_off.new.sink) c.break_off.result (http_to_come c.loop-sink.calls) le (c.loop-sink.invariant.moves from t le k) c.break_off.ensures.gives
 
 pub returns-in-Err-clause-causes : goal.returns-in-Err-clause-causes
@@ -28,7 +28,7 @@ returns-in-Err-clause-causes g c =
 pub returns-in-Ok-None-clause-moves : goal.returns-in-Ok-None-clause-moves
 returns-in-Ok-None-clause-moves g c = λ from t le k.
     let w = subst (λ (o : Option Call). Turns c.loop-sink.calls o c.turn.new.self) c.in-Ok-None.field-0-is c.in-Ok-None.ensures.ok in
-    talk_come (admission c.args.config.now c.args.rule.now.patterns) from (record t { moments = g.C.Clock.moments c.loop-sink.clock }) _ (http_to_come c.loop-sink.calls) (http_to_come c.turn.new.self) (c.loop-sink.invariant.moves from t le k) (same_calls c.loop-sink.calls c.turn.new.self w.same)
+    talk_come (admission c.args.config.now c.args.rule.now.patterns) from (record t { clock = record { moments = g.C.Clock.moments c.loop-sink.clock; calls = g.C.Clock.calls c.loop-sink.clock } }) _ (http_to_come c.loop-sink.calls) (http_to_come c.turn.new.self) (c.loop-sink.invariant.moves from t le k) (same_calls c.loop-sink.calls c.turn.new.self w.same)
 
 pub returns-in-Ok-None-clause-none : goal.returns-in-Ok-None-clause-none
 returns-in-Ok-None-clause-none g c = λ same.
@@ -41,10 +41,9 @@ returns-in-Some-clause-moves g c =
     let next = next_call c.loop-sink.calls c.turn.new.self c.in-Ok-Some.call t in
     let seen = g.R.Rows.seen in
     let held = g.K.Sink.held in
-    let moments = g.C.Clock.moments in
     clock_moves_on (admission c.args.config.now c.args.rule.now.patterns) (record { seen = seen c.args.names.now; held = held c.args.sink.now; queue = c.args.queue.now; waiting = c.args.session.now.replies; counts = c.args.session.now.counts }) (record { seen = seen c.loop-sink.names; held = held c.loop-sink.sink; queue = c.loop-sink.queue; waiting = c.loop-sink.session.replies; counts = c.loop-sink.session.counts })
     (record { seen = seen c.exchange_call.new.names; held = held c.exchange_call.new.sink; queue = c.exchange_call.new.queue; waiting = c.exchange_call.new.session.replies; counts = c.exchange_call.new.session.counts })
-    (moments c.args.clock.now) (moments c.loop-sink.clock) (moments c.exchange_call.new.clock) (http_to_come c.args.calls.now) (http_to_come c.loop-sink.calls) (http_to_come c.turn.new.self) (Some c.in-Some.end) c.loop-sink.invariant.moves (c.in-Some.ensures.moves (http_to_come c.loop-sink.calls) (http_to_come c.turn.new.self) next)
+    (record { moments = g.C.Clock.moments c.args.clock.now; calls = g.C.Clock.calls c.args.clock.now }) (record { moments = g.C.Clock.moments c.loop-sink.clock; calls = g.C.Clock.calls c.loop-sink.clock }) (record { moments = g.C.Clock.moments c.exchange_call.new.clock; calls = g.C.Clock.calls c.exchange_call.new.clock }) (http_to_come c.args.calls.now) (http_to_come c.loop-sink.calls) (http_to_come c.turn.new.self) (Some c.in-Some.end) c.loop-sink.invariant.moves (c.in-Some.ensures.moves (http_to_come c.loop-sink.calls) (http_to_come c.turn.new.self) next)
 
 pub returns-in-Some-clause-causes : goal.returns-in-Some-clause-causes
 returns-in-Some-clause-causes g c =
@@ -63,7 +62,6 @@ loop-sink-preserved g c =
     let next = next_call c.loop-sink.calls c.turn.new.self c.in-Ok-Some.call t in
     let seen = g.R.Rows.seen in
     let held = g.K.Sink.held in
-    let moments = g.C.Clock.moments in
     let faults = g.K.Sink.faults in
     let stops = g.R.Rows.stops in
     let ticks = g.C.Clock.faults in
@@ -71,7 +69,7 @@ loop-sink-preserved g c =
       moves = clock_moves_on (admission c.args.config.now c.args.rule.now.patterns) (record { seen = seen c.args.names.now; held = held c.args.sink.now; queue = c.args.queue.now; waiting = c.args.session.now.replies; counts = c.args.session.now.counts })
           (record { seen = seen c.loop-sink.names; held = held c.loop-sink.sink; queue = c.loop-sink.queue; waiting = c.loop-sink.session.replies; counts = c.loop-sink.session.counts })
           (record { seen = seen c.exchange_call.new.names; held = held c.exchange_call.new.sink; queue = c.exchange_call.new.queue; waiting = c.exchange_call.new.session.replies; counts = c.exchange_call.new.session.counts })
-          (moments c.args.clock.now) (moments c.loop-sink.clock) (moments c.exchange_call.new.clock) (http_to_come c.args.calls.now) (http_to_come c.loop-sink.calls) (http_to_come c.turn.new.self) None c.loop-sink.invariant.moves (c.in_default.ensures.moves (http_to_come c.loop-sink.calls) (http_to_come c.turn.new.self) next);
+          (record { moments = g.C.Clock.moments c.args.clock.now; calls = g.C.Clock.calls c.args.clock.now }) (record { moments = g.C.Clock.moments c.loop-sink.clock; calls = g.C.Clock.calls c.loop-sink.clock }) (record { moments = g.C.Clock.moments c.exchange_call.new.clock; calls = g.C.Clock.calls c.exchange_call.new.clock }) (http_to_come c.args.calls.now) (http_to_come c.loop-sink.calls) (http_to_come c.turn.new.self) None c.loop-sink.invariant.moves (c.in_default.ensures.moves (http_to_come c.loop-sink.calls) (http_to_come c.turn.new.self) next);
       causes = clock_causes_on (faults c.args.sink.now) (faults c.loop-sink.sink) (faults c.exchange_call.new.sink) (stops c.args.names.now) (stops c.loop-sink.names) (stops c.exchange_call.new.names) (ticks c.args.clock.now) (ticks c.loop-sink.clock) (ticks c.exchange_call.new.clock) None c.loop-sink.invariant.causes c.in_default.ensures.causes;
       number = c.in_default.ensures.number ∙ c.loop-sink.invariant.number;
     }

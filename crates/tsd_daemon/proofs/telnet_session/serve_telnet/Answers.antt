@@ -12,16 +12,16 @@ use Rattle.tsd_daemon.proofs.Talking.{talk_come, talk_memory}
 use Rattle.tsd_daemon.proofs.telnet_session.serve_telnet.Goals as goal
 
 pub returns-in-Err-clause-served : goal.returns-in-Err-clause-served
-returns-in-Err-clause-served g c = λ moments from k.
+returns-in-Err-clause-served g c = λ clock from k.
     let l = c.loop-session in
     talk_memory (admission c.args.config.now c.args.rule.now.patterns) from _ (record { seen = g.R.Rows.seen l.names; held = g.K.Sink.held l.sink; queue = l.queue; waiting = l.session.replies; counts = l.session.counts }) (λ more. telnet_to_come l.lines (l.input.piece ++ more))
-    l.invariant.most (l.invariant.talks moments from k) l.invariant.quiet
+    l.invariant.most (l.invariant.talks clock from k) l.invariant.quiet
 
 pub returns-in-Some-clause-served : goal.returns-in-Some-clause-served
-returns-in-Some-clause-served g c = λ moments from k.
+returns-in-Some-clause-served g c = λ clock from k.
     let l = c.loop-session in
     let fed = talk_come (admission c.args.config.now c.args.rule.now.patterns) from _ (record { seen = g.R.Rows.seen l.names; held = g.K.Sink.held l.sink; queue = l.queue; waiting = l.session.replies; counts = l.session.counts })
-    (λ more. telnet_to_come l.lines (l.input.piece ++ more)) (telnet_to_come c.feed.new.self) (l.invariant.talks moments from k) (fed_come l.lines c.feed.new.self c.piece.result.now l.input.piece c.piece.ensures c.in-Ok.ensures.ok) in
+    (λ more. telnet_to_come l.lines (l.input.piece ++ more)) (telnet_to_come c.feed.new.self) (l.invariant.talks clock from k) (fed_come l.lines c.feed.new.self c.piece.result.now l.input.piece c.piece.ensures c.in-Ok.ensures.ok) in
     c.in-Some.ensures.moves from _ l.invariant.most fed
 
 pub returns-in-Some-clause-end : goal.returns-in-Some-clause-end
@@ -34,10 +34,10 @@ returns-in-Some-clause-causes g c = λ ticks.
 
 pub loop-session-init : goal.loop-session-init
 loop-session-init g c = record {
-  talks = λ moments from k.
+  talks = λ clock from k.
       let seen = g.R.Rows.seen c.args.names.now in
       let held = g.K.Sink.held c.args.sink.now in
-      let t : Taken = record { taken = g.S.Source.taken c.args.source.now; left = g.S.Source.left c.args.source.now; moments = moments; size = c.args.input.now.taken } in
+      let t : Taken = record { taken = g.S.Source.taken c.args.source.now; left = g.S.Source.left c.args.source.now; clock = clock; size = c.args.input.now.taken } in
       let come = talk_come (admission c.args.config.now c.args.rule.now.patterns) from t (record { seen = seen; held = held; queue = c.args.queue.now; waiting = []; counts = no_counts })
       (λ more. telnet_asks (c.args.input.now.piece ++ more)) (λ more. telnet_to_come c.make-lines.result (c.args.input.now.piece ++ more)) k (λ more. ap (map Telnet) (c.make-lines.ensures (c.args.input.now.piece ++ more))) in
       subst (λ (n : Counts). Talks (admission c.args.config.now c.args.rule.now.patterns) from t (record { seen = seen; held = held; queue = c.args.queue.now; waiting = c.make-session.result.replies; counts = n }) (λ more. telnet_to_come c.make-lines.result (c.args.input.now.piece ++ more))) (sym c.make-session.ensures.counts)
@@ -52,14 +52,14 @@ loop-session-init g c = record {
 }
 
 pub returns-in-Err-next_piece-clause-served : goal.returns-in-Err-next_piece-clause-served
-returns-in-Err-next_piece-clause-served g c = λ moments from k.
+returns-in-Err-next_piece-clause-served g c = λ clock from k.
     let l = c.loop-session in
     let seen = g.R.Rows.seen in
     let held = g.K.Sink.held in
     let s = g.S.Source in
     let fed = talk_come (admission c.args.config.now c.args.rule.now.patterns) from _ (record { seen = seen l.names; held = held l.sink; queue = l.queue; waiting = l.session.replies; counts = l.session.counts })
-    (λ more. telnet_to_come l.lines (l.input.piece ++ more)) (telnet_to_come c.feed.new.self) (l.invariant.talks moments from k) (fed_come l.lines c.feed.new.self c.piece.result.now l.input.piece c.piece.ensures c.in-Ok.ensures.ok) in
-    talk_no_piece (admission c.args.config.now c.args.rule.now.patterns) from (s.taken l.source) (s.left l.source) (s.taken c.next_piece.new.source) (s.left c.next_piece.new.source) moments
+    (λ more. telnet_to_come l.lines (l.input.piece ++ more)) (telnet_to_come c.feed.new.self) (l.invariant.talks clock from k) (fed_come l.lines c.feed.new.self c.piece.result.now l.input.piece c.piece.ensures c.in-Ok.ensures.ok) in
+    talk_no_piece (admission c.args.config.now c.args.rule.now.patterns) from (s.taken l.source) (s.left l.source) (s.taken c.next_piece.new.source) (s.left c.next_piece.new.source) clock
     (record { seen = seen c.answer_all.new.names; held = held c.answer_all.new.sink; queue = c.answer_all.new.queue; waiting = c.answer_all.new.session.replies; counts = c.answer_all.new.session.counts })
     (held c.next_piece.new.sink) l.input c.next_piece.new.input c.in-Err-next_piece.end (telnet_to_come c.answer_all.new.lines) l.invariant.most (c.in_default.ensures.moves from _ l.invariant.most fed) (c.in_default.ensures.none refl) c.in-Err-next_piece.ensures.moves
 
@@ -80,13 +80,13 @@ loop-session-preserved g c =
     let asked = c.in_default.ensures in
     let piece = c.in-Ok-next_piece.ensures in
     record {
-      talks = λ moments from k.
+      talks = λ clock from k.
           let fed = talk_come (admission c.args.config.now c.args.rule.now.patterns) from _ (record { seen = seen l.names; held = held l.sink; queue = l.queue; waiting = l.session.replies; counts = l.session.counts })
-          (λ more. telnet_to_come l.lines (l.input.piece ++ more)) (telnet_to_come c.feed.new.self) (i.talks moments from k) (fed_come l.lines c.feed.new.self c.piece.result.now l.input.piece c.piece.ensures c.in-Ok.ensures.ok) in
-          let talked = talk_piece (admission c.args.config.now c.args.rule.now.patterns) from (s.taken l.source) (s.left l.source) (s.taken c.next_piece.new.source) (s.left c.next_piece.new.source) moments
+          (λ more. telnet_to_come l.lines (l.input.piece ++ more)) (telnet_to_come c.feed.new.self) (i.talks clock from k) (fed_come l.lines c.feed.new.self c.piece.result.now l.input.piece c.piece.ensures c.in-Ok.ensures.ok) in
+          let talked = talk_piece (admission c.args.config.now c.args.rule.now.patterns) from (s.taken l.source) (s.left l.source) (s.taken c.next_piece.new.source) (s.left c.next_piece.new.source) clock
           (record { seen = seen c.answer_all.new.names; held = held c.answer_all.new.sink; queue = c.answer_all.new.queue; waiting = c.answer_all.new.session.replies; counts = c.answer_all.new.session.counts })
-          (held c.next_piece.new.sink) l.input c.next_piece.new.input (telnet_to_come c.answer_all.new.lines) (asked.moves from _ i.most fed) piece.moves in
-          subst (λ (w : List ℕ). Talks (admission c.args.config.now c.args.rule.now.patterns) from (record { taken = s.taken c.next_piece.new.source; left = s.left c.next_piece.new.source; moments = moments; size = c.next_piece.new.input.taken })
+          (held c.next_piece.new.sink) l.input c.next_piece.new.input (telnet_to_come c.answer_all.new.lines) (asked.moves from _ i.most fed) (asked.none refl) piece.moves in
+          subst (λ (w : List ℕ). Talks (admission c.args.config.now c.args.rule.now.patterns) from (record { taken = s.taken c.next_piece.new.source; left = s.left c.next_piece.new.source; clock = clock; size = c.next_piece.new.input.taken })
           (record { seen = seen c.answer_all.new.names; held = held c.next_piece.new.sink; queue = c.answer_all.new.queue; waiting = w; counts = c.answer_all.new.session.counts }) (λ more. telnet_to_come c.answer_all.new.lines (c.next_piece.new.input.piece ++ more)))
           (sym piece.none) talked;
       quiet = piece.none;

@@ -1,6 +1,6 @@
-use Rattle.std.proofs.Common.{◌≡◌, ℕ, ◌-◌, ◌^◌, ◌≤◌, ◌++◌, List, []}
-use Rattle.std.specs.Prelude.{Option}
+use Rattle.std.proofs.Common.{◌≡◌, ℕ, ◌-◌, ◌^◌, ◌≤◌, ◌++◌, []}
 use Rattle.point_put.specs.Admissions.{admission}
+use Rattle.tsd_daemon.specs.ConnClocks.{ClockTells}
 use Rattle.tsd_daemon.specs.ConnReplies.{no_counts}
 use Rattle.tsd_daemon.specs.ConnRequests.{telnet_asks}
 use Rattle.tsd_daemon.specs.Talks.{MovesOn, telnet_to_come}
@@ -13,9 +13,9 @@ invariant-loop-session g l =
     let held = g.K.Sink.held in
     let s = g.S.Source in
     record {
-      talks : (moments : Option (List ℕ)) → MovesOn (admission l.config l.rule.patterns) (record { taken = s.taken l.fn.source; left = s.left l.fn.source; moments = moments; size = l.fn.input.taken })
+      talks : (clock : ClockTells) → MovesOn (admission l.config l.rule.patterns) (record { taken = s.taken l.fn.source; left = s.left l.fn.source; clock = clock; size = l.fn.input.taken })
           (record { seen = seen l.fn.names; held = held l.fn.sink; queue = l.fn.queue; waiting = []; counts = no_counts }) (λ more. telnet_asks (l.fn.input.piece ++ more))
-          (record { taken = s.taken l.source; left = s.left l.source; moments = moments; size = l.input.taken })
+          (record { taken = s.taken l.source; left = s.left l.source; clock = clock; size = l.input.taken })
           (record { seen = seen l.names; held = held l.sink; queue = l.queue; waiting = l.session.replies; counts = l.session.counts }) (λ more. telnet_to_come l.lines (l.input.piece ++ more));
       quiet : l.session.replies ≡ [];
       most : l.input.taken ≤ 2 ^ 40;
