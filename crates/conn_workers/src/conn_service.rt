@@ -1,7 +1,7 @@
 //! The connections of doors, served by workers over any rows.
 ghost use Rattle.std.specs.Prelude.{◌≡◌, ◌<◌, ◌≤◌, ◌+◌, [], All, length, map};
 ghost use Rattle.std.specs.List.{sum_by};
-ghost use Rattle.link_workers.specs.Accepting.{HasReason, links_between};
+ghost use Rattle.link_workers.specs.Accepting.{AsksHalt, HasReason, links_between};
 ghost use Rattle.link_workers.specs.Returns.{AccountsFor};
 ghost use Rattle.point_put.specs.Admissions.{admission};
 ghost use Rattle.conn_workers.specs.ServedLinks.{AllTell, WorkerServed};
@@ -59,6 +59,7 @@ pub fn serve_rows<
     ensures links { result.links ≡ links_between (D.counts doors.old) (D.counts doors.new) }
     ensures back { D.back doors.new ≡ D.back doors.old }
     ensures reason { HasReason result.end (D.waiting doors.old) (D.waiting doors.new) (H.stops halt.old) (H.stops halt.new) (D.faults doors.old) (D.faults doors.new) }
+    ensures asked { AsksHalt H.answers result.end (D.counts doors.old) (D.counts doors.new) halt.old halt.new }
     ensures stops { H.stops halt.old ≤ H.stops halt.new }
     ensures faults { D.faults doors.old ≤ D.faults doors.new }
 {

@@ -1,16 +1,16 @@
 -- Connections that are given back, and counts that account for each.
-use Rattle.std.proofs.Common.{◌≡◌, ℕ, ◌+◌, ◌-◌, ◌≤◌, List, [], ◌∷◌, ◌++◌, length, take, drop, refl, sym, ap, subst, append_assoc, append-nil, length-append, ◌∙◌, arith}
+use Rattle.std.proofs.Common.{◌≡◌, ◌⊎◌, ℕ, ◌+◌, ◌-◌, ◌≤◌, List, [], ◌∷◌, ◌++◌, length, take, drop, refl, sym, ap, subst, append_assoc, append-nil, length-append, ◌∙◌, arith}
 use Rattle.std.proofs.Math.Seq.{take-length, drop-length}
 use Rattle.std.proofs.lemmas.List.{map-append}
-use Rattle.std.specs.Prelude.{All, map, Option, Some, None}
+use Rattle.std.specs.Prelude.{All, Bool, true, map, Option, Some, None}
 use Rattle.std.specs.List.{sum_by}
 use Rattle.std.proofs.lemmas.List.Sums.{sum_by-cons}
 use Rattle.std.proofs.lemmas.List.Elements.{All-head, All-rest}
 use Rattle.tsd_doors.specs.Links.{Counts, Shut, Ends, one_returned}
-use Rattle.link_workers.specs.Accepting.{AddsUp, lost_by}
+use Rattle.link_workers.specs.Accepting.{AddsUp, Allows, AsksEach, AsksHalt, LastAsk, lost_by}
 use Rattle.link_workers.specs.Returns.{AllEnd, AccountsFor, many_returned}
 use Rattle.link_workers.specs.declared.accept_loop.AcceptEnd.{AcceptEnd}
-use Rattle.link_workers.specs.declared.accept_loop.AcceptEnd.TheVariants.{OutOfMemory}
+use Rattle.link_workers.specs.declared.accept_loop.AcceptEnd.TheVariants.{NoneLeft, Stopped, DoorFault, OutOfMemory}
 
 -- what was given back so far, and one more
 pub one_more_ends : {X : Type 0} (shown : X → Shut) (a b c : Option (List Shut)) (xs : List X) (x : X) → AllEnd a b (map shown xs) → Ends b c (shown x) → AllEnd a c (map shown (xs ++ x ∷ []))
@@ -92,3 +92,22 @@ none_served ends (x ∷ xs) idle =
     let one : length (ends x) ≡ 0 = ap length (All-head (λ y. ends y ≡ []) x xs idle) in
     let rest = none_served ends xs (All-rest (λ y. ends y ≡ []) _ _ _ refl idle) in
     omega (arith, one, rest, sum_by-cons (λ y. length (ends y)) x xs)
+
+-- ---- asks of a halt
+module _ {H : Type 0} (answers : H → Bool → H → Type 0) (base out out' : ℕ) (old last new : H) (few : base ≤ out) (so_far : Allows answers (out - base) old last) where
+  pub one_more_ask : out' ≡ out + 1 → answers last true new → Allows answers (out' - base) old new
+  one_more_ask is asked = subst (λ count. Allows answers count old new) (omega (arith, few, is)) (Allows.more so_far asked)
+
+  pub asked_to_end : (end : AcceptEnd) → out' ≡ out + lost_by end → LastAsk answers end last new → AsksEach answers end (out' - base) old new
+  asked_to_end NoneLeft is asked = subst (λ count. Allows answers count old new) (omega (arith, few, is)) (Allows.more so_far asked)
+  asked_to_end Stopped is asked = (last, subst (λ count. Allows answers count old last) (omega (arith, few, is)) so_far, asked)
+  asked_to_end DoorFault is asked = subst (λ count. Allows answers count old new) (omega (arith, few, is)) (Allows.more so_far asked)
+  asked_to_end OutOfMemory is asked = one_more_ask is asked
+
+pub none_asked : {H : Type 0} (answers : H → Bool → H → Type 0) (count : ℕ) (halt : H) → Allows answers (count - count) halt halt
+none_asked answers count halt = subst (λ n. Allows answers n halt halt) (omega arith) Allows.none
+
+-- as many were accepted as are out besides
+pub asked_in_all : {H : Type 0} (answers : H → Bool → H → Type 0) (told end : AcceptEnd) (before now : Counts) (old new : H) → (told ≡ end) ⊎ (told ≡ OutOfMemory)
+    → now.returned ≡ before.returned → AsksEach answers end (now.out - before.out) old new → AsksHalt answers told before now old new
+asked_in_all answers told end before now old new is same asked = record { end = end; is = is; asked = subst (λ count. AsksEach answers end count old new) (omega (arith, same)) asked }

@@ -1,6 +1,6 @@
 //! Accepting connections, which go to queues in turn.
-ghost use Rattle.std.specs.Prelude.{◌≡◌, ◌<◌, ◌≤◌, ◌+◌, ◌-◌, ◌^◌, min, IfOk, IfErr, MatchResult};
-ghost use Rattle.link_workers.specs.Accepting.{AddsUp, lost_by, links_between, HasReason, IsHeeded, StillTells};
+ghost use Rattle.std.specs.Prelude.{◌≡◌, ◌<◌, ◌≤◌, ◌+◌, ◌-◌, ◌^◌, min, true, IfOk, IfErr, MatchResult};
+ghost use Rattle.link_workers.specs.Accepting.{AddsUp, AsksEach, LastAsk, lost_by, links_between, HasReason, IsHeeded, StillTells};
 
 use crate::link::Link;
 use closable_queues::closable::ClosableQueues;
@@ -52,6 +52,7 @@ pub fn accept_links<R: Wait, D: Doors, H: Halt, P: Ledger, T: Ledger>(
     ensures back { D.back doors.new ≡ D.back doors.old }
     ensures stops { H.stops halt.old ≤ H.stops halt.new }
     ensures faults { D.faults doors.old ≤ D.faults doors.new }
+    ensures asked { AsksEach H.answers result.end ((D.counts doors.new).out - (D.counts doors.old).out) halt.old halt.new }
     ensures heeded { IsHeeded result.end (H.stops halt.old) (H.stops halt.new) }
     ensures reason { HasReason result.end (D.waiting doors.old) (D.waiting doors.new) (H.stops halt.old) (H.stops halt.new) (D.faults doors.old) (D.faults doors.new) }
 {
@@ -75,6 +76,7 @@ fn accept_until_end<R: Wait, D: Doors, H: Halt, P: Ledger, T: Ledger>(
     ensures back { D.back doors.new ≡ D.back doors.old }
     ensures stops { H.stops halt.old ≤ H.stops halt.new }
     ensures faults { D.faults doors.old ≤ D.faults doors.new }
+    ensures asked { AsksEach H.answers result.end ((D.counts doors.new).out - (D.counts doors.old).out) halt.old halt.new }
     ensures heeded { IsHeeded result.end (H.stops halt.old) (H.stops halt.new) }
     ensures reason { HasReason result.end (D.waiting doors.old) (D.waiting doors.new) (H.stops halt.old) (H.stops halt.new) (D.faults doors.old) (D.faults doors.new) }
 {
@@ -121,6 +123,9 @@ fn accept_link<R: Wait, D: Doors, H: Halt, P: Ledger, T: Ledger>(
     ensures stops { H.stops halt.old ≤ H.stops halt.new }
     ensures faults { D.faults doors.old ≤ D.faults doors.new }
     ensures tells { IfOk result (λ _. StillTells (D.waiting doors.old) (D.waiting doors.new)) }
+    ensures asked { MatchResult result
+        (λ _. H.answers halt.old true halt.new)
+        (λ end. LastAsk H.answers end halt.old halt.new) }
     ensures heeded { MatchResult result
         (λ _. H.stops halt.new ≡ H.stops halt.old)
         (λ end. IsHeeded end (H.stops halt.old) (H.stops halt.new)) }

@@ -1,7 +1,7 @@
 //! All connections of the doors, each served by one of the workers or by the caller.
 ghost use Rattle.std.specs.Prelude.{◌≡◌, ◌<◌, ◌≤◌, ◌+◌, [], All, length, max, IfOk, vec_len, vec_capacity};
 ghost use Rattle.std.specs.List.{sum_by};
-ghost use Rattle.link_workers.specs.Accepting.{AddsUp, lost_by, links_between, HasReason};
+ghost use Rattle.link_workers.specs.Accepting.{AddsUp, AsksHalt, lost_by, links_between, HasReason};
 ghost use Rattle.link_workers.specs.Returns.{AllServed, AccountsFor};
 
 use crate::accept_loop::{AcceptEnd, Accepted};
@@ -51,6 +51,7 @@ pub fn serve_links<
         (sum_by (λ worker. length worker.ends.items) workers.new.items + length own.new.ends.items) }
     ensures links { result.links ≡ links_between (D.counts doors.old) (D.counts doors.new) }
     ensures back { D.back doors.new ≡ D.back doors.old }
+    ensures asked { AsksHalt H.answers result.end (D.counts doors.old) (D.counts doors.new) halt.old halt.new }
     ensures stops { H.stops halt.old ≤ H.stops halt.new }
     ensures faults { D.faults doors.old ≤ D.faults doors.new }
     ensures reason { HasReason result.end (D.waiting doors.old) (D.waiting doors.new) (H.stops halt.old) (H.stops halt.new) (D.faults doors.old) (D.faults doors.new) }
@@ -106,6 +107,7 @@ fn serve_counted<
         (sum_by (λ worker. length worker.ends.items) workers.new.items + length own.new.ends.items) }
     ensures links { result.links ≡ links_between (D.counts doors.old) (D.counts doors.new) }
     ensures back { D.back doors.new ≡ D.back doors.old }
+    ensures asked { AsksHalt H.answers result.end (D.counts doors.old) (D.counts doors.new) halt.old halt.new }
     ensures stops { H.stops halt.old ≤ H.stops halt.new }
     ensures faults { D.faults doors.old ≤ D.faults doors.new }
     ensures reason { HasReason result.end (D.waiting doors.old) (D.waiting doors.new) (H.stops halt.old) (H.stops halt.new) (D.faults doors.old) (D.faults doors.new) }

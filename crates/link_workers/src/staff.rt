@@ -1,7 +1,7 @@
 //! Workers that serve, each on a thread of its own, while connections are accepted.
-ghost use Rattle.std.specs.Prelude.{◌≡◌, ◌<◌, ◌≤◌, All, vec_len};
+ghost use Rattle.std.specs.Prelude.{◌≡◌, ◌<◌, ◌≤◌, ◌-◌, All, vec_len};
 ghost use Rattle.std.specs.Fork.{AcceptsEach, ChangesAt};
-ghost use Rattle.link_workers.specs.Accepting.{AddsUp, lost_by, links_between, HasReason};
+ghost use Rattle.link_workers.specs.Accepting.{AddsUp, AsksEach, lost_by, links_between, HasReason};
 ghost use Rattle.link_workers.specs.Returns.{AllServed, EachChanged};
 
 use crate::accept_loop::{Accepted, accept_links};
@@ -40,6 +40,7 @@ pub(crate) fn work_together<
     ensures adds_up { AddsUp (lost_by result.end) (D.counts doors.old) (D.counts doors.new) put.old.amount put.new.amount }
     ensures links { result.links ≡ links_between (D.counts doors.old) (D.counts doors.new) }
     ensures back { D.back doors.new ≡ D.back doors.old }
+    ensures asked { AsksEach H.answers result.end ((D.counts doors.new).out - (D.counts doors.old).out) halt.old halt.new }
     ensures stops { H.stops halt.old ≤ H.stops halt.new }
     ensures faults { D.faults doors.old ≤ D.faults doors.new }
     ensures reason { HasReason result.end (D.waiting doors.old) (D.waiting doors.new) (H.stops halt.old) (H.stops halt.new) (D.faults doors.old) (D.faults doors.new) }
@@ -84,6 +85,7 @@ fn accept_beside<
     ensures adds_up { AddsUp (lost_by result.end) (D.counts doors.old) (D.counts doors.new) put.old.amount put.new.amount }
     ensures links { result.links ≡ links_between (D.counts doors.old) (D.counts doors.new) }
     ensures back { D.back doors.new ≡ D.back doors.old }
+    ensures asked { AsksEach H.answers result.end ((D.counts doors.new).out - (D.counts doors.old).out) halt.old halt.new }
     ensures stops { H.stops halt.old ≤ H.stops halt.new }
     ensures faults { D.faults doors.old ≤ D.faults doors.new }
     ensures reason { HasReason result.end (D.waiting doors.old) (D.waiting doors.new) (H.stops halt.old) (H.stops halt.new) (D.faults doors.old) (D.faults doors.new) }

@@ -3,7 +3,7 @@ ghost use Rattle.std.specs.Prelude.{◌≡◌, ◌⊎◌, ◌≤◌, ◌+◌, tr
 ghost use Rattle.std.specs.List.{sum_by};
 ghost use Rattle.step_count.specs.Tokens.{counter_of_pass, view_of_pass};
 ghost use Rattle.cell_store.specs.CallerViews.{IsCaller, numbers_of, seen_of};
-ghost use Rattle.link_workers.specs.Accepting.{HasReason};
+ghost use Rattle.link_workers.specs.Accepting.{AsksHalt, HasReason};
 ghost use Rattle.point_put.specs.Admissions.{admission};
 ghost use Rattle.conn_workers.specs.ServedLinks.{AllTell, WorkerServed};
 ghost use Rattle.site_workers.specs.GatheredLinks.{Gathered, SiteCounts, TakenBack};
@@ -83,6 +83,7 @@ pub fn serve_connections<
         (D.back doors.old) (D.back doors.new) (C.faults clock.old) (C.faults clock.new) s.ends.items) }
     ensures counts { IfOk result (λ s. SiteCounts s.end s.links (length s.ends.items) (D.counts doors.old) (D.counts doors.new)) }
     ensures reason { IfOk result (λ s. HasReason s.end (D.waiting doors.old) (D.waiting doors.new) (H.stops halt.old) (H.stops halt.new) (D.faults doors.old) (D.faults doors.new)) }
+    ensures asked { IfOk result (λ s. AsksHalt H.answers s.end (D.counts doors.old) (D.counts doors.new) halt.old halt.new) }
     ensures stops_later { H.stops halt.old ≤ H.stops halt.new }
     ensures clock_later { C.faults clock.old ≤ C.faults clock.new }
     ensures doors_later { D.faults doors.old ≤ D.faults doors.new }

@@ -1,6 +1,6 @@
 -- The line of a fleet, why it ended, and the numbers of the store that it leaves.
 use Rattle.std.proofs.Common.{◌≡◌, ℕ, ◌+◌, ◌-◌, ◌^◌, ◌≤◌, List, [], ◌∷◌, length, take, drop, inl, inr, refl, sym, subst, ap, ◌∙◌, take-append-drop, append-nil, arith}
-use Rattle.std.specs.Prelude.{◌≢◌, Bool, Option, Some, Result, IfOk, min, filter, map}
+use Rattle.std.specs.Prelude.{◌≢◌, ◌⊎◌, Bool, Option, Some, Result, Ok, Err, IfOk, min, filter, map}
 use Rattle.std.specs.Option.{option_map_or}
 use Rattle.std.specs.Int.{w64, from_be_bytes}
 use Rattle.std.specs.List.{list_any}
@@ -14,7 +14,7 @@ use Rattle.tsd_base.specs.declared.kinds.Kind.{Kind}
 use Rattle.tsd_base.specs.declared.kinds.Kind.TheVariants.{Metric, TagKey, TagValue}
 use Rattle.link_workers.specs.declared.accept_loop.AcceptEnd.{AcceptEnd}
 use Rattle.link_workers.specs.declared.accept_loop.AcceptEnd.TheVariants as accept_end
-use Rattle.link_workers.specs.Accepting.{HasReason, IsNoneLeft, lost_by}
+use Rattle.link_workers.specs.Accepting.{Allows, AsksEach, AsksHalt, HasReason, IsNoneLeft, lost_by}
 use Rattle.cell_model.specs.declared.answers.Tally.{Tally}
 use Rattle.cell_model.specs.declared.row.Row.{Row}
 use Rattle.cell_model.specs.PlaceOrder.{place_cmp}
@@ -37,7 +37,7 @@ use Rattle.tsd_fleet.specs.declared.fleet_end.FleetEnd.{FleetEnd}
 use Rattle.tsd_fleet.specs.declared.fleet_end.FleetEnd.TheVariants as end
 use Rattle.site_workers.specs.GatheredLinks.{Gathered, SiteCounts}
 use Rattle.tsd_fleet.specs.FleetStands.{FleetStands}
-use Rattle.tsd_fleet.specs.FleetServes.{BeginsToListen, BindsAsked, CountsLinks, FleetServes, HasFleetReason, HasListened, IsListenFault, IsTally, Listens, is_die, listening_line}
+use Rattle.tsd_fleet.specs.FleetServes.{BeginsToListen, BindsAsked, CountsLinks, FleetAsks, FleetServes, HasFleetReason, HasListened, IsListenFault, IsTally, Listens, is_die, listening_line}
 use Rattle.tsd_fleet.proofs.FleetHistories.{none_back, stands}
 
 -- ---- the line
@@ -133,8 +133,54 @@ fault_reason r ends w w' s s' d d' k k' fault same = record {
   write_fault = λ is. subst (λ (e : FleetEnd). IsListenFault e d d' k k') is fault;
 }
 
-pub fault_listened : (r : FleetEnd) (asked : ℕ) (held held' : Option (List ℕ)) (now : Counts) (d d' k k' : ℕ) → IsListenFault r d d' k k' → BeginsToListen asked held held' now → HasListened r asked held held' now
-fault_listened r asked held held' now d d' k k' fault begun = record {
+-- ---- what the halt was asked
+
+-- an end of accepting that isn't want of memory is the one that is told
+told_end : (e a : AcceptEnd) → (e ≡ a) ⊎ (e ≡ accept_end.OutOfMemory) → lost_by e ≡ 0 → a ≡ e
+told_end e a (inl is) none = sym is
+told_end e a (inr out) none = absurd (let one : 1 ≡ 0 = sym (ap lost_by out) ∙ none in omega (arith, one))
+
+module _ {H : Type 0} (answers : H → Bool → H → Type 0) where
+  pub fleet_asks : (e : AcceptEnd) (r : FleetEnd) (x y : Counts) (old new : H) → (r ≡ end.Closed → e ≡ accept_end.NoneLeft) → (r ≡ end.Died → e ≡ accept_end.NoneLeft) → (r ≡ end.Stopped → e ≡ accept_end.Stopped)
+      → AsksHalt answers e x y old new → FleetAsks answers r x y old new
+  fleet_asks e r x y old new closed died stopped a = record {
+    accepting = a.end;
+    asked = a.asked;
+    closed = λ is. told_end e a.end a.is (ap lost_by (closed is)) ∙ closed is;
+    died = λ is. told_end e a.end a.is (ap lost_by (died is)) ∙ died is;
+    stopped = λ is. told_end e a.end a.is (ap lost_by (stopped is)) ∙ stopped is;
+  }
+
+  -- the port alone changed before
+  pub asks_from : (r : FleetEnd) (x y z : Counts) (old new : H) → y.returned ≡ x.returned → y.out ≡ x.out → FleetAsks answers r y z old new → FleetAsks answers r x z old new
+  asks_from r x y z old new returned out a = record {
+    accepting = a.accepting;
+    asked = subst (λ n. AsksEach answers a.accepting (accepted z - n) old new) same a.asked;
+    closed = a.closed;
+    died = a.died;
+    stopped = a.stopped;
+  }
+    where
+      same : accepted y ≡ accepted x
+      same = omega (arith, returned, out)
+
+  -- listening failed
+  pub asks_nothing : (r : FleetEnd) (x y : Counts) (old new : H) (d d' k k' : ℕ) → IsListenFault r d d' k k' → y.returned ≡ x.returned → y.out ≡ x.out → new ≡ old → FleetAsks answers r x y old new
+  asks_nothing r x y old new d d' k k' fault returned out same = record {
+    accepting = accept_end.OutOfMemory;
+    asked = subst (λ halt. Allows answers (accepted y - accepted x) old halt) (sym same) (subst (λ n. Allows answers n old old) none Allows.none);
+    closed = λ is. absurd (subst (λ (e : FleetEnd). IsListenFault e d d' k k') is fault);
+    died = λ is. absurd (subst (λ (e : FleetEnd). IsListenFault e d d' k k') is fault);
+    stopped = λ is. absurd (subst (λ (e : FleetEnd). IsListenFault e d d' k k') is fault);
+  }
+    where
+      none : 0 ≡ accepted y - accepted x
+      none = omega (arith, returned, out)
+
+pub fault_listened : (r : FleetEnd) (asked : ℕ) (held held' : Option (List ℕ)) (now : Counts) (d d' k k' : ℕ) → IsListenFault r d d' k k' → (r ≡ end.DoorFault → Appends held held' []) → BeginsToListen asked held held' now
+    → HasListened r asked held held' now
+fault_listened r asked held held' now d d' k k' fault silent begun = record {
+  fault = λ is. inl (silent is);
   closed = λ is. absurd (subst (λ (e : FleetEnd). IsListenFault e d d' k k') is fault);
   died = λ is. absurd (subst (λ (e : FleetEnd). IsListenFault e d d' k k') is fault);
   stopped = λ is. absurd (subst (λ (e : FleetEnd). IsListenFault e d d' k k') is fault);
@@ -146,6 +192,7 @@ has_listened r asked held held' now l = record {
   closed = λ is. l;
   died = λ is. l;
   stopped = λ is. l;
+  fault = λ is. inr l;
   begun = (listening_line l.0, l.2, inr (l.0, [], l.1, append-nil (listening_line l.0)));
 }
 

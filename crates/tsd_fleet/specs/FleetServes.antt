@@ -4,7 +4,9 @@ use Rattle.std.specs.List.{list_any}
 use Rattle.std.specs.Io.KnownBytes.{Appends}
 use Rattle.tsd_io.specs.Causes.{Rose}
 use Rattle.tsd_doors.specs.Links.{Counts, Shut, accepted}
-use Rattle.link_workers.specs.Accepting.{IsNoneLeft}
+use Rattle.link_workers.specs.declared.accept_loop.AcceptEnd.{AcceptEnd}
+use Rattle.link_workers.specs.declared.accept_loop.AcceptEnd.TheVariants.{NoneLeft, Stopped}
+use Rattle.link_workers.specs.Accepting.{AsksEach, IsNoneLeft}
 use Rattle.cell_model.specs.declared.answers.Tally.{Tally}
 use Rattle.cell_model.specs.Store.{Store}
 use Rattle.cell_model.specs.Counts.{counters_of, point_entries, point_rows}
@@ -75,9 +77,18 @@ pub record HasFleetReason (result : FleetEnd) (ends : List Served) (waiting wait
   pub door_fault : result ≡ end.DoorFault → Rose doors doors'
   pub write_fault : result ≡ end.WriteFault → Rose writes writes'
 
--- the line of the port was written where accepting ended by itself, and in each case nothing else was written
+-- The line of the port was written where accepting ended by itself. After a fault of the doors it was too, or nothing was. In each case nothing else was written.
 pub record HasListened (result : FleetEnd) (asked : ℕ) (held held' : Option (List ℕ)) (now : Counts) : Type 0 where
   pub closed : result ≡ end.Closed → Listens asked held held' now
   pub died : result ≡ end.Died → Listens asked held held' now
   pub stopped : result ≡ end.Stopped → Listens asked held held' now
+  pub fault : result ≡ end.DoorFault → Appends held held' [] ⊎ Listens asked held held' now
   pub begun : BeginsToListen asked held held' now
+
+-- The halt was asked once before each accept: for each connection, for the accept that gave none or failed, and once where it refused. A fleet that listened in vain asked nothing.
+pub record FleetAsks {H : Type 0} (answers : H → Bool → H → Type 0) (result : FleetEnd) (before now : Counts) (old new : H) : Type 0 where
+  pub accepting : AcceptEnd
+  pub asked : AsksEach answers accepting (accepted now - accepted before) old new
+  pub closed : result ≡ end.Closed → accepting ≡ NoneLeft
+  pub died : result ≡ end.Died → accepting ≡ NoneLeft
+  pub stopped : result ≡ end.Stopped → accepting ≡ Stopped

@@ -1,12 +1,13 @@
 //! A fleet: connections that come through doors, served by workers over one store in memory.
-ghost use Rattle.std.specs.Prelude.{◌≡◌, ◌≤◌, ℕ, length, IfOk, IfErr, OnErr};
+ghost use Rattle.std.specs.Prelude.{◌≡◌, ◌≤◌, ℕ, [], length, Err, IfOk, IfErr, OnErr};
+ghost use Rattle.std.specs.Io.KnownBytes.{Appends};
 ghost use Rattle.row_key.specs.Made.{three};
 ghost use Rattle.cell_model.specs.Sound.{IsBase};
 ghost use Rattle.cell_model.specs.Store.{no_cells};
 ghost use Rattle.step_count.specs.CounterRule.{store_in};
 ghost use Rattle.point_put.specs.Admissions.{admission};
 ghost use Rattle.conn_workers.specs.ServedLinks.{AllTell};
-ghost use Rattle.tsd_fleet.specs.FleetServes.{BeginsToListen, CountsLinks, FleetServes, HasFleetReason, HasListened, IsListenFault, IsTally, Listens};
+ghost use Rattle.tsd_fleet.specs.FleetServes.{BeginsToListen, CountsLinks, FleetAsks, FleetServes, HasFleetReason, HasListened, IsListenFault, IsTally, Listens};
 
 use crate::fleet_end::{FleetEnd, fleet_end};
 use crate::listening::listen;
@@ -111,6 +112,9 @@ pub fn serve<
         (D.faults doors.old) (D.faults doors.new) (K.faults output.old) (K.faults output.new) }
     ensures listens { HasListened result.end fleet.now.port (K.held output.old) (K.held output.new) (D.counts doors.new) }
 
+    // The halt is asked once before each accept.
+    ensures asked { FleetAsks H.answers result.end (D.counts doors.old) (D.counts doors.new) halt result.halt }
+
     // No count falls.
     ensures stops_later { H.stops halt ≤ H.stops result.halt }
     ensures clock_later { C.faults clock.old ≤ C.faults clock.new }
@@ -178,8 +182,10 @@ fn serve_listening<
     ensures reason { IfOk result (λ s. HasFleetReason s.end s.ends.items (D.waiting doors.old) (D.waiting doors.new) (H.stops halt.old) (H.stops halt.new)
         (D.faults doors.old) (D.faults doors.new) (K.faults output.old) (K.faults output.new)) }
     ensures listens { IfOk result (λ s. Listens fleet.now.port (K.held output.old) (K.held output.new) (D.counts doors.new)) }
+    ensures silent { result ≡ Err FleetEnd.DoorFault → Appends (K.held output.old) (K.held output.new) [] }
     ensures begins { BeginsToListen fleet.now.port (K.held output.old) (K.held output.new) (D.counts doors.new) }
     ensures failed { IfErr result (λ end. IsListenFault end (D.faults doors.old) (D.faults doors.new) (K.faults output.old) (K.faults output.new)) }
+    ensures asked { IfOk result (λ s. FleetAsks H.answers s.end (D.counts doors.old) (D.counts doors.new) halt.old halt.new) }
     ensures stops_later { H.stops halt.old ≤ H.stops halt.new }
     ensures clock_later { C.faults clock.old ≤ C.faults clock.new }
     ensures doors_later { D.faults doors.old ≤ D.faults doors.new }
@@ -234,6 +240,7 @@ fn serve_regions<
     ensures port { IfOk result (λ s. (D.counts doors.new).port ≡ (D.counts doors.old).port) }
     ensures reason { IfOk result (λ s. (writes writes_now : ℕ) → HasFleetReason s.end s.ends.items (D.waiting doors.old) (D.waiting doors.new) (H.stops halt.old) (H.stops halt.new)
         (D.faults doors.old) (D.faults doors.new) writes writes_now) }
+    ensures asked { IfOk result (λ s. FleetAsks H.answers s.end (D.counts doors.old) (D.counts doors.new) halt.old halt.new) }
     ensures stops_later { H.stops halt.old ≤ H.stops halt.new }
     ensures clock_later { C.faults clock.old ≤ C.faults clock.new }
     ensures doors_later { D.faults doors.old ≤ D.faults doors.new }
@@ -276,6 +283,7 @@ fn serve_parts<
     ensures port { IfOk result (λ s. (D.counts doors.new).port ≡ (D.counts doors.old).port) }
     ensures reason { IfOk result (λ s. (writes writes_now : ℕ) → HasFleetReason s.end s.ends.items (D.waiting doors.old) (D.waiting doors.new) (H.stops halt.old) (H.stops halt.new)
         (D.faults doors.old) (D.faults doors.new) writes writes_now) }
+    ensures asked { IfOk result (λ s. FleetAsks H.answers s.end (D.counts doors.old) (D.counts doors.new) halt.old halt.new) }
     ensures stops_later { H.stops halt.old ≤ H.stops halt.new }
     ensures clock_later { C.faults clock.old ≤ C.faults clock.new }
     ensures doors_later { D.faults doors.old ≤ D.faults doors.new }

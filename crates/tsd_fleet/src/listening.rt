@@ -1,5 +1,6 @@
 //! The port of a fleet, and the line that tells it.
-ghost use Rattle.std.specs.Prelude.{◌≡◌, ◌≤◌, IfOk, OnOk, IfErr};
+ghost use Rattle.std.specs.Prelude.{◌≡◌, ◌≤◌, [], Err, IfOk, OnOk, IfErr};
+ghost use Rattle.std.specs.Io.KnownBytes.{Appends};
 ghost use Rattle.tsd_fleet.specs.FleetServes.{BeginsToListen, IsListenFault, Listens, listening_line};
 
 use crate::fleet_end::FleetEnd;
@@ -18,6 +19,7 @@ pub(crate) fn listen<D: Doors, K: Sink>(
 ) -> Result<(), FleetEnd>
     ensures ok { OnOk result (Listens port (K.held output.old) (K.held output.new) (D.counts doors.new)) }
     ensures begins { BeginsToListen port (K.held output.old) (K.held output.new) (D.counts doors.new) }
+    ensures silent { result ≡ Err FleetEnd.DoorFault → Appends (K.held output.old) (K.held output.new) [] }
     ensures returned { (D.counts doors.new).returned ≡ (D.counts doors.old).returned }
     ensures out { (D.counts doors.new).out ≡ (D.counts doors.old).out }
     ensures waiting { D.waiting doors.new ≡ D.waiting doors.old }

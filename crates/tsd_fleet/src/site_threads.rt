@@ -2,7 +2,7 @@
 ghost use Rattle.std.specs.Prelude.{◌≡◌, ◌≤◌, IfOk, OnErr, length, vec_len};
 ghost use Rattle.step_count.specs.Tokens.{counter_of_pass, view_of_pass};
 ghost use Rattle.cell_store.specs.CallerViews.{IsCaller, numbers_of, seen_of};
-ghost use Rattle.link_workers.specs.Accepting.{HasReason};
+ghost use Rattle.link_workers.specs.Accepting.{AsksHalt, HasReason};
 ghost use Rattle.point_put.specs.Admissions.{admission};
 ghost use Rattle.conn_workers.specs.ServedLinks.{AllTell};
 ghost use Rattle.site_workers.specs.GatheredLinks.{Gathered, SiteCounts};
@@ -56,6 +56,7 @@ pub(crate) fn serve_site<
         (D.back doors.old) (D.back doors.new) (C.faults clock.old) (C.faults clock.new) s.ends.items) }
     ensures counts { IfOk result (λ s. SiteCounts s.end s.links (length s.ends.items) (D.counts doors.old) (D.counts doors.new)) }
     ensures reason { IfOk result (λ s. HasReason s.end (D.waiting doors.old) (D.waiting doors.new) (H.stops halt.old) (H.stops halt.new) (D.faults doors.old) (D.faults doors.new)) }
+    ensures asked { IfOk result (λ s. AsksHalt H.answers s.end (D.counts doors.old) (D.counts doors.new) halt.old halt.new) }
     ensures stops_later { H.stops halt.old ≤ H.stops halt.new }
     ensures clock_later { C.faults clock.old ≤ C.faults clock.new }
     ensures doors_later { D.faults doors.old ≤ D.faults doors.new }
@@ -83,6 +84,7 @@ pub(crate) fn serve_site<
                 (D.back doors.entry.now) (D.back doors.exit.now) (C.faults clock.entry.now) (C.faults clock.exit.now) s.ends.items) }
             ensures counts { IfOk result (λ s. SiteCounts s.end s.links (length s.ends.items) (D.counts doors.entry.now) (D.counts doors.exit.now)) }
             ensures reason { IfOk result (λ s. HasReason s.end (D.waiting doors.entry.now) (D.waiting doors.exit.now) (H.stops halt.entry.now) (H.stops halt.exit.now) (D.faults doors.entry.now) (D.faults doors.exit.now)) }
+            ensures asked { IfOk result (λ s. AsksHalt H.answers s.end (D.counts doors.entry.now) (D.counts doors.exit.now) halt.entry.now halt.exit.now) }
             ensures stops_later { H.stops halt.entry.now ≤ H.stops halt.exit.now }
             ensures clock_later { C.faults clock.entry.now ≤ C.faults clock.exit.now }
             ensures doors_later { D.faults doors.entry.now ≤ D.faults doors.exit.now }

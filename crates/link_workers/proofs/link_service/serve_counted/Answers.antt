@@ -1,5 +1,6 @@
-use Rattle.std.proofs.Common.{length, ap, arith}
-use Rattle.link_workers.proofs.LinkLemmas.{accounts, accounts_few, accounts_none, none_served}
+use Rattle.std.proofs.Common.{inl, inr, length, ap, arith, refl}
+use Rattle.link_workers.proofs.LinkLemmas.{accounts, accounts_few, accounts_none, asked_in_all, none_asked, none_served}
+use Rattle.link_workers.specs.declared.accept_loop.AcceptEnd.TheVariants.{OutOfMemory}
 use Rattle.link_workers.proofs.link_service.serve_counted.Goals as goal
 
 pub returns-in_default-clause-counted : goal.returns-in_default-clause-counted
@@ -7,6 +8,22 @@ returns-in_default-clause-counted g c =
     let idle = none_served (λ worker. worker.ends.items) c.args.workers.now.items c.requires.idle in
     let own = ap length c.requires.own_idle in
     accounts_none _ _ (omega (arith, idle, own))
+
+pub returns-in_default-clause-asked : goal.returns-in_default-clause-asked
+returns-in_default-clause-asked g c =
+    let counts = g.D.Doors.counts c.args.doors.now in
+    asked_in_all g.H.Halt.answers OutOfMemory OutOfMemory counts counts c.args.halt.now c.args.halt.now (inl refl) refl (none_asked g.H.Halt.answers counts.out c.args.halt.now)
+
+pub returns-then-serve_left-clause-asked : goal.returns-then-serve_left-clause-asked
+returns-then-serve_left-clause-asked g c =
+    let end = c.work_together-accepted.result.end in
+    asked_in_all g.H.Halt.answers end end (g.D.Doors.counts c.args.doors.now) (g.D.Doors.counts c.work_together-accepted.new.doors) c.args.halt.now c.work_together-accepted.new.halt
+    (inl refl) c.work_together-accepted.ensures.adds_up.returned c.work_together-accepted.ensures.asked
+
+pub returns-clause-asked : goal.returns-clause-asked
+returns-clause-asked g c =
+    asked_in_all g.H.Halt.answers OutOfMemory c.work_together-accepted.result.end (g.D.Doors.counts c.args.doors.now) (g.D.Doors.counts c.work_together-accepted.new.doors) c.args.halt.now
+    c.work_together-accepted.new.halt (inr refl) c.work_together-accepted.ensures.adds_up.returned c.work_together-accepted.ensures.asked
 
 pub returns-then-serve_left-clause-counted : goal.returns-then-serve_left-clause-counted
 returns-then-serve_left-clause-counted g c =
