@@ -2,6 +2,7 @@
 ghost use Rattle.std.specs.Prelude.{◌≡◌, ◌<◌, ◌≤◌, All, IfOk};
 ghost use Rattle.tsd_base.specs.declared.times.TheConstants.{LAST_TIME};
 ghost use Rattle.query_text.specs.Subs.{CanDown};
+ghost use Rattle.weave_script.specs.OperationQueues.{GainsOne, LosesFirst};
 
 use cell_model::rows::Rows;
 use compactor::compact_row;
@@ -180,18 +181,33 @@ fn put_one<R: Rows + Drop>(
     rule: &UidRule,
     queue: &mut Queue,
     point: &Point,
-) -> (R, Result<(), AllocError>) {
+) -> (R, Result<(), AllocError>)
+    ensures queue { GainsOne queue.old queue.new }
+{
     match Uids::over(alloc, rows, KEPT_PAIRS) {
         Ok(names) => {
             let mut names = names;
-            let put = put_queued(alloc, &mut names, rule, &CONFIG, queue, point);
-            let done = match put {
-                Err(PutFault::OutOfMemory) => Err(AllocError),
-                _ => Ok(()),
-            };
+            let done = put_named(alloc, &mut names, rule, queue, point);
             (names.part(), done)
         }
         Err((error, rows)) => (rows, Err(error)),
+    }
+}
+
+/// Puts a point by these names, and queues its row where it was stored. A put that is stopped or refused leaves the queue as it was.
+fn put_named<R: Rows + Drop>(
+    alloc: Global,
+    names: &mut Uids<R>,
+    rule: &UidRule,
+    queue: &mut Queue,
+    point: &Point,
+) -> Result<(), AllocError>
+    ensures queue { GainsOne queue.old queue.new }
+{
+    match put_queued(alloc, names, rule, &CONFIG, queue, point) {
+        Ok(()) => Ok(()),
+        Err(PutFault::OutOfMemory) => Err(AllocError),
+        Err(_) => Ok(()),
     }
 }
 
@@ -200,7 +216,9 @@ fn compact_first<R: Rows + Drop>(
     alloc: Global,
     rows: R,
     queue: &mut Queue,
-) -> (R, Result<(), AllocError>) {
+) -> (R, Result<(), AllocError>)
+    ensures queue { LosesFirst queue.old queue.new }
+{
     let Some(first) = queue.pop() else {
         return (rows, Ok(()));
     };
