@@ -16,7 +16,7 @@ use Rattle.cell_model.specs.declared.answers.RowsFault.{RowsFault}
 use Rattle.cell_model.specs.declared.answers.RowsFault.TheVariants as rows
 use Rattle.cell_model.specs.declared.answers.Stored.{Stored}
 use Rattle.cell_model.specs.Deeds.{Made, deeds}
-use Rattle.cell_model.specs.History.{History, first, store_after}
+use Rattle.cell_model.specs.History.{History, first}
 use Rattle.cell_model.specs.Layout.{names_of}
 use Rattle.cell_model.specs.Lawful.{IsLawful}
 use Rattle.cell_model.specs.Seen.{Seen, Fits, IsPossible}
@@ -33,7 +33,7 @@ use Rattle.point_put.specs.StoredTexts.{answer_at}
 use Rattle.point_put.specs.TextPuts.{point_at}
 use Rattle.point_put.specs.declared.fault.PutFault.{PutFault}
 use Rattle.point_put.specs.declared.fault.PutFault.TheVariants as put
-use Rattle.point_put.proofs.CallerLemmas.{none_for}
+use Rattle.point_put.proofs.CallerLemmas.{none_in_turn}
 use Rattle.point_lines.specs.OpenRules.{AllowsAll}
 use Rattle.point_import.specs.PutPoints.{AskedPut, IsFaultOfOpen, IsFaultOfRows, Names, PutsPoint, PutsText, SaysPut, TellsFault, TellsUnread, is_memory, open_to}
 use Rattle.point_import.specs.declared.import_point.TextOutcome.{TextOutcome}
@@ -95,7 +95,7 @@ read_put patterns text p old mid new answer is same q other says =
 
 -- no put was begun for want of memory
 pub nothing_put : (patterns : Patterns) (p : DataPoint) (old new : Seen) → Made old [] new → SaysPut patterns p old (Err rows.OutOfMemory) new
-nothing_put patterns p old new made = ([], made, λ h lawful fits. none_for (store_after (first new.length h)).widths (open_to patterns) (names_of p))
+nothing_put patterns p old new made = ([], made, λ h lawful fits. none_in_turn (open_to patterns) (first new.length h) (names_of p))
 
 -- ---- the put of a known series
 known_reads : (text : List ℕ) (line : TextParts) (s : Seen) (k : KnownSeries) → HasTextParts text line → k.metric ≡ line.metric.now → k.tags ≡ line.tags.now → IsShownSeries s k
@@ -209,8 +209,8 @@ module _ (p : DataPoint) (old new : Seen) (possible : IsPossible old) where
   pub never_full : (kind : Kind) → PutSays closed p old (Err (put.Exhausted kind)) new → ⊥
   never_full kind says =
       let q = says.1.since.lives possible in
-      let f = (says.2 q.history q.lawful q.fits).1 in
-      true≢false (sym f.0 ∙ none_made kind)
+      let f = (says.2 q.history q.lawful q.fits).2 in
+      true≢false (sym f.0.0 ∙ none_made kind)
 
   pub rows_fault : (fault : PutFault) → ((c : Admission) → c.config.appends ≡ false → PutSays c p old (Err fault) new) → IsFaultOfRows fault
   rows_fault (put.Unknown kind name) says = absurd (never_unknown kind name (says (open_to closed.patterns) refl))

@@ -2,3 +2,4 @@ mod AcceptedLines
 mod AskedNames
 mod AskedPuts
 mod Numbering
+pub mod CallerLemmas

@@ -34,6 +34,7 @@ use Rattle.uid_table.specs.IdSteps.{AssignMade, LookedOrKept, DidLook, DidBump, 
 use Rattle.uid_table.specs.declared.id_answers.Assigned.{Assigned}
 use Rattle.uid_table.specs.declared.id_answers.Assigned.TheVariants.{Fresh, Existing, Lost}
 use Rattle.point_put.specs.PutPoint.{PointAsked}
+use Rattle.point_put.proofs.CallerLemmas.{names_in_turn}
 use Rattle.point_lines.specs.LinePoints.{points_from, with_line, with_point, with_points}
 use Rattle.point_lines.specs.LoneHistories.{IsNumbered}
 use Rattle.point_lines.specs.NameIds.{Names, and_then_noted, id_in, list_of, no_names, noted_all, with_listed}
@@ -60,7 +61,7 @@ was_given n most id = at (nat_lt n most)
     at false e = cc
 
 -- the names behind a step, and their ids
-record Noted (w : Widths) (names : Names) (ns : List (Kind × List ℕ)) (h : History) : Type 0 where
+pub record Noted (w : Widths) (names : Names) (ns : List (Kind × List ℕ)) (h : History) : Type 0 where
   pub more : Names
   pub noted : noted_all w names ns ≡ Ok more
   pub numbered : IsNumbered more h
@@ -129,7 +130,7 @@ module _ (w : Widths) (patterns : Patterns) (h : History) (caller from to : ℕ)
   named_range start = omega arith
   named_range (then_named kind name rest le was) = let r = named_range rest in omega (arith, r, le)
 
-  all_named : (names : Names) (n : ℕ) {ns : List (Kind × List ℕ)} {e : ℕ} → from ≤ n → e ≤ to → ((m : Kind × List ℕ) → Contains ns m → IsName m.1) → IsNumbered names (first n h) → WereNamed patterns h caller n ns e → Noted w names ns (first e h)
+  pub all_named : (names : Names) (n : ℕ) {ns : List (Kind × List ℕ)} {e : ℕ} → from ≤ n → e ≤ to → ((m : Kind × List ℕ) → Contains ns m → IsName m.1) → IsNumbered names (first n h) → WereNamed patterns h caller n ns e → Noted w names ns (first e h)
   all_named names n low up are numbered start = record { more = names; noted = refl; numbered = numbered }
   all_named names n low up are numbered (then_named {names = ms} {e = mid} {e2 = e2} kind name rest le was) =
       let one = all_named names n low (omega (arith, le, up)) (λ m has. are m (Contains-append_left ms ((kind, name) ∷ []) m has)) numbered rest in
@@ -147,7 +148,7 @@ module _ (w : Widths) (patterns : Patterns) (h : History) (caller from to : ℕ)
       let g : History = first e h in
       let cut : follow g (deeds h caller e e2) ≡ Then (follow g so.names) so.put.entry = ap (follow g) so.list_is ∙ follow-append g so.names (so.put ∷ []) in
       let lawful : IsLawful (Then (follow g so.names) so.put.entry) = subst IsLawful cut (follows_lawful e e2 low le up) in
-      let reads = names_read (open_to patterns) g so.entries have lawful.0 in
+      let reads = names_read (open_to patterns) g (names_in_turn so.entries) have lawful.0 in
       let same = reads_keep g so.names reads in
       let mid = numbered_same names g (follow g so.names) same numbered in
       let other : (row : Row) (qual : List ℕ) → row.table ≡ Ids → value_at (store_after (Then (follow g so.names) so.put.entry)) row qual ≡ value_at (store_after (follow g so.names)) row qual =
@@ -158,7 +159,7 @@ module _ (w : Widths) (patterns : Patterns) (h : History) (caller from to : ℕ)
       })
 
   -- names that were asked are resolved then
-  resolved_after : {n e : ℕ} {ns : List (Kind × List ℕ)} → e ≤ to → ((m : Kind × List ℕ) → Contains ns m → IsName m.1) → WereNamed patterns h caller n ns e → AllResolved (first e h) ns
+  pub resolved_after : {n e : ℕ} {ns : List (Kind × List ℕ)} → e ≤ to → ((m : Kind × List ℕ) → Contains ns m → IsName m.1) → WereNamed patterns h caller n ns e → AllResolved (first e h) ns
   resolved_after up are start m has = absurd (not_in m has)
   resolved_after up are (then_named {names = ms} {e = mid} {e2 = e2} kind name rest le was) m has = ⊎_elim
       (λ (early : Contains ms m).

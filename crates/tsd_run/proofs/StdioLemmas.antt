@@ -16,6 +16,8 @@ use Rattle.row_key.specs.declared.widths.Widths.{Widths}
 use Rattle.cell_listing.specs.ListedLines.{ListingRead}
 use Rattle.listing_job.specs.declared.listing_end.ListingEnd.TheVariants as listing
 use Rattle.listing_job.specs.ListingJobs.{Checked, Dumped, Fixed, Told}
+use Rattle.import_job.specs.declared.import_end.ImportEnd.TheVariants as imported
+use Rattle.import_job.proofs.CallerLemmas.{not_begun}
 use Rattle.tsd_run.specs.declared.status.Status.{Status}
 use Rattle.tsd_run.specs.declared.status.Status.TheVariants.{Memory}
 use Rattle.tsd_run.specs.Runs.{HasStatus, Runs, RunsOver, RunsPrinted, ServesStdio, admission_of}
@@ -65,7 +67,7 @@ module _ (taken left held moments : Option (List ℕ)) where
   runs_unread (Some (BatchAsked batch)) = (unread_printed (Some batch), refl)
   runs_unread (Some (StdioAsked s)) = unserved s Memory refl
   runs_unread (Some (ServeAsked s)) = (unread_printed None, refl)
-  runs_unread (Some (ImportAsked i)) = (unread_printed None, refl)
+  runs_unread (Some (ImportAsked i)) = ((imported.OutOfMemory, not_begun i.widths i.compact taken left held, refl), refl)
   runs_unread (Some (DumpAsked widths)) = (unread_listing Dumped widths, refl)
   runs_unread (Some (FsckAsked widths)) = (unread_listing Checked widths, refl)
   runs_unread (Some (FixAsked widths)) = (unread_listing Fixed widths, refl)

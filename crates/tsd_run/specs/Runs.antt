@@ -11,12 +11,15 @@ use Rattle.tsd_daemon.specs.declared.served.Served.{Served}
 use Rattle.tsd_daemon.specs.declared.served.Served.TheVariants as served
 use Rattle.tsd_daemon.specs.ServedConns.{Passes}
 use Rattle.stdio_job.specs.LoneConnections.{ServesAlone}
-use Rattle.command_words.specs.CommandWords.{Batch, NameOptions, Stdio, Asked}
+use Rattle.command_words.specs.CommandWords.{Batch, Import, NameOptions, Stdio, Asked}
 use Rattle.command_words.specs.CommandWords.Asked.{BatchAsked, StdioAsked, ServeAsked, ImportAsked, DumpAsked, FsckAsked, FixAsked, WeaveAsked}
 use Rattle.query_text.specs.Subs.{sub_of}
 use Rattle.query_text.specs.declared.queries.Sub.{Sub}
 use Rattle.row_key.specs.declared.widths.Widths.{Widths}
 use Rattle.cell_listing.specs.ListedLines.{ListingRead}
+use Rattle.import_job.specs.declared.import_end.ImportEnd.{ImportEnd}
+use Rattle.import_job.specs.declared.import_end.ImportEnd.TheVariants as imported
+use Rattle.import_job.specs.ImportAnswers.{PassesImport}
 use Rattle.listing_job.specs.declared.listing_end.ListingEnd.{ListingEnd}
 use Rattle.listing_job.specs.declared.listing_end.ListingEnd.TheVariants as listing
 use Rattle.listing_job.specs.ListingJobs.{Checked, Dumped, Fixed, OverListing, Told}
@@ -137,6 +140,20 @@ listing_status listing.SessionFull = SessionFull
 abbrev pub RunsOver : (ListingRead → Told → Type 0) → Widths → (taken taken' left left' held held' : Option (List ℕ)) → Status → Type 0
 RunsOver Tells widths taken taken' left left' held held' status = (end : ListingEnd) × OverListing Tells widths taken taken' left left' held held' end × (status ≡ listing_status end)
 
+-- of each end of an import the status
+abbrev pub import_status : ImportEnd → Status
+import_status imported.Done = Done
+import_status imported.Refused = Refused
+import_status imported.ReadFault = ReadFault
+import_status imported.WriteFault = WriteFault
+import_status imported.OutOfMemory = Memory
+import_status imported.Stopped = Halted
+import_status imported.SessionFull = SessionFull
+
+-- The listing of the points was given, or the first line that is refused, and the status is that of how the job ended.
+abbrev pub RunsImport : Import → (taken taken' left left' held held' : Option (List ℕ)) → Status → Type 0
+RunsImport i taken taken' left left' held held' status = (end : ImportEnd) × PassesImport i.widths i.compact taken taken' left left' held held' end × (status ≡ import_status end)
+
 -- the summary of a woven history was given, or a front of it where the sink failed
 abbrev pub Weaves : ℕ → (held held' : Option (List ℕ)) → Status → Type 0
 Weaves count held held' Done = (woven : Woven) × CountsWoven count woven × Appends held held' (woven_text woven)
@@ -144,12 +161,12 @@ Weaves count held held' WriteFault = (woven : Woven) × CountsWoven count woven 
 Weaves count held held' Memory = held' ≡ held
 Weaves count held held' _ = ⊥
 
--- What a run of these words took and gave, the moments that its clock gives before and after, and its status. Words that are no command print the usage line, and so do those of a fleet, which waits for others, and those of commands that aren't built.
+-- What a run of these words took and gave, the moments that its clock gives before and after, and its status. Words that are no command print the usage line, and so do those of a fleet, which waits for others.
 abbrev pub Runs : Option Asked → (taken taken' left left' held held' moments moments' : Option (List ℕ)) → Status → Type 0
 Runs (Some (BatchAsked batch)) taken taken' left left' held held' moments moments' status = RunsPrinted (Some batch) taken taken' left left' held held' status × (moments' ≡ moments)
 Runs (Some (StdioAsked s)) taken taken' left left' held held' moments moments' status = Passes taken taken' left left' held held' moments moments' (ServesStdio s status)
 Runs (Some (ServeAsked s)) taken taken' left left' held held' moments moments' status = RunsPrinted None taken taken' left left' held held' status × (moments' ≡ moments)
-Runs (Some (ImportAsked i)) taken taken' left left' held held' moments moments' status = RunsPrinted None taken taken' left left' held held' status × (moments' ≡ moments)
+Runs (Some (ImportAsked i)) taken taken' left left' held held' moments moments' status = RunsImport i taken taken' left left' held held' status × (moments' ≡ moments)
 Runs (Some (DumpAsked widths)) taken taken' left left' held held' moments moments' status = RunsOver Dumped widths taken taken' left left' held held' status × (moments' ≡ moments)
 Runs (Some (FsckAsked widths)) taken taken' left left' held held' moments moments' status = RunsOver Checked widths taken taken' left left' held held' status × (moments' ≡ moments)
 Runs (Some (FixAsked widths)) taken taken' left left' held held' moments moments' status = RunsOver Fixed widths taken taken' left left' held held' status × (moments' ≡ moments)

@@ -21,6 +21,7 @@ ghost use Rattle.tsd_run.specs.Runs.{HasStatus, Runs, RunsPrinted, ServesStdio, 
 
 use crate::input::{BadLine, read_points};
 use crate::new_names::{config_of, patterns_of};
+use crate::on_import::run_import;
 use crate::on_listing::{dump, fix, fsck};
 use crate::output_text::Printed;
 use crate::query::read_query;
@@ -80,6 +81,10 @@ struct Decided<H> {
 /// name that has no id is given one only where it begins with the P of its kind, if there is one. With `--appends` a point is added to the
 /// column of its row, and else it gets a cell. The ids of metrics have M bytes, those of tag keys K and those of tag values V, each 2 to 4,
 /// and three where nothing is said.
+///
+/// `import [--compact] [--widths M,K,V]` reads points, one a line, to the end of the input, and prints the listing of the store that has them.
+/// The first line that is refused is told, and then nothing else is printed. With `--compact` each row without a conflict becomes one cell,
+/// whose line may be longer than a listing may have.
 ///
 /// `dump`, `fsck` and `fix`, each with `[--widths M,K,V]`, read the listing of a store, whose ids have these widths, to its end. `dump`
 /// prints its points, or the first thing that is wrong with it. `fsck` prints what is wrong with it, and `fix` prints it mended.
@@ -173,9 +178,8 @@ pub(crate) fn act<S: Source, K: Sink, C: Clock, H: Halt + Drop>(
             status: run_weave(alloc, weave.seed, weave.count, output),
             halt,
         },
-        Some(Asked::Serve { .. } | Asked::Import { .. }) | None => {
-            print(alloc, None, input, output, halt)
-        }
+        Some(Asked::Import { import }) => run_import(alloc, import, input, output, halt),
+        Some(Asked::Serve { .. }) | None => print(alloc, None, input, output, halt),
     }
 }
 
