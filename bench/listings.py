@@ -1,9 +1,9 @@
 #!/usr/bin/env python3
 """Reckons what the commands on listings print, by a program of its own in plain Python, to have their cases from outside.
 
-    bench/listings.py --check                   tells whether the cases of listings.txt have the answers that it reckons
+    bench/listings.py --check                   tells whether the cases of listings.txt and imports.txt have the answers that it reckons
     bench/listings.py --write                   writes these answers
-    bench/listings.py --against PROGRAM COUNT   compares PROGRAM, a built `tsd_main`, with it, over so many listings made by chance
+    bench/listings.py --against PROGRAM COUNT   compares PROGRAM, a built `tsd_main`, with it, over so many listings and inputs made by chance
 
 The rules are those of docs/LISTINGS.md and docs/PROGRAM.md. Nothing here is made for speed, and nothing was looked up in the program."""
 import collections
@@ -15,7 +15,7 @@ import subprocess
 import sys
 
 DATA = pathlib.Path(__file__).resolve().parent.parent / "crates/test_cases/data"
-FILES = ["listings.txt"]
+FILES = ["listings.txt", "imports.txt"]
 USAGE = "usage: tsd batch START END M | stdio | serve PORT | import | dump | fsck | fix | weave SEED N\n"
 TABLES = ["ids", "names", "points"]
 KINDS = {b"metrics": "metric", b"tagk": "tagk", b"tagv": "tagv"}
@@ -744,20 +744,20 @@ def change(chance, lines):
 
 
 def against(program, count):
-    """Runs a built program over listings made by chance."""
+    """Runs a built program over listings and inputs made by chance."""
     seen = collections.Counter()
     for seed in range(count):
         chance = random.Random(seed)
         said = chance.choice(["3,3,3", "3,3,3", "2,2,2", "4,4,4", "2,3,4", "4,3,2"])
         widths = dict(zip(["metric", "tagk", "tagv"], map(int, said.split(","))))
-        listing = some_listing(chance, widths)
+        listing, points = some_listing(chance, widths), some_input(chance)
         laws(["fix", f"--widths={said}"], listing)
-        for words in [["fsck"], ["fix"], ["dump"]]:
+        for words, text in [(["fsck"], listing), (["fix"], listing), (["dump"], listing), (["import"], points), (["import", "--compact"], points)]:
             words = words + ["--widths", said]
-            wanted = output_of(words, listing)
-            ran = subprocess.run([program, *words], input=listing, capture_output=True)
+            wanted = output_of(words, text)
+            ran = subprocess.run([program, *words], input=text, capture_output=True)
             if (ran.returncode, ran.stdout) != (wanted[0], wanted[1].encode()):
-                print(f"seed {seed}: {' '.join(words)}\n{listing}\nwanted {wanted}\ngave   {(ran.returncode, ran.stdout)}")
+                print(f"seed {seed}: {' '.join(words)}\n{text}\nwanted {wanted}\ngave   {(ran.returncode, ran.stdout)}")
                 sys.exit(1)
             seen[words[0], wanted[0]] += 1
             for line in wanted[1].splitlines() if words[0] == "fsck" else []:

@@ -1,11 +1,12 @@
 #!/usr/bin/env python3
-"""Measures `fsck`, `fix` and `dump` beside plain Rust that does the same, by turns, and prints a Markdown table for each size.
+"""Measures `import`, `fsck`, `fix` and `dump` beside plain Rust that does the same, by turns, and prints a Markdown table for each size.
 
     bench/tools.py PROGRAM PLAIN [RUNS] [SERIESxPOINTS ..]
 
 PROGRAM is the built `tsd_main`, PLAIN bench/tools.rs by `rustc -O --edition 2021`, which makes the listings too. Time is the fastest of RUNS (5 if left out), memory the peak of the
 process. The sizes are 1000x1000, 100000x10 and 10000x1000 where none is named: so many series and points of each, in turns over the
-series. Both have to print the same bytes. `fix, no order` has the lines of the listing shuffled."""
+series. Both have to print the same bytes. `fix, no order` has the lines of the listing shuffled; `batch` over the lines and the plain
+printing of the listing are there for `import`."""
 import hashlib
 import os
 import random
@@ -71,12 +72,15 @@ def main():
             del all_lines
             print(f"\n{series:,} series of {each:,} points; a listing of {os.path.getsize(listing) / 1e6:.0f} MB\n")
             print("| Job | tsd, s | plain Rust, s | tsd / plain | tsd, MB | plain, MB | tsd / plain |\n|---|---|---|---|---|---|---|")
-            for job, words, path in [("fsck", ["fsck"], listing), ("dump", ["dump"], listing), ("fix", ["fix"], listing), ("fix, no order", ["fix"], shuffled)]:
+            for job, words, path in [("fsck", ["fsck"], listing), ("dump", ["dump"], listing), ("fix", ["fix"], listing), ("fix, no order", ["fix"], shuffled), ("import", ["import"], points)]:
                 both = by_turns(runs, {"tsd": (program, words, path), "plain": (plain, words, path)})
                 if both["tsd"][2] != both["plain"][2]:
                     sys.exit(f"{job}: the two print other bytes")
                 a, b = both["tsd"], both["plain"]
                 print(f"| `{job}` | {a[0]:.2f} | {b[0]:.2f} | {a[0] / b[0]:.2f} | {a[1]:.0f} | {b[1]:.0f} | {a[1] / b[1]:.2f} |", flush=True)
+            words = ["batch", str(FIRST), str(FIRST + each * 10), "sum:1h-avg:sys.cpu.user"]
+            seconds = by_turns(runs, {"batch": (program, words, points)})["batch"]
+            print(f"| `batch` of the same lines | {seconds[0]:.2f} | | | {seconds[1]:.0f} | | |", flush=True)
 
 
 main()

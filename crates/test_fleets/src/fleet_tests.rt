@@ -8,7 +8,7 @@ use point_put::Config;
 use std::alloc::{AllocError, Global};
 use std::hint::spin_loop;
 use std::sync::Wait;
-use std::sync::atomic::{AtomicBool, Ordering};
+use std::sync::atomic::{AtomicBool, AtomicU32, Ordering};
 use std::thread::Threads;
 use tsd_base::kinds::Kind;
 use tsd_base::names::Name;
@@ -42,7 +42,7 @@ fn two_links(alloc: Global, first: &[u8], second: &[u8]) -> Result<MemDoors, All
     MemDoors::make(alloc, links, Vec::new(alloc))
 }
 
-/// What a fleet of daemons with one worker each did over doors, with a rule that allows each name.
+/// What a fleet of daemons with one worker each did over doors, with a rule that allows each name. Data points stand in three regions.
 fn run_fleet<T: Threads + Wait + Sync, G: Gate + Drop + Send + Sync>(
     rt: &T,
     alloc: Global,
@@ -57,7 +57,7 @@ fn run_fleet<T: Threads + Wait + Sync, G: Gate + Drop + Send + Sync>(
         port: 0,
         daemons,
         workers: 1,
-        regions: 4,
+        regions: 3,
     };
     let config = Config {
         auto_metric: true,
@@ -164,6 +164,49 @@ fn connections_are_served_beside_each_other(rt: HostRuntime) -> Result<(), Alloc
     assert!(rt; meeting.has_counted.load(Ordering::SeqCst));
     assert!(rt; meeting.has_named.load(Ordering::SeqCst));
     assert!(rt; !meeting.was_missed.load(Ordering::SeqCst));
+    Ok(())
+}
+
+/// It notes the greatest number of a region.
+#[derive(Drop)]
+struct GreatestGate<'a> {
+    greatest: &'a AtomicU32,
+}
+
+impl<'a> Gate for GreatestGate<'a> {
+    ghost use Rattle.std.specs.Prelude.{true};
+
+    ghost lets_in = { λ _ _. true };
+
+    fn inside(&self, region: u32) {
+        self.greatest.fetch_max(region, Ordering::SeqCst);
+    }
+}
+
+// The nine regions before those of data points are of names. A metric's id says in which of the others its points stand.
+#[test]
+fn data_points_stand_in_as_many_regions_as_asked(rt: HostRuntime) -> Result<(), AllocError> {
+    let greatest = AtomicU32::new(0);
+    let puts = b"put a 1 1 h=a\nput b 1 1 h=a\nput c 1 1 h=a\n";
+    let mut doors = two_links(rt.alloc(), puts, b"")?;
+    let gate = GreatestGate {
+        greatest: &greatest,
+    };
+    let done = run_fleet(&rt, rt.alloc(), 1, gate, &mut doors)?;
+    assert!(rt; done.tally.point_rows == 3);
+    assert!(rt; greatest.load(Ordering::SeqCst) == 11);
+    Ok(())
+}
+
+// A connection takes 1,000 bytes, and each of these replies has 69.
+#[test]
+fn want_of_room_ends_that_connection_alone(rt: HostRuntime) -> Result<(), AllocError> {
+    let helps =
+        b"help\nhelp\nhelp\nhelp\nhelp\nhelp\nhelp\nhelp\nhelp\nhelp\nhelp\nhelp\nhelp\nhelp\nhelp\n";
+    let mut doors = two_links(rt.alloc(), helps, b"help\n")?;
+    let done = run_fleet(&rt, rt.alloc(), 1, NoGate, &mut doors)?;
+    assert!(rt; done.end == FleetEnd::Closed);
+    assert!(rt; done.ends.as_slice() == [Served::WriteFault, Served::End].as_slice());
     Ok(())
 }
 

@@ -3,3 +3,5 @@
 
 #[cfg(test)]
 mod fleet_tests;
+#[cfg(test)]
+mod port_tests;
