@@ -54,7 +54,7 @@ def by_telnet(program):
     lines = [words(*filled(number)) for number in range(NAMES)] + [words(*names) for names in NEW] + ["stats\n"]
     told = ran(program, "".join(lines).encode())
     refusals = "".join(f"put: ids of {kind} are exhausted\n" for kind in KINDS)
-    return told, f"{refusals}requests {NAMES + 5}\nputs {NAMES + 1}\nrefused 3\n"
+    return told, f"{refusals}requests {NAMES + len(NEW)}\nputs {NAMES + 1}\nrefused 3\n"
 
 
 def by_http(program):
