@@ -27,7 +27,7 @@ pub record IsFresh (link : LinkInMemory) : Type 0 where
 -- a connection with these bytes that takes so many, whose calls don't fail
 abbrev pub fresh_link : List ℕ → ℕ → LinkInMemory
 fresh_link bytes room = (
-  record { taken = []; left = bytes; cuts = []; failing = []; calls = 0; faults = 0; number = 0 },
+  record { taken = []; left = bytes; last = []; cuts = []; failing = []; calls = 0; faults = 0; number = 0 },
   record { held = []; room = room; failing = []; calls = 0; faults = 0; number = 0 },
 )
 

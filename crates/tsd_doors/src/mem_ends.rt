@@ -4,6 +4,7 @@ ghost use Rattle.std.specs.Io.{ReadsAtMost, WritesAtMost};
 ghost use Rattle.std.specs.Io.KnownBytes.{WriteAppends, ReadConsumes};
 ghost use Rattle.tsd_io.specs.Causes.{HasCause};
 ghost use Rattle.tsd_io.specs.Memory.{one_more, faults_after, cut_count, cuts_after};
+ghost use Rattle.tsd_io.specs.Takes.{TellsLast};
 
 use std::marker::Model;
 use tsd_io::memory::{MemSink, MemSource};
@@ -47,6 +48,8 @@ impl Source for MemInlet {
 
     ghost left = { λ s. Some s.left };
 
+    ghost last = { λ s. Some s.last };
+
     ghost faults = { λ s. s.faults };
 
     ghost number = { λ s. s.number };
@@ -56,6 +59,7 @@ impl Source for MemInlet {
         ensures bound { ReadsAtMost result into.new }
         ensures taken { WriteAppends (Some self.old.taken) (Some self.new.taken) result into.new }
         ensures left { ReadConsumes (Some self.old.left) (Some self.new.left) result into.new }
+        ensures last { TellsLast (Some self.old.last) (Some self.new.last) result into.new }
         ensures cause { HasCause self.old.faults self.new.faults result }
         ensures number { self.new.number ≡ self.old.number }
 

@@ -66,6 +66,8 @@ impl Source for TcpInlet {
 
     ghost left = { λ _. None };
 
+    ghost last = { λ _. None };
+
     ghost faults = { λ s. s.faults };
 
     ghost number = { λ s. s.number };

@@ -1,4 +1,5 @@
 pub mod Causes
 pub mod Halts
 pub mod Memory
+pub mod Takes
 pub mod Ticks

@@ -1,10 +1,11 @@
 -- Sources, sinks, clocks and halts in memory, as callers see them.
 use Rattle.std.specs.Prelude.{◌≡◌, ◌↔◌, ℕ, ◌+◌, ◌-◌, ◌^◌, min, drop, ◌==◌, List, [], ◌∷◌, Bool, false, Contains, Result, Ok, Err, if◌then◌else◌}
 
--- a source in memory: the cuts are those of the takes to come, and the failing are the numbers of the calls that fail
+-- a source in memory: the last is what the last take gave, the cuts are those of the takes to come, and the failing are the numbers of the calls that fail
 pub record SourceInMemory : Type 0 where
   pub taken : List ℕ
   pub left : List ℕ
+  pub last : List ℕ
   pub cuts : List ℕ
   pub failing : List ℕ
   pub calls : ℕ

@@ -5,6 +5,7 @@ ghost use Rattle.std.specs.Io.KnownBytes.{WriteAppends, ReadConsumes};
 ghost use Rattle.std.specs.Vec.Iter.{into_iter_items};
 ghost use Rattle.tsd_io.specs.Causes.{HasCause};
 ghost use Rattle.tsd_io.specs.Memory.{one_more, faults_after, cut_count, cuts_after};
+ghost use Rattle.tsd_io.specs.Takes.{TellsLast};
 
 use crate::ports::{Failed, Sink, Source};
 use std::alloc::{AllocError, Global};
@@ -18,6 +19,7 @@ use std::vec::IntoIter;
 pub struct MemSource {
     bytes: Vec<u8>,
     at: usize,
+    last_at: usize,
     cuts: IntoIter<usize>,
     failing: Vec<u64>,
     calls: u64,
@@ -35,6 +37,7 @@ impl Model for MemSource {
     ghost view = { λ s. record {
       taken = take s.at s.bytes.items;
       left = drop s.at s.bytes.items;
+      last = drop s.last_at (take s.at s.bytes.items);
       cuts = into_iter_items s.cuts;
       failing = s.failing.items;
       calls = s.calls;
@@ -42,7 +45,7 @@ impl Model for MemSource {
       number = s.number;
     } };
 
-    ghost invariant = { λ s. s.at ≤ length s.bytes.items };
+    ghost invariant = { λ s. (s.last_at ≤ s.at) × (s.at ≤ length s.bytes.items) };
 }
 
 impl MemSource {
@@ -55,6 +58,7 @@ impl MemSource {
         ensures { result ≡ record {
           taken = [];
           left = bytes.items;
+          last = [];
           cuts = cuts.items;
           failing = failing.items;
           calls = 0;
@@ -65,6 +69,7 @@ impl MemSource {
         MemSource {
             bytes,
             at: 0,
+            last_at: 0,
             cuts: cuts.into_iter(),
             failing,
             calls: 0,
@@ -86,6 +91,8 @@ impl Source for MemSource {
 
     ghost left = { λ s. Some s.left };
 
+    ghost last = { λ s. Some s.last };
+
     ghost faults = { λ s. s.faults };
 
     ghost number = { λ s. s.number };
@@ -95,6 +102,7 @@ impl Source for MemSource {
         ensures bound { ReadsAtMost result into.new }
         ensures taken { WriteAppends (Some self.old.taken) (Some self.new.taken) result into.new }
         ensures left { ReadConsumes (Some self.old.left) (Some self.new.left) result into.new }
+        ensures last { TellsLast (Some self.old.last) (Some self.new.last) result into.new }
         ensures cause { HasCause self.old.faults self.new.faults result }
         ensures number { self.new.number ≡ self.old.number }
 
@@ -111,6 +119,7 @@ impl Source for MemSource {
         ensures cuts { self.new.cuts ≡ cuts_after self.old.cuts result }
     {
         self.calls = self.calls.saturating_add(1);
+        self.last_at = self.at;
         if self.failing.contains(&self.calls) {
             self.faults = self.faults.saturating_add(1);
             return Err(Failed);

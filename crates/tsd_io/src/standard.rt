@@ -42,6 +42,8 @@ impl<R: Read + Drop> Source for ReadSource<R> {
 
     ghost left = { λ _. None };
 
+    ghost last = { λ _. None };
+
     ghost faults = { λ faults. faults };
 
     ghost number = { λ _. 0 };
