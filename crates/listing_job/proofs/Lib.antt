@@ -1,2 +1,3 @@
 mod GivenTold
 mod OneText
+pub mod CallerLemmas

@@ -70,7 +70,7 @@ fn give_told<K: Sink>(
 }
 
 /// The line of the first fault of a listing, if it has one. It fails only for want of memory.
-fn fault_of(alloc: Global, listed: &Listed) -> Result<Option<Shown>, AllocError>
+pub fn fault_of(alloc: Global, listed: &Listed) -> Result<Option<Shown>, AllocError>
     ensures { IfOk result (ShowsFault listed.now) }
 {
     let report = check(alloc, listed)?;

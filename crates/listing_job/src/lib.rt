@@ -5,7 +5,7 @@ pub mod dump_job;
 pub mod fix_job;
 pub mod fsck_job;
 pub mod listing_end;
-mod shown;
+pub mod shown;
 
 pub use dump_job::dump_listing;
 pub use fix_job::fix_listing;

@@ -24,7 +24,7 @@ pub enum ListingEnd {
 }
 
 /// The end of a job whose listing can't be read.
-pub(crate) fn end_of_input(fault: InputFault) -> ListingEnd
+pub fn end_of_input(fault: InputFault) -> ListingEnd
     ensures { result ≡ end_of_input fault }
 {
     match fault {
@@ -35,7 +35,7 @@ pub(crate) fn end_of_input(fault: InputFault) -> ListingEnd
 }
 
 /// The end of a job whose points can't be given.
-pub(crate) fn end_of_dump(fault: DumpFault) -> ListingEnd
+pub fn end_of_dump(fault: DumpFault) -> ListingEnd
     ensures { result ≡ end_of_dump fault }
 {
     match fault {
@@ -45,7 +45,7 @@ pub(crate) fn end_of_dump(fault: DumpFault) -> ListingEnd
 }
 
 /// The end of a job whose text can't be given.
-pub(crate) fn end_of_give(fault: GiveFault) -> ListingEnd
+pub fn end_of_give(fault: GiveFault) -> ListingEnd
     ensures { result ≡ end_of_give fault }
 {
     match fault {

@@ -10,13 +10,13 @@ use tsd_io::ports::{Failed, Sink};
 
 /// A text, and whether it refuses the listing.
 #[derive(Drop)]
-pub(crate) struct Shown {
+pub struct Shown {
     pub refused: bool,
     pub text: Vec<u8>,
 }
 
 /// Gives what is told, and answers how the job ends.
-pub(crate) fn give_shown<K: Sink>(sink: &mut K, shown: &Shown) -> ListingEnd
+pub fn give_shown<K: Sink>(sink: &mut K, shown: &Shown) -> ListingEnd
     ensures gives { Gives (λ told. told ≡ told_of shown.now) (K.held sink.old) (K.held sink.new) result }
     ensures later { K.faults sink.old ≤ K.faults sink.new }
     ensures no_read { result ≢ ListingEnd.ReadFault }

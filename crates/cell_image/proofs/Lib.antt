@@ -1,0 +1,11 @@
+mod Numbers
+mod Rising
+mod Steps
+mod Written
+mod ReadBack
+mod OneListing
+mod ReadTurns
+mod CellLoops
+mod Growing
+mod StreamTurns
+mod GiveTurns

@@ -1,0 +1,6 @@
+pub mod Images
+pub mod ImageReads
+pub mod ImageWrites
+pub mod Laws
+pub mod ImageTakes
+pub mod ImageGifts

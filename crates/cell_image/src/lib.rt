@@ -1,0 +1,16 @@
+//! Images: the cells of a store as bytes, each store in one spelling.
+#![tactic(auto)]
+
+pub mod image_fault;
+mod image_fields;
+pub mod image_giver;
+pub mod image_reader;
+pub mod image_stream;
+pub mod image_writer;
+pub mod laws;
+
+pub use image_fault::{ImageFault, WriteImageFault};
+pub use image_giver::{GiveImageFault, give_image};
+pub use image_reader::read_image;
+pub use image_stream::{TakeImageFault, take_image};
+pub use image_writer::write_image;

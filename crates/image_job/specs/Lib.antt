@@ -1,0 +1,2 @@
+pub mod ImageTexts
+pub mod ImageJobs
