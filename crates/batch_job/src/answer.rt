@@ -34,10 +34,10 @@ pub fn answer<R: Rows + Drop>(
 ) -> Result<Reply, AskFault>
     requires can { CanAsk query.now }
     requires allows { AllowsAll rule.now.patterns }
-    requires gathers { (points : List DataPoint) × Gathers points (so_far (R.seen store.old) gathered) }
-    ensures answers { (s : Sub) (points : List DataPoint) → query.now.subs ≡ s ∷ [] → Gathers points (so_far (R.seen store.old) gathered) → GivesAnswer result (answered query.now s points) }
+    requires gathers { (points : List DataPoint) × Gathers points (so_far (R.seen store.old.rows) gathered) }
+    ensures answers { (s : Sub) (points : List DataPoint) → query.now.subs ≡ s ∷ [] → Gathers points (so_far (R.seen store.old.rows) gathered) → GivesAnswer result (answered query.now s points) }
     ensures ready { IfOk result (λ reply. All IsReady reply.groups.items) }
-    ensures stops { CountsStops is_stop result (R.stops store.old) (R.stops store.new) }
+    ensures stops { CountsStops is_stop result (R.stops store.old.rows) (R.stops store.new.rows) }
 {
     put_all(alloc, store, rule, gathered.into_series())?;
     answer_from(alloc, query, store)
@@ -50,10 +50,10 @@ fn answer_from<R: Rows + Drop>(
     store: &mut Uids<R>,
 ) -> Result<Reply, AskFault>
     requires can { CanAsk query.now }
-    requires stored { (points : List DataPoint) × IsStored points (R.seen store.old) }
-    ensures answers { (s : Sub) (points : List DataPoint) → query.now.subs ≡ s ∷ [] → IsStored points (R.seen store.old) → GivesAnswer result (answered query.now s points) }
+    requires stored { (points : List DataPoint) × IsStored points (R.seen store.old.rows) }
+    ensures answers { (s : Sub) (points : List DataPoint) → query.now.subs ≡ s ∷ [] → IsStored points (R.seen store.old.rows) → GivesAnswer result (answered query.now s points) }
     ensures ready { IfOk result (λ reply. All IsReady reply.groups.items) }
-    ensures stops { CountsStops is_stop result (R.stops store.old) (R.stops store.new) }
+    ensures stops { CountsStops is_stop result (R.stops store.old.rows) (R.stops store.new.rows) }
 {
     // For the proof: a law.
     answer_is_unordered();

@@ -83,9 +83,9 @@ impl Gathered {
         text: &[u8],
     ) -> Result<LineOutcome, RowsFault>
         requires allows { AllowsAll rule.now.patterns }
-        ensures adds { IfOk result (λ outcome. AddsText (so_far (R.seen store.old) self.old) (judged_text text.now) outcome (so_far (R.seen store.new) self.new)) }
+        ensures adds { IfOk result (λ outcome. AddsText (so_far (R.seen store.old.rows) self.old) (judged_text text.now) outcome (so_far (R.seen store.new.rows) self.new)) }
         ensures err { OnErr result (self.new ≡ self.old) }
-        ensures stops { CountsStops is_stop result (R.stops store.old) (R.stops store.new) }
+        ensures stops { CountsStops is_stop result (R.stops store.old.rows) (R.stops store.new.rows) }
     {
         if is_blank(text) {
             return Ok(LineOutcome::Blank);
@@ -108,9 +108,9 @@ impl Gathered {
     ) -> Result<LineOutcome, RowsFault>
         requires allows { AllowsAll rule.now.patterns }
         requires parts { HasTextParts text.now parts.now }
-        ensures adds { IfOk result (λ outcome. AddsText (so_far (R.seen store.old) self.old) (judged_point (point_of text.now)) outcome (so_far (R.seen store.new) self.new)) }
+        ensures adds { IfOk result (λ outcome. AddsText (so_far (R.seen store.old.rows) self.old) (judged_point (point_of text.now)) outcome (so_far (R.seen store.new.rows) self.new)) }
         ensures err { OnErr result (self.new ≡ self.old) }
-        ensures stops { CountsStops is_stop result (R.stops store.old) (R.stops store.new) }
+        ensures stops { CountsStops is_stop result (R.stops store.old.rows) (R.stops store.new.rows) }
     {
         match self.add_next(parts) {
             Ok(true) => Ok(LineOutcome::Taken),
@@ -130,9 +130,9 @@ impl Gathered {
     ) -> Result<LineOutcome, RowsFault>
         requires allows { AllowsAll rule.now.patterns }
         requires parts { HasTextParts text.now parts.now }
-        ensures adds { IfOk result (λ outcome. AddsText (so_far (R.seen store.old) self.old) (judged_point (point_of text.now)) outcome (so_far (R.seen store.new) self.new)) }
+        ensures adds { IfOk result (λ outcome. AddsText (so_far (R.seen store.old.rows) self.old) (judged_point (point_of text.now)) outcome (so_far (R.seen store.new.rows) self.new)) }
         ensures err { OnErr result (self.new ≡ self.old) }
-        ensures stops { CountsStops is_stop result (R.stops store.old) (R.stops store.new) }
+        ensures stops { CountsStops is_stop result (R.stops store.old.rows) (R.stops store.new.rows) }
     {
         let hash = hash_parts(parts);
         match self.add_known(hash, parts) {
@@ -191,9 +191,9 @@ impl Gathered {
     ) -> Result<LineOutcome, RowsFault>
         requires allows { AllowsAll rule.now.patterns }
         requires known { (p : DataPoint) → point_of text.now ≡ Reads p → IsKnownBy (series_of_point p) known }
-        ensures adds { IfOk result (λ outcome. AddsText (so_far (R.seen store.old) self.old) (judged_point (point_of text.now)) outcome (so_far (R.seen store.new) self.new)) }
+        ensures adds { IfOk result (λ outcome. AddsText (so_far (R.seen store.old.rows) self.old) (judged_point (point_of text.now)) outcome (so_far (R.seen store.new.rows) self.new)) }
         ensures err { OnErr result (self.new ≡ self.old) }
-        ensures stops { CountsStops is_stop result (R.stops store.old) (R.stops store.new) }
+        ensures stops { CountsStops is_stop result (R.stops store.old.rows) (R.stops store.new.rows) }
     {
         match judge(alloc, text) {
             Ok(Judgement::Taken { point }) => {
@@ -220,9 +220,9 @@ impl Gathered {
     ) -> Result<Option<Kind>, RowsFault>
         requires allows { AllowsAll rule.now.patterns }
         requires known { IsKnownBy (series_of_point (data_point point)) known }
-        ensures adds { IfOk result (λ full. AddsPoint (so_far (R.seen store.old) self.old) (data_point point) full (so_far (R.seen store.new) self.new)) }
+        ensures adds { IfOk result (λ full. AddsPoint (so_far (R.seen store.old.rows) self.old) (data_point point) full (so_far (R.seen store.new.rows) self.new)) }
         ensures err { OnErr result (self.new ≡ self.old) }
-        ensures stops { CountsStops is_stop result (R.stops store.old) (R.stops store.new) }
+        ensures stops { CountsStops is_stop result (R.stops store.old.rows) (R.stops store.new.rows) }
     {
         let Point {
             metric,

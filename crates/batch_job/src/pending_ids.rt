@@ -28,8 +28,8 @@ pub fn note_series<R: Rows + Drop>(
     tags: &Tags,
 ) -> Result<Option<Kind>, RowsFault>
     requires allows { AllowsAll rule.now.patterns }
-    ensures notes { IfOk result (λ full. Notes (R.seen store.old) (names_in metric.now tags.now) full (R.seen store.new)) }
-    ensures stops { CountsStops is_stop result (R.stops store.old) (R.stops store.new) }
+    ensures notes { IfOk result (λ full. Notes (R.seen store.old.rows) (names_in metric.now tags.now) full (R.seen store.new.rows)) }
+    ensures stops { CountsStops is_stop result (R.stops store.old.rows) (R.stops store.new.rows) }
 {
     if let Some(kind) = note(alloc, store, rule, Kind::Metric, metric)? {
         return Ok(Some(kind));
@@ -45,8 +45,8 @@ fn note_tags<R: Rows + Drop>(
     tags: &Tags,
 ) -> Result<Option<Kind>, RowsFault>
     requires allows { AllowsAll rule.now.patterns }
-    ensures notes { IfOk result (λ full. Notes (R.seen store.old) (tag_names tags.now) full (R.seen store.new)) }
-    ensures stops { CountsStops is_stop result (R.stops store.old) (R.stops store.new) }
+    ensures notes { IfOk result (λ full. Notes (R.seen store.old.rows) (tag_names tags.now) full (R.seen store.new.rows)) }
+    ensures stops { CountsStops is_stop result (R.stops store.old.rows) (R.stops store.new.rows) }
 {
     for pair in tags.pairs() {
         if let Some(kind) = note_tag(alloc, store, rule, &pair.0, &pair.1)? {
@@ -65,8 +65,8 @@ fn note_tag<R: Rows + Drop>(
     value: &Name,
 ) -> Result<Option<Kind>, RowsFault>
     requires allows { AllowsAll rule.now.patterns }
-    ensures notes { IfOk result (λ full. Notes (R.seen store.old) ((TagKey, key.now) ∷ (TagValue, value.now) ∷ []) full (R.seen store.new)) }
-    ensures stops { CountsStops is_stop result (R.stops store.old) (R.stops store.new) }
+    ensures notes { IfOk result (λ full. Notes (R.seen store.old.rows) ((TagKey, key.now) ∷ (TagValue, value.now) ∷ []) full (R.seen store.new.rows)) }
+    ensures stops { CountsStops is_stop result (R.stops store.old.rows) (R.stops store.new.rows) }
 {
     if let Some(kind) = note(alloc, store, rule, Kind::TagKey, key)? {
         return Ok(Some(kind));
@@ -83,8 +83,8 @@ fn note<R: Rows + Drop>(
     name: &Name,
 ) -> Result<Option<Kind>, RowsFault>
     requires allows { AllowsAll rule.now.patterns }
-    ensures notes { IfOk result (λ full. Notes (R.seen store.old) ((kind, name.now) ∷ []) full (R.seen store.new)) }
-    ensures stops { CountsStops is_stop result (R.stops store.old) (R.stops store.new) }
+    ensures notes { IfOk result (λ full. Notes (R.seen store.old.rows) ((kind, name.now) ∷ []) full (R.seen store.new.rows)) }
+    ensures stops { CountsStops is_stop result (R.stops store.old.rows) (R.stops store.new.rows) }
 {
     // For the proof: it is a name.
     let _ = name.bytes();

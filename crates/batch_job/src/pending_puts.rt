@@ -42,10 +42,10 @@ pub fn put_all<R: Rows + Drop>(
     series: IndexMap<((Name, Tags), bool), PendingSeries>,
 ) -> Result<(), RowsFault>
     requires allows { AllowsAll rule.now.patterns }
-    requires by { IsAlone (R.seen store.old) }
-    requires may { All (MayPut (R.seen store.old)) (all_values series.entries) }
-    ensures puts { OnOk result (PutsAll (R.seen store.old) (all_values series.entries) (R.seen store.new)) }
-    ensures stops { CountsStops is_stop result (R.stops store.old) (R.stops store.new) }
+    requires by { IsAlone (R.seen store.old.rows) }
+    requires may { All (MayPut (R.seen store.old.rows)) (all_values series.entries) }
+    ensures puts { OnOk result (PutsAll (R.seen store.old.rows) (all_values series.entries) (R.seen store.new.rows)) }
+    ensures stops { CountsStops is_stop result (R.stops store.old.rows) (R.stops store.new.rows) }
 {
     for (name, pending) in series {
         let ((metric, tags), fine) = name;
@@ -66,9 +66,9 @@ fn put_series<R: Rows + Drop>(
     values: &Values,
 ) -> Result<(), RowsFault>
     requires allows { AllowsAll rule.now.patterns }
-    requires may { MayPut (R.seen store.old) (((metric, tags), fine), values.now) }
-    ensures puts { OnOk result (PutsAll (R.seen store.old) ((((metric, tags), fine), values.now) ∷ []) (R.seen store.new)) }
-    ensures stops { CountsStops is_stop result (R.stops store.old) (R.stops store.new) }
+    requires may { MayPut (R.seen store.old.rows) (((metric, tags), fine), values.now) }
+    ensures puts { OnOk result (PutsAll (R.seen store.old.rows) ((((metric, tags), fine), values.now) ∷ []) (R.seen store.new.rows)) }
+    ensures stops { CountsStops is_stop result (R.stops store.old.rows) (R.stops store.new.rows) }
 {
     if is_rising(values.list()) {
         return put_dots(alloc, store, rule, metric, tags, fine, values.list());
@@ -91,9 +91,9 @@ fn put_dots<R: Rows + Drop>(
 ) -> Result<(), RowsFault>
     requires allows { AllowsAll rule.now.patterns }
     requires times { AreTimes fine dots.now }
-    requires resolved { AreResolved (R.seen store.old) (names_in metric tags) }
-    ensures adds { OnOk result (Adds (R.seen store.old) (points_in metric tags fine dots.now) (R.seen store.new)) }
-    ensures stops { CountsStops is_stop result (R.stops store.old) (R.stops store.new) }
+    requires resolved { AreResolved (R.seen store.old.rows) (names_in metric tags) }
+    ensures adds { OnOk result (Adds (R.seen store.old.rows) (points_in metric tags fine dots.now) (R.seen store.new.rows)) }
+    ensures stops { CountsStops is_stop result (R.stops store.old.rows) (R.stops store.new.rows) }
 {
     let Some((first, others)) = dots.split_first() else {
         return Ok(());
@@ -118,10 +118,10 @@ fn put_others<R: Rows + Drop>(
     values: &[(u64, i64)],
 ) -> Result<(), RowsFault>
     requires times { AreTimes fine values.now }
-    requires placed { IsPlaced (R.seen store.old) placed.old }
-    requires resolved { AreResolved (R.seen store.old) (names_of (data_point placed.old.point)) }
-    ensures adds { OnOk result (Adds (R.seen store.old) (points_in placed.old.point.metric placed.old.point.tags fine values.now) (R.seen store.new)) }
-    ensures stops { CountsStops is_stop result (R.stops store.old) (R.stops store.new) }
+    requires placed { IsPlaced (R.seen store.old.rows) placed.old }
+    requires resolved { AreResolved (R.seen store.old.rows) (names_of (data_point placed.old.point)) }
+    ensures adds { OnOk result (Adds (R.seen store.old.rows) (points_in placed.old.point.metric placed.old.point.tags fine values.now) (R.seen store.new.rows)) }
+    ensures stops { CountsStops is_stop result (R.stops store.old.rows) (R.stops store.new.rows) }
 {
     for &(time, value) in values {
         put_other(alloc, store, placed, time, fine, value)?;
@@ -137,11 +137,11 @@ fn put_one<R: Rows + Drop>(
     point: Point,
 ) -> Result<PlacedPoint, RowsFault>
     requires allows { AllowsAll rule.now.patterns }
-    requires resolved { AreResolved (R.seen store.old) (names_of (data_point point)) }
-    ensures adds { OnOk result (Adds (R.seen store.old) (data_point point ∷ []) (R.seen store.new)) }
-    ensures placed { IfOk result (λ placed. IsPlaced (R.seen store.new) placed) }
+    requires resolved { AreResolved (R.seen store.old.rows) (names_of (data_point point)) }
+    ensures adds { OnOk result (Adds (R.seen store.old.rows) (data_point point ∷ []) (R.seen store.new.rows)) }
+    ensures placed { IfOk result (λ placed. IsPlaced (R.seen store.new.rows) placed) }
     ensures point { IfOk result (λ placed. placed.point ≡ point) }
-    ensures stops { CountsStops is_stop result (R.stops store.old) (R.stops store.new) }
+    ensures stops { CountsStops is_stop result (R.stops store.old.rows) (R.stops store.new.rows) }
 {
     match put_first(alloc, store, rule, &ALL_KINDS, point) {
         Ok(placed) => Ok(placed),
@@ -164,13 +164,13 @@ fn put_other<R: Rows + Drop>(
     value: i64,
 ) -> Result<(), RowsFault>
     requires timed { IsTime time fine }
-    requires placed { IsPlaced (R.seen store.old) placed.old }
-    requires resolved { AreResolved (R.seen store.old) (names_of (data_point placed.old.point)) }
-    ensures adds { OnOk result (Adds (R.seen store.old) (point_at (data_point placed.old.point) time fine value ∷ []) (R.seen store.new)) }
-    ensures placed { IsPlaced (R.seen store.new) placed.new }
+    requires placed { IsPlaced (R.seen store.old.rows) placed.old }
+    requires resolved { AreResolved (R.seen store.old.rows) (names_of (data_point placed.old.point)) }
+    ensures adds { OnOk result (Adds (R.seen store.old.rows) (point_at (data_point placed.old.point) time fine value ∷ []) (R.seen store.new.rows)) }
+    ensures placed { IsPlaced (R.seen store.new.rows) placed.new }
     ensures metric { placed.new.point.metric ≡ placed.old.point.metric }
     ensures tags { placed.new.point.tags ≡ placed.old.point.tags }
-    ensures stops { CountsStops is_stop result (R.stops store.old) (R.stops store.new) }
+    ensures stops { CountsStops is_stop result (R.stops store.old.rows) (R.stops store.new.rows) }
 {
     match put_next(alloc, store, &ALL_KINDS, placed, time, fine, value) {
         Ok(()) => Ok(()),

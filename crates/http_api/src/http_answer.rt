@@ -59,9 +59,9 @@ pub fn answer<R: Rows + Drop>(
     now: u64,
 ) -> Result<Vec<u8>, RowsFault>
     requires { valued router.now ≡ route_table }
-    ensures ok { IfOk result (λ reply. CallReplied (admission config.now rule.now.patterns) now call.now (R.seen names.old) queue.old reply.items (R.seen names.new) queue.new) }
-    ensures err { OnErr result (CallBroken (admission config.now rule.now.patterns) now call.now (R.seen names.old) queue.old (R.seen names.new) queue.new) }
-    ensures stops { CountsStops is_stop result (R.stops names.old) (R.stops names.new) }
+    ensures ok { IfOk result (λ reply. CallReplied (admission config.now rule.now.patterns) now call.now (R.seen names.old.rows) queue.old reply.items (R.seen names.new.rows) queue.new) }
+    ensures err { OnErr result (CallBroken (admission config.now rule.now.patterns) now call.now (R.seen names.old.rows) queue.old (R.seen names.new.rows) queue.new) }
+    ensures stops { CountsStops is_stop result (R.stops names.old.rows) (R.stops names.new.rows) }
 {
     match task_of(alloc, router, call, now) {
         Ok(task) => perform(alloc, names, rule, config, queue, &task, call.closing),
@@ -80,9 +80,9 @@ fn perform<R: Rows + Drop>(
     closing: bool,
 ) -> Result<Vec<u8>, RowsFault>
     requires { (work : Work) × IsTask work task.now }
-    ensures ok { IfOk result (λ reply. (work : Work) → IsTask work task.now → WorkReplied (admission config.now rule.now.patterns) work closing (R.seen names.old) queue.old reply.items (R.seen names.new) queue.new) }
-    ensures err { OnErr result ((work : Work) → IsTask work task.now → WorkBroken (admission config.now rule.now.patterns) work (R.seen names.old) queue.old (R.seen names.new) queue.new) }
-    ensures stops { CountsStops is_stop result (R.stops names.old) (R.stops names.new) }
+    ensures ok { IfOk result (λ reply. (work : Work) → IsTask work task.now → WorkReplied (admission config.now rule.now.patterns) work closing (R.seen names.old.rows) queue.old reply.items (R.seen names.new.rows) queue.new) }
+    ensures err { OnErr result ((work : Work) → IsTask work task.now → WorkBroken (admission config.now rule.now.patterns) work (R.seen names.old.rows) queue.old (R.seen names.new.rows) queue.new) }
+    ensures stops { CountsStops is_stop result (R.stops names.old.rows) (R.stops names.new.rows) }
 {
     match task {
         Task::Say { status, body } => say(alloc, *status, closing, body.as_slice()),
@@ -122,9 +122,9 @@ fn put_all<R: Rows + Drop>(
     closing: bool,
     elements: &[Value],
 ) -> Result<Vec<u8>, RowsFault>
-    ensures ok { IfOk result (λ reply. WorkReplied (admission config.now rule.now.patterns) (Puts (record { details = details; summary = summary }) (map view elements.now)) closing (R.seen names.old) queue.old reply.items (R.seen names.new) queue.new) }
-    ensures err { OnErr result (WorkBroken (admission config.now rule.now.patterns) (Puts (record { details = details; summary = summary }) (map view elements.now)) (R.seen names.old) queue.old (R.seen names.new) queue.new) }
-    ensures stops { CountsStops is_stop result (R.stops names.old) (R.stops names.new) }
+    ensures ok { IfOk result (λ reply. WorkReplied (admission config.now rule.now.patterns) (Puts (record { details = details; summary = summary }) (map view elements.now)) closing (R.seen names.old.rows) queue.old reply.items (R.seen names.new.rows) queue.new) }
+    ensures err { OnErr result (WorkBroken (admission config.now rule.now.patterns) (Puts (record { details = details; summary = summary }) (map view elements.now)) (R.seen names.old.rows) queue.old (R.seen names.new.rows) queue.new) }
+    ensures stops { CountsStops is_stop result (R.stops names.old.rows) (R.stops names.new.rows) }
 {
     let outcomes = put_elements(alloc, names, rule, config, queue, elements)?;
     told(put_reply(alloc, closing, details, summary, outcomes.as_slice()))
@@ -138,9 +138,9 @@ fn assign<R: Rows + Drop>(
     closing: bool,
     request: &AssignRequest,
 ) -> Result<Vec<u8>, RowsFault>
-    ensures ok { IfOk result (λ reply. (config : Config) (queue : List Stored) → WorkReplied (admission config rule.now.patterns) (Assigns (assign_lists request.now)) closing (R.seen names.old) queue reply.items (R.seen names.new) queue) }
-    ensures err { OnErr result ((config : Config) (queue : List Stored) → WorkBroken (admission config rule.now.patterns) (Assigns (assign_lists request.now)) (R.seen names.old) queue (R.seen names.new) queue) }
-    ensures stops { CountsStops is_stop result (R.stops names.old) (R.stops names.new) }
+    ensures ok { IfOk result (λ reply. (config : Config) (queue : List Stored) → WorkReplied (admission config rule.now.patterns) (Assigns (assign_lists request.now)) closing (R.seen names.old.rows) queue reply.items (R.seen names.new.rows) queue) }
+    ensures err { OnErr result ((config : Config) (queue : List Stored) → WorkBroken (admission config rule.now.patterns) (Assigns (assign_lists request.now)) (R.seen names.old.rows) queue (R.seen names.new.rows) queue) }
+    ensures stops { CountsStops is_stop result (R.stops names.old.rows) (R.stops names.new.rows) }
 {
     let ids = assign_lists(
         alloc,
@@ -164,9 +164,9 @@ fn suggest<R: Rows + Drop>(
     request: &SuggestRequest,
 ) -> Result<Vec<u8>, RowsFault>
     requires { IsMax request.now.max }
-    ensures ok { IfOk result (λ reply. (c : Admission) (queue : List Stored) → WorkReplied c (Suggests (suggestion request.now)) closing (R.seen names.old) queue reply.items (R.seen names.new) queue) }
-    ensures err { OnErr result ((c : Admission) (queue : List Stored) → WorkBroken c (Suggests (suggestion request.now)) (R.seen names.old) queue (R.seen names.new) queue) }
-    ensures stops { CountsStops is_stop result (R.stops names.old) (R.stops names.new) }
+    ensures ok { IfOk result (λ reply. (c : Admission) (queue : List Stored) → WorkReplied c (Suggests (suggestion request.now)) closing (R.seen names.old.rows) queue reply.items (R.seen names.new.rows) queue) }
+    ensures err { OnErr result ((c : Admission) (queue : List Stored) → WorkBroken c (Suggests (suggestion request.now)) (R.seen names.old.rows) queue (R.seen names.new.rows) queue) }
+    ensures stops { CountsStops is_stop result (R.stops names.old.rows) (R.stops names.new.rows) }
 {
     let found = suggest_names(
         alloc,

@@ -33,9 +33,9 @@ pub(crate) fn answer_query<R: Rows + Drop>(
     query: &Query,
 ) -> Result<Vec<u8>, RowsFault>
     requires { CanWork query.now }
-    ensures ok { IfOk result (λ reply. (c : Admission) (queue : List Stored) → WorkReplied c (Asks query.now) closing (R.seen names.old) queue reply.items (R.seen names.new) queue) }
-    ensures err { OnErr result ((c : Admission) (queue : List Stored) → WorkBroken c (Asks query.now) (R.seen names.old) queue (R.seen names.new) queue) }
-    ensures stops { CountsStops is_stop result (R.stops names.old) (R.stops names.new) }
+    ensures ok { IfOk result (λ reply. (c : Admission) (queue : List Stored) → WorkReplied c (Asks query.now) closing (R.seen names.old.rows) queue reply.items (R.seen names.new.rows) queue) }
+    ensures err { OnErr result ((c : Admission) (queue : List Stored) → WorkBroken c (Asks query.now) (R.seen names.old.rows) queue (R.seen names.new.rows) queue) }
+    ensures stops { CountsStops is_stop result (R.stops names.old.rows) (R.stops names.new.rows) }
 {
     let asked = ask(alloc, names, query);
     tell(alloc, closing, asked)

@@ -48,11 +48,11 @@ pub fn assign_lists<R: Rows + Drop>(
     tagk: &Option<Vec<Bytes>>,
     tagv: &Option<Vec<Bytes>>,
 ) -> Result<IdLists, RowsFault>
-    ensures since { Since (R.seen names.old) (R.seen names.new) }
-    ensures ok { IfOk result (λ ids. InEach (R.seen names.new) (λ h. AssignRan rule.now.patterns h (R.seen names.old).caller (R.seen names.old).length (elements_in metric.now tagk.now tagv.now) (outcomes_in ids) (R.seen names.new).length)) }
+    ensures since { Since (R.seen names.old.rows) (R.seen names.new.rows) }
+    ensures ok { IfOk result (λ ids. InEach (R.seen names.new.rows) (λ h. AssignRan rule.now.patterns h (R.seen names.old.rows).caller (R.seen names.old.rows).length (elements_in metric.now tagk.now tagv.now) (outcomes_in ids) (R.seen names.new.rows).length)) }
     ensures lengths { IfOk result (IsAsLong metric.now tagk.now tagv.now) }
-    ensures err { OnErr result (InEach (R.seen names.new) (λ h. AssignBegun rule.now.patterns h (R.seen names.old).caller (R.seen names.old).length (elements_in metric.now tagk.now tagv.now) (R.seen names.new).length)) }
-    ensures stops { CountsStops is_stop result (R.stops names.old) (R.stops names.new) }
+    ensures err { OnErr result (InEach (R.seen names.new.rows) (λ h. AssignBegun rule.now.patterns h (R.seen names.old.rows).caller (R.seen names.old.rows).length (elements_in metric.now tagk.now tagv.now) (R.seen names.new.rows).length)) }
+    ensures stops { CountsStops is_stop result (R.stops names.old.rows) (R.stops names.new.rows) }
 {
     let metrics = assign_list(alloc, names, rule, Kind::Metric, metric)?;
     let tag_keys = assign_list(alloc, names, rule, Kind::TagKey, tagk)?;
@@ -72,11 +72,11 @@ fn assign_list<R: Rows + Drop>(
     kind: Kind,
     texts: &Option<Vec<Bytes>>,
 ) -> Result<Vec<IdOutcome>, RowsFault>
-    ensures made { MadeSome (R.seen names.old) (R.seen names.new) }
-    ensures ok { IfOk result (λ outs. GoesOn rule.now.patterns (of_kind kind (texts_in texts.now)) (R.seen names.old) (outcomes_of outs.items) (R.seen names.new)) }
+    ensures made { MadeSome (R.seen names.old.rows) (R.seen names.new.rows) }
+    ensures ok { IfOk result (λ outs. GoesOn rule.now.patterns (of_kind kind (texts_in texts.now)) (R.seen names.old.rows) (outcomes_of outs.items) (R.seen names.new.rows)) }
     ensures lengths { IfOk result (λ outs. length outs.items ≡ length (texts_in texts.now)) }
-    ensures err { OnErr result (EndsEarly rule.now.patterns (of_kind kind (texts_in texts.now)) (R.seen names.old) (R.seen names.new)) }
-    ensures stops { CountsStops is_stop result (R.stops names.old) (R.stops names.new) }
+    ensures err { OnErr result (EndsEarly rule.now.patterns (of_kind kind (texts_in texts.now)) (R.seen names.old.rows) (R.seen names.new.rows)) }
+    ensures stops { CountsStops is_stop result (R.stops names.old.rows) (R.stops names.new.rows) }
 {
     match texts {
         Some(texts) => assign_texts(alloc, names, rule, kind, texts.as_slice()),
@@ -92,11 +92,11 @@ fn assign_texts<R: Rows + Drop>(
     kind: Kind,
     texts: &[Bytes],
 ) -> Result<Vec<IdOutcome>, RowsFault>
-    ensures made { MadeSome (R.seen names.old) (R.seen names.new) }
-    ensures ok { IfOk result (λ outs. GoesOn rule.now.patterns (of_kind kind texts.now) (R.seen names.old) (outcomes_of outs.items) (R.seen names.new)) }
+    ensures made { MadeSome (R.seen names.old.rows) (R.seen names.new.rows) }
+    ensures ok { IfOk result (λ outs. GoesOn rule.now.patterns (of_kind kind texts.now) (R.seen names.old.rows) (outcomes_of outs.items) (R.seen names.new.rows)) }
     ensures lengths { IfOk result (λ outs. length outs.items ≡ length texts.now) }
-    ensures err { OnErr result (EndsEarly rule.now.patterns (of_kind kind texts.now) (R.seen names.old) (R.seen names.new)) }
-    ensures stops { CountsStops is_stop result (R.stops names.old) (R.stops names.new) }
+    ensures err { OnErr result (EndsEarly rule.now.patterns (of_kind kind texts.now) (R.seen names.old.rows) (R.seen names.new.rows)) }
+    ensures stops { CountsStops is_stop result (R.stops names.old.rows) (R.stops names.new.rows) }
 {
     let mut outs = Vec::new(alloc);
     for text in texts {
@@ -114,9 +114,9 @@ fn assign_text<R: Rows + Drop>(
     kind: Kind,
     text: &[u8],
 ) -> Result<IdOutcome, RowsFault>
-    ensures ok { IfOk result (λ out. TextSays rule.now.patterns kind (name_of text.now) (R.seen names.old) (outcome_of out) (R.seen names.new)) }
-    ensures err { OnErr result (TextBegun rule.now.patterns kind (name_of text.now) (R.seen names.old) (R.seen names.new)) }
-    ensures stops { CountsStops is_stop result (R.stops names.old) (R.stops names.new) }
+    ensures ok { IfOk result (λ out. TextSays rule.now.patterns kind (name_of text.now) (R.seen names.old.rows) (outcome_of out) (R.seen names.new.rows)) }
+    ensures err { OnErr result (TextBegun rule.now.patterns kind (name_of text.now) (R.seen names.old.rows) (R.seen names.new.rows)) }
+    ensures stops { CountsStops is_stop result (R.stops names.old.rows) (R.stops names.new.rows) }
 {
     match Name::read(alloc, text) {
         Ok(name) => assign_name(alloc, names, rule, kind, &name),
@@ -132,9 +132,9 @@ fn assign_name<R: Rows + Drop>(
     kind: Kind,
     name: &Name,
 ) -> Result<IdOutcome, RowsFault>
-    ensures ok { IfOk result (λ out. NameSays rule.now.patterns kind name.now (R.seen names.old) (outcome_of out) (R.seen names.new)) }
-    ensures err { OnErr result (NameBegun rule.now.patterns kind name.now (R.seen names.old) (R.seen names.new)) }
-    ensures stops { CountsStops is_stop result (R.stops names.old) (R.stops names.new) }
+    ensures ok { IfOk result (λ out. NameSays rule.now.patterns kind name.now (R.seen names.old.rows) (outcome_of out) (R.seen names.new.rows)) }
+    ensures err { OnErr result (NameBegun rule.now.patterns kind name.now (R.seen names.old.rows) (R.seen names.new.rows)) }
+    ensures stops { CountsStops is_stop result (R.stops names.old.rows) (R.stops names.new.rows) }
 {
     let answer = names.assign(alloc, rule, kind, name);
     told(alloc, kind, name, answer, names.widths())

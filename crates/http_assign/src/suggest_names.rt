@@ -22,10 +22,10 @@ pub fn suggest_names<R: Rows + Drop>(
 ) -> Result<Vec<Name>, RowsFault>
     requires least { 1 ≤ max }
     requires most { max ≤ 10000 }
-    ensures since { Since (R.seen names.old) (R.seen names.new) }
-    ensures ok { IfOk result (λ found. InEach (R.seen names.new) (λ h. SuggestAsked h (R.seen names.old).caller (R.seen names.old).length kind prefix.now max found.items (R.seen names.new).length)) }
-    ensures err { OnErr result (InEach (R.seen names.new) (λ h. SuggestBegun h (R.seen names.old).caller (R.seen names.old).length (R.seen names.new).length)) }
-    ensures stops { CountsStops is_stop result (R.stops names.old) (R.stops names.new) }
+    ensures since { Since (R.seen names.old.rows) (R.seen names.new.rows) }
+    ensures ok { IfOk result (λ found. InEach (R.seen names.new.rows) (λ h. SuggestAsked h (R.seen names.old.rows).caller (R.seen names.old.rows).length kind prefix.now max found.items (R.seen names.new.rows).length)) }
+    ensures err { OnErr result (InEach (R.seen names.new.rows) (λ h. SuggestBegun h (R.seen names.old.rows).caller (R.seen names.old.rows).length (R.seen names.new.rows).length)) }
+    ensures stops { CountsStops is_stop result (R.stops names.old.rows) (R.stops names.new.rows) }
 {
     names.suggest(alloc, kind, prefix, max)
 }

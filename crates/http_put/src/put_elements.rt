@@ -38,11 +38,11 @@ pub fn put_elements<R: Rows + Drop>(
     queue: &mut Queue,
     elements: &[Value],
 ) -> Result<Vec<Option<Vec<u8>>>, RowsFault>
-    ensures since { Since (R.seen names.old) (R.seen names.new) }
-    ensures ok { IfOk result (λ outs. ElementsPut (admission config.now rule.now.patterns) (map view elements.now) (R.seen names.old) queue.old (texts_of outs.items) (R.seen names.new) queue.new) }
-    ensures err { OnErr result (ElementsBegun (admission config.now rule.now.patterns) (map view elements.now) (R.seen names.old) queue.old (R.seen names.new) queue.new) }
-    ensures queue { OnErr result (InEach (R.seen names.new) (λ h. MayHaveRows queue.old [] (deeds h (R.seen names.old).caller (R.seen names.old).length (R.seen names.new).length) queue.new)) }
-    ensures stops { CountsStops is_stop result (R.stops names.old) (R.stops names.new) }
+    ensures since { Since (R.seen names.old.rows) (R.seen names.new.rows) }
+    ensures ok { IfOk result (λ outs. ElementsPut (admission config.now rule.now.patterns) (map view elements.now) (R.seen names.old.rows) queue.old (texts_of outs.items) (R.seen names.new.rows) queue.new) }
+    ensures err { OnErr result (ElementsBegun (admission config.now rule.now.patterns) (map view elements.now) (R.seen names.old.rows) queue.old (R.seen names.new.rows) queue.new) }
+    ensures queue { OnErr result (InEach (R.seen names.new.rows) (λ h. MayHaveRows queue.old [] (deeds h (R.seen names.old.rows).caller (R.seen names.old.rows).length (R.seen names.new.rows).length) queue.new)) }
+    ensures stops { CountsStops is_stop result (R.stops names.old.rows) (R.stops names.new.rows) }
 {
     let mut outs = Vec::new(alloc);
     for element in elements {
@@ -61,10 +61,10 @@ fn put_element<R: Rows + Drop>(
     queue: &mut Queue,
     element: &Value,
 ) -> Result<Option<Vec<u8>>, RowsFault>
-    ensures ok { IfOk result (λ out. ElementPut (admission config.now rule.now.patterns) (view element.now) (R.seen names.old) queue.old (text_of out) (R.seen names.new) queue.new) }
-    ensures err { OnErr result (ElementBegun (admission config.now rule.now.patterns) (view element.now) (R.seen names.old) (R.seen names.new)) }
+    ensures ok { IfOk result (λ out. ElementPut (admission config.now rule.now.patterns) (view element.now) (R.seen names.old.rows) queue.old (text_of out) (R.seen names.new.rows) queue.new) }
+    ensures err { OnErr result (ElementBegun (admission config.now rule.now.patterns) (view element.now) (R.seen names.old.rows) (R.seen names.new.rows)) }
     ensures same { OnErr result (queue.new ≡ queue.old) }
-    ensures stops { CountsStops is_stop result (R.stops names.old) (R.stops names.new) }
+    ensures stops { CountsStops is_stop result (R.stops names.old.rows) (R.stops names.new.rows) }
 {
     match read_element(alloc, element) {
         Ok(point) => put_one(alloc, names, rule, config, queue, &point),
@@ -81,10 +81,10 @@ fn put_one<R: Rows + Drop>(
     queue: &mut Queue,
     point: &Point,
 ) -> Result<Option<Vec<u8>>, RowsFault>
-    ensures ok { IfOk result (λ out. PointPut (admission config.now rule.now.patterns) (data_point point.now) (R.seen names.old) queue.old (text_of out) (R.seen names.new) queue.new) }
-    ensures err { OnErr result (PointBegun (admission config.now rule.now.patterns) (data_point point.now) (R.seen names.old) (R.seen names.new)) }
+    ensures ok { IfOk result (λ out. PointPut (admission config.now rule.now.patterns) (data_point point.now) (R.seen names.old.rows) queue.old (text_of out) (R.seen names.new.rows) queue.new) }
+    ensures err { OnErr result (PointBegun (admission config.now rule.now.patterns) (data_point point.now) (R.seen names.old.rows) (R.seen names.new.rows)) }
     ensures same { OnErr result (queue.new ≡ queue.old) }
-    ensures stops { CountsStops is_stop result (R.stops names.old) (R.stops names.new) }
+    ensures stops { CountsStops is_stop result (R.stops names.old.rows) (R.stops names.new.rows) }
 {
     match put_queued(alloc, names, rule, config, queue, point) {
         Ok(()) => Ok(None),

@@ -21,8 +21,8 @@ pub fn empty<H: Halt + Drop>(
     widths: Widths,
     halt: H,
 ) -> Result<Store<H>, (AllocError, H)>
-    ensures fresh { IfOk result (λ store. IsFresh widths (sight store.rows)) }
-    ensures halt { IfOk result (λ store. store.halt ≡ halt) }
+    ensures fresh { IfOk result (λ store. IsFresh widths (sight store.rows.rows)) }
+    ensures halt { IfOk result (λ store. store.rows.halt ≡ halt) }
     ensures refused { IfErr result (λ refused. refused.1 ≡ halt) }
 {
     let rows = match alone(alloc, widths) {
@@ -49,7 +49,7 @@ fn alone(alloc: Global, widths: Widths) -> Result<Solo<Regions>, AllocError>
 
 /// The halt of a store, as its last step left it.
 pub fn halt_of<H: Halt + Drop>(store: Store<H>) -> H
-    ensures { result ≡ store.halt }
+    ensures { result ≡ store.rows.halt }
 {
     let (_rows, halt) = store.part().part();
     halt

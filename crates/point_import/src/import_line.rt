@@ -26,10 +26,10 @@ pub(crate) fn import_line<R: Rows + Drop>(
 ) -> Result<u64, ImportFault>
     requires short { length bytes.now ≤ LONGEST_LINE }
     requires allows { AllowsAll rule.now.patterns }
-    ensures puts { PutsLine rule.now.patterns (record { bytes = bytes.now; ended = ended }) number (R.seen names.old) result (R.seen names.new) }
+    ensures puts { PutsLine rule.now.patterns (record { bytes = bytes.now; ended = ended }) number (R.seen names.old.rows) result (R.seen names.new.rows) }
     ensures few { IfOk result (λ count. count ≤ 1) }
-    ensures grows { R.stops names.old ≤ R.stops names.new }
-    ensures cause { IfErr result (LineCause (R.stops names.old) (R.stops names.new)) }
+    ensures grows { R.stops names.old.rows ≤ R.stops names.new.rows }
+    ensures cause { IfErr result (LineCause (R.stops names.old.rows) (R.stops names.new.rows)) }
 {
     let text = text_of(bytes, ended);
     if is_blank(text) {

@@ -27,9 +27,9 @@ pub fn name_point<R: Rows + Drop>(
     point: &Point,
 ) -> Result<Option<Kind>, RowsFault>
     requires allows { AllowsAll rule.now.patterns }
-    ensures names { Names rule.now.patterns (R.seen names.old) (names_of (data_point point.now)) result (R.seen names.new) }
-    ensures possible { PossibleIfNamed result (R.seen names.new) }
-    ensures stops { CountsStops is_stop result (R.stops names.old) (R.stops names.new) }
+    ensures names { Names rule.now.patterns (R.seen names.old.rows) (names_of (data_point point.now)) result (R.seen names.new.rows) }
+    ensures possible { PossibleIfNamed result (R.seen names.new.rows) }
+    ensures stops { CountsStops is_stop result (R.stops names.old.rows) (R.stops names.new.rows) }
 {
     match name_one(alloc, names, rule, Kind::Metric, &point.metric) {
         Ok(None) => name_tags(alloc, names, rule, point.tags.pairs()),
@@ -46,10 +46,10 @@ fn name_tags<R: Rows + Drop>(
     tags: &[(Name, Name)],
 ) -> Result<Option<Kind>, RowsFault>
     requires allows { AllowsAll rule.now.patterns }
-    requires possible { IsPossible (R.seen names.old) }
-    ensures names { Names rule.now.patterns (R.seen names.old) (tag_names tags.now) result (R.seen names.new) }
-    ensures possible { PossibleIfNamed result (R.seen names.new) }
-    ensures stops { CountsStops is_stop result (R.stops names.old) (R.stops names.new) }
+    requires possible { IsPossible (R.seen names.old.rows) }
+    ensures names { Names rule.now.patterns (R.seen names.old.rows) (tag_names tags.now) result (R.seen names.new.rows) }
+    ensures possible { PossibleIfNamed result (R.seen names.new.rows) }
+    ensures stops { CountsStops is_stop result (R.stops names.old.rows) (R.stops names.new.rows) }
 {
     for pair in tags {
         match name_tag(alloc, names, rule, &pair.0, &pair.1) {
@@ -70,9 +70,9 @@ fn name_tag<R: Rows + Drop>(
     value: &Name,
 ) -> Result<Option<Kind>, RowsFault>
     requires allows { AllowsAll rule.now.patterns }
-    ensures names { Names rule.now.patterns (R.seen names.old) ((TagKey, key.now) ∷ (TagValue, value.now) ∷ []) result (R.seen names.new) }
-    ensures possible { PossibleIfNamed result (R.seen names.new) }
-    ensures stops { CountsStops is_stop result (R.stops names.old) (R.stops names.new) }
+    ensures names { Names rule.now.patterns (R.seen names.old.rows) ((TagKey, key.now) ∷ (TagValue, value.now) ∷ []) result (R.seen names.new.rows) }
+    ensures possible { PossibleIfNamed result (R.seen names.new.rows) }
+    ensures stops { CountsStops is_stop result (R.stops names.old.rows) (R.stops names.new.rows) }
 {
     match name_one(alloc, names, rule, Kind::TagKey, key) {
         Ok(None) => name_one(alloc, names, rule, Kind::TagValue, value),
@@ -90,9 +90,9 @@ fn name_one<R: Rows + Drop>(
     name: &Name,
 ) -> Result<Option<Kind>, RowsFault>
     requires allows { AllowsAll rule.now.patterns }
-    ensures names { Names rule.now.patterns (R.seen names.old) ((kind, name.now) ∷ []) result (R.seen names.new) }
-    ensures possible { PossibleIfNamed result (R.seen names.new) }
-    ensures stops { CountsStops is_stop result (R.stops names.old) (R.stops names.new) }
+    ensures names { Names rule.now.patterns (R.seen names.old.rows) ((kind, name.now) ∷ []) result (R.seen names.new.rows) }
+    ensures possible { PossibleIfNamed result (R.seen names.new.rows) }
+    ensures stops { CountsStops is_stop result (R.stops names.old.rows) (R.stops names.new.rows) }
 {
     match names.assign(alloc, rule, kind, name) {
         Ok(_) => Ok(None),

@@ -53,8 +53,8 @@ pub(crate) fn import_text<R: Rows + Drop>(
     text: &[u8],
 ) -> Result<TextOutcome, RowsFault>
     requires allows { AllowsAll rule.now.patterns }
-    ensures puts { PutsText rule.now.patterns text.now (R.seen names.old) result (R.seen names.new) }
-    ensures stops { CountsStops is_stop result (R.stops names.old) (R.stops names.new) }
+    ensures puts { PutsText rule.now.patterns text.now (R.seen names.old.rows) result (R.seen names.new.rows) }
+    ensures stops { CountsStops is_stop result (R.stops names.old.rows) (R.stops names.new.rows) }
 {
     match parts_of(text) {
         Some(parts) => match names.take_series(parts.metric, parts.tags) {
@@ -76,11 +76,11 @@ fn import_known<R: Rows + Drop>(
     series: Box<KnownSeries>,
 ) -> Result<TextOutcome, RowsFault>
     requires parts { HasTextParts text.now parts.now }
-    requires shown { IsShownSeries (R.seen names.old) series.value }
+    requires shown { IsShownSeries (R.seen names.old.rows) series.value }
     requires metric { series.value.metric ≡ parts.now.metric.now }
     requires tags { series.value.tags ≡ parts.now.tags.now }
-    ensures puts { PutsText rule.now.patterns text.now (R.seen names.old) result (R.seen names.new) }
-    ensures stops { CountsStops is_stop result (R.stops names.old) (R.stops names.new) }
+    ensures puts { PutsText rule.now.patterns text.now (R.seen names.old.rows) result (R.seen names.new.rows) }
+    ensures stops { CountsStops is_stop result (R.stops names.old.rows) (R.stops names.new.rows) }
 {
     let mut series = series;
     let put = put_next(
@@ -121,8 +121,8 @@ fn import_new<R: Rows + Drop>(
     text: &[u8],
 ) -> Result<TextOutcome, RowsFault>
     requires allows { AllowsAll rule.now.patterns }
-    ensures puts { PutsText rule.now.patterns text.now (R.seen names.old) result (R.seen names.new) }
-    ensures stops { CountsStops is_stop result (R.stops names.old) (R.stops names.new) }
+    ensures puts { PutsText rule.now.patterns text.now (R.seen names.old.rows) result (R.seen names.new.rows) }
+    ensures stops { CountsStops is_stop result (R.stops names.old.rows) (R.stops names.new.rows) }
 {
     match read_point(alloc, text) {
         Ok(point) => match import_read(alloc, names, rule, text, &point) {
@@ -164,8 +164,8 @@ fn import_read<R: Rows + Drop>(
 ) -> Result<Option<Kind>, RowsFault>
     requires allows { AllowsAll rule.now.patterns }
     requires reads { point_of text.now ≡ Reads (data_point point.now) }
-    ensures puts { PutsPoint rule.now.patterns (data_point point.now) (R.seen names.old) result (R.seen names.new) }
-    ensures stops { CountsStops is_stop result (R.stops names.old) (R.stops names.new) }
+    ensures puts { PutsPoint rule.now.patterns (data_point point.now) (R.seen names.old.rows) result (R.seen names.new.rows) }
+    ensures stops { CountsStops is_stop result (R.stops names.old.rows) (R.stops names.new.rows) }
 {
     match name_point(alloc, names, rule, point) {
         Ok(None) => put_named(alloc, names, rule, text, point),
@@ -184,9 +184,9 @@ fn put_named<R: Rows + Drop>(
 ) -> Result<Option<Kind>, RowsFault>
     requires allows { AllowsAll rule.now.patterns }
     requires reads { point_of text.now ≡ Reads (data_point point.now) }
-    requires possible { IsPossible (R.seen names.old) }
-    ensures says { SaysPut rule.now.patterns (data_point point.now) (R.seen names.old) result (R.seen names.new) }
-    ensures stops { CountsStops is_stop result (R.stops names.old) (R.stops names.new) }
+    requires possible { IsPossible (R.seen names.old.rows) }
+    ensures says { SaysPut rule.now.patterns (data_point point.now) (R.seen names.old.rows) result (R.seen names.new.rows) }
+    ensures stops { CountsStops is_stop result (R.stops names.old.rows) (R.stops names.new.rows) }
 {
     match put_text(alloc, names, rule, &ALL_KINDS, text) {
         Ok(stored) => {

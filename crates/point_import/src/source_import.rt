@@ -28,10 +28,10 @@ pub fn import<R: Rows + Drop, S: Source>(
     names: &mut Uids<R>,
     source: &mut S,
 ) -> Result<u64, ImportFault>
-    ensures imports { Imports no_patterns (S.taken source.old) (S.taken source.new) (S.left source.old) (S.left source.new) (R.seen names.old) result (R.seen names.new) }
+    ensures imports { Imports no_patterns (S.taken source.old) (S.taken source.new) (S.left source.old) (S.left source.new) (R.seen names.old.rows) result (R.seen names.new.rows) }
     ensures later { S.faults source.old ≤ S.faults source.new }
-    ensures grows { R.stops names.old ≤ R.stops names.new }
-    ensures cause { IfErr result (ImportCause (S.faults source.old) (S.faults source.new) (R.stops names.old) (R.stops names.new)) }
+    ensures grows { R.stops names.old.rows ≤ R.stops names.new.rows }
+    ensures cause { IfErr result (ImportCause (S.faults source.old) (S.faults source.new) (R.stops names.old.rows) (R.stops names.new.rows)) }
 {
     let Ok(test) = Box::new(
         alloc,
@@ -53,10 +53,10 @@ fn import_by<R: Rows + Drop, S: Source>(
     source: &mut S,
 ) -> Result<u64, ImportFault>
     requires allows { AllowsAll rule.now.patterns }
-    ensures imports { Imports rule.now.patterns (S.taken source.old) (S.taken source.new) (S.left source.old) (S.left source.new) (R.seen names.old) result (R.seen names.new) }
+    ensures imports { Imports rule.now.patterns (S.taken source.old) (S.taken source.new) (S.left source.old) (S.left source.new) (R.seen names.old.rows) result (R.seen names.new.rows) }
     ensures later { S.faults source.old ≤ S.faults source.new }
-    ensures grows { R.stops names.old ≤ R.stops names.new }
-    ensures cause { IfErr result (ImportCause (S.faults source.old) (S.faults source.new) (R.stops names.old) (R.stops names.new)) }
+    ensures grows { R.stops names.old.rows ≤ R.stops names.new.rows }
+    ensures cause { IfErr result (ImportCause (S.faults source.old) (S.faults source.new) (R.stops names.old.rows) (R.stops names.new.rows)) }
 {
     let mut reader = LineReader::make(alloc, LONGEST_LINE)?;
     let mut count: u64 = 0;

@@ -34,10 +34,10 @@ pub fn put_first<R: Rows + Drop>(
     config: &Config,
     point: Point,
 ) -> Result<PlacedPoint, PutFault>
-    ensures says { PutSays (admission config.now rule.now.patterns) (data_point point) (R.seen names.old) (put_answer result) (R.seen names.new) }
-    ensures placed { IfOk result (λ placed. IsPlaced (R.seen names.new) placed × (placed.point ≡ point)) }
-    ensures few { MadeSo (R.seen names.old) (IsFewFor (data_point point)) (R.seen names.new) }
-    ensures leaves { Leaves is_stop result (R.seen names.new) (R.stops names.old) (R.stops names.new) }
+    ensures says { PutSays (admission config.now rule.now.patterns) (data_point point) (R.seen names.old.rows) (put_answer result) (R.seen names.new.rows) }
+    ensures placed { IfOk result (λ placed. IsPlaced (R.seen names.new.rows) placed × (placed.point ≡ point)) }
+    ensures few { MadeSo (R.seen names.old.rows) (IsFewFor (data_point point)) (R.seen names.new.rows) }
+    ensures leaves { Leaves is_stop result (R.seen names.new.rows) (R.stops names.old.rows) (R.stops names.new.rows) }
 {
     let key = key_for(names, alloc, rule, config, &point)?;
     let Ok(placed) = place(alloc, point, &key, names.widths()) else {
@@ -84,13 +84,13 @@ pub fn put_next<R: Rows + Drop>(
     value: i64,
 ) -> Result<(), PutFault>
     requires timed { IsTime time fine }
-    requires placed { IsPlaced (R.seen names.old) placed.old }
-    ensures says { (c : Admission) → c.config.appends ≡ config.now.appends → PutSays c (point_at (data_point placed.old.point) time fine value) (R.seen names.old) (answer_at result (place_of placed.new)) (R.seen names.new) }
-    ensures placed { IsPlaced (R.seen names.new) placed.new }
+    requires placed { IsPlaced (R.seen names.old.rows) placed.old }
+    ensures says { (c : Admission) → c.config.appends ≡ config.now.appends → PutSays c (point_at (data_point placed.old.point) time fine value) (R.seen names.old.rows) (answer_at result (place_of placed.new)) (R.seen names.new.rows) }
+    ensures placed { IsPlaced (R.seen names.new.rows) placed.new }
     ensures metric { placed.new.point.metric ≡ placed.old.point.metric }
     ensures tags { placed.new.point.tags ≡ placed.old.point.tags }
-    ensures few { MadeSo (R.seen names.old) (λ list. length list ≤ 1) (R.seen names.new) }
-    ensures leaves { Leaves is_stop result (R.seen names.new) (R.stops names.old) (R.stops names.new) }
+    ensures few { MadeSo (R.seen names.old.rows) (λ list. length list ≤ 1) (R.seen names.new.rows) }
+    ensures leaves { Leaves is_stop result (R.seen names.new.rows) (R.stops names.old.rows) (R.stops names.new.rows) }
 {
     let Ok(()) = placed.refill(alloc, time, fine, value) else {
         return Err(PutFault::OutOfMemory);

@@ -59,9 +59,9 @@ fn pair_for<R: Rows + Drop>(
     config: &Config,
     tag: &(Name, Name),
 ) -> Result<(u32, u32), PutFault>
-    ensures asked { NamesAsked (admission config.now rule.now.patterns) (tag_names (tag.now ∷ [])) (R.seen names.old) result (R.seen names.new) }
-    ensures ids { IfOk result (IdsShown (R.seen names.new) tag.now) }
-    ensures leaves { Leaves is_stop result (R.seen names.new) (R.stops names.old) (R.stops names.new) }
+    ensures asked { NamesAsked (admission config.now rule.now.patterns) (tag_names (tag.now ∷ [])) (R.seen names.old.rows) result (R.seen names.new.rows) }
+    ensures ids { IfOk result (IdsShown (R.seen names.new.rows) tag.now) }
+    ensures leaves { Leaves is_stop result (R.seen names.new.rows) (R.stops names.old.rows) (R.stops names.new.rows) }
 {
     let key = id_for(names, alloc, rule, config, Kind::TagKey, &tag.0)?;
     let value = id_for(names, alloc, rule, config, Kind::TagValue, &tag.1)?;
@@ -77,10 +77,10 @@ fn pairs_for<R: Rows + Drop>(
     tags: &[(Name, Name)],
 ) -> Result<ArrayVec<(u32, u32), 8>, PutFault>
     requires tags { IsTags tags.now }
-    requires possible { IsPossible (R.seen names.old) }
-    ensures asked { NamesAsked (admission config.now rule.now.patterns) (tag_names tags.now) (R.seen names.old) result (R.seen names.new) }
-    ensures pairs { IfOk result (λ pairs. PairsShown (R.seen names.new) tags.now pairs.items) }
-    ensures leaves { Leaves is_stop result (R.seen names.new) (R.stops names.old) (R.stops names.new) }
+    requires possible { IsPossible (R.seen names.old.rows) }
+    ensures asked { NamesAsked (admission config.now rule.now.patterns) (tag_names tags.now) (R.seen names.old.rows) result (R.seen names.new.rows) }
+    ensures pairs { IfOk result (λ pairs. PairsShown (R.seen names.new.rows) tags.now pairs.items) }
+    ensures leaves { Leaves is_stop result (R.seen names.new.rows) (R.stops names.old.rows) (R.stops names.new.rows) }
 {
     let mut pairs = ArrayVec::new();
     for tag in tags {
@@ -98,9 +98,9 @@ pub fn key_for<R: Rows + Drop>(
     config: &Config,
     point: &Point,
 ) -> Result<RowKey, PutFault>
-    ensures asked { NamesAsked (admission config.now rule.now.patterns) (names_of (data_point point.now)) (R.seen names.old) result (R.seen names.new) }
-    ensures key { IfOk result (KeyShown (R.seen names.new) (data_point point.now)) }
-    ensures leaves { Leaves is_stop result (R.seen names.new) (R.stops names.old) (R.stops names.new) }
+    ensures asked { NamesAsked (admission config.now rule.now.patterns) (names_of (data_point point.now)) (R.seen names.old.rows) result (R.seen names.new.rows) }
+    ensures key { IfOk result (KeyShown (R.seen names.new.rows) (data_point point.now)) }
+    ensures leaves { Leaves is_stop result (R.seen names.new.rows) (R.stops names.old.rows) (R.stops names.new.rows) }
 {
     let metric = id_for(names, alloc, rule, config, Kind::Metric, &point.metric)?;
     let pairs = pairs_for(names, alloc, rule, config, point.tags.pairs())?;

@@ -34,11 +34,11 @@ pub fn store<R: Rows + Drop>(
     point: &Point,
     key: &RowKey,
 ) -> Result<Stored, PutFault>
-    requires key { KeyShown (R.seen names.old) (data_point point.now) key.now }
-    requires names { AllShown (R.seen names.old) (names_of (data_point point.now)) }
-    requires possible { IsPossible (R.seen names.old) }
-    ensures made { StoreMade config.now.appends (data_point point.now) (R.seen names.old) result (R.seen names.new) }
-    ensures leaves { Leaves is_stop result (R.seen names.new) (R.stops names.old) (R.stops names.new) }
+    requires key { KeyShown (R.seen names.old.rows) (data_point point.now) key.now }
+    requires names { AllShown (R.seen names.old.rows) (names_of (data_point point.now)) }
+    requires possible { IsPossible (R.seen names.old.rows) }
+    ensures made { StoreMade config.now.appends (data_point point.now) (R.seen names.old.rows) result (R.seen names.new.rows) }
+    ensures leaves { Leaves is_stop result (R.seen names.new.rows) (R.stops names.old.rows) (R.stops names.new.rows) }
 {
     let row = row_of(alloc, key, names.widths())?;
     let value = value_of(point);
@@ -58,9 +58,9 @@ pub fn store_placed<R: Rows + Drop>(
     config: &Config,
     placed: &PlacedPoint,
 ) -> Result<(), PutFault>
-    requires { IsPlaced (R.seen names.old) placed.now }
-    ensures made { StoreMade config.now.appends (data_point placed.now.point) (R.seen names.old) (answer_at result (place_of placed.now)) (R.seen names.new) }
-    ensures leaves { Leaves is_stop result (R.seen names.new) (R.stops names.old) (R.stops names.new) }
+    requires { IsPlaced (R.seen names.old.rows) placed.now }
+    ensures made { StoreMade config.now.appends (data_point placed.now.point) (R.seen names.old.rows) (answer_at result (place_of placed.now)) (R.seen names.new.rows) }
+    ensures leaves { Leaves is_stop result (R.seen names.new.rows) (R.stops names.old.rows) (R.stops names.new.rows) }
 {
     let point = &placed.point;
     let value = value_of(point);
@@ -88,13 +88,13 @@ fn write_point<R: Rows + Drop>(
     qual: &Bytes,
     value: &Bytes,
 ) -> Result<(), RowsFault>
-    requires { Knows (R.seen names.old) (PutPoint (data_point point.now) row.now qual.now value.now) }
-    ensures ok { OnOk result (Stepped (R.seen names.old) (store_step appends (data_point point.now) row.now qual.now value.now) Written (R.seen names.new)) }
-    ensures err { OnErr result (Waited (R.seen names.old) (R.seen names.new)) }
-    ensures possible { OnOk result (IsPossible (R.seen names.new)) }
-    ensures lives { OnErr result (IsPossible (R.seen names.old) → IsPossible (R.seen names.new)) }
-    ensures grows { R.stops names.old ≤ R.stops names.new }
-    ensures stopped { IfErr result (RoseIfStopped (R.stops names.old) (R.stops names.new)) }
+    requires { Knows (R.seen names.old.rows) (PutPoint (data_point point.now) row.now qual.now value.now) }
+    ensures ok { OnOk result (Stepped (R.seen names.old.rows) (store_step appends (data_point point.now) row.now qual.now value.now) Written (R.seen names.new.rows)) }
+    ensures err { OnErr result (Waited (R.seen names.old.rows) (R.seen names.new.rows)) }
+    ensures possible { OnOk result (IsPossible (R.seen names.new.rows)) }
+    ensures lives { OnErr result (IsPossible (R.seen names.old.rows) → IsPossible (R.seen names.new.rows)) }
+    ensures grows { R.stops names.old.rows ≤ R.stops names.new.rows }
+    ensures stopped { IfErr result (RoseIfStopped (R.stops names.old.rows) (R.stops names.new.rows)) }
 {
     if appends {
         let piece = piece_of(qual.list(), value.list());

@@ -27,9 +27,9 @@ fn assigned<R: Rows + Drop>(
     name: &Name,
 ) -> Result<u32, PutFault>
     requires { makes config.now kind ≡ true }
-    ensures asked { NamesAsked (admission config.now rule.now.patterns) ((kind, name.now) ∷ []) (R.seen names.old) result (R.seen names.new) }
-    ensures id { IfOk result (HasShown (R.seen names.new) kind name.now) }
-    ensures leaves { Leaves is_stop result (R.seen names.new) (R.stops names.old) (R.stops names.new) }
+    ensures asked { NamesAsked (admission config.now rule.now.patterns) ((kind, name.now) ∷ []) (R.seen names.old.rows) result (R.seen names.new.rows) }
+    ensures id { IfOk result (HasShown (R.seen names.new.rows) kind name.now) }
+    ensures leaves { Leaves is_stop result (R.seen names.new.rows) (R.stops names.old.rows) (R.stops names.new.rows) }
 {
     match names.assign(alloc, rule, kind, name) {
         Ok(answer) => Ok(answer.id()),
@@ -55,9 +55,9 @@ fn resolved<R: Rows + Drop>(
     name: &Name,
 ) -> Result<u32, PutFault>
     requires { makes config.now kind ≡ false }
-    ensures asked { NamesAsked (admission config.now rule.now.patterns) ((kind, name.now) ∷ []) (R.seen names.old) result (R.seen names.new) }
-    ensures id { IfOk result (HasShown (R.seen names.new) kind name.now) }
-    ensures leaves { Leaves is_stop result (R.seen names.new) (R.stops names.old) (R.stops names.new) }
+    ensures asked { NamesAsked (admission config.now rule.now.patterns) ((kind, name.now) ∷ []) (R.seen names.old.rows) result (R.seen names.new.rows) }
+    ensures id { IfOk result (HasShown (R.seen names.new.rows) kind name.now) }
+    ensures leaves { Leaves is_stop result (R.seen names.new.rows) (R.stops names.old.rows) (R.stops names.new.rows) }
 {
     match names.resolve(alloc, kind, name) {
         Ok(id) => Ok(id),
@@ -81,9 +81,9 @@ pub fn id_for<R: Rows + Drop>(
     kind: Kind,
     name: &Name,
 ) -> Result<u32, PutFault>
-    ensures asked { NamesAsked (admission config.now rule.now.patterns) ((kind, name.now) ∷ []) (R.seen names.old) result (R.seen names.new) }
-    ensures id { IfOk result (HasShown (R.seen names.new) kind name.now) }
-    ensures leaves { Leaves is_stop result (R.seen names.new) (R.stops names.old) (R.stops names.new) }
+    ensures asked { NamesAsked (admission config.now rule.now.patterns) ((kind, name.now) ∷ []) (R.seen names.old.rows) result (R.seen names.new.rows) }
+    ensures id { IfOk result (HasShown (R.seen names.new.rows) kind name.now) }
+    ensures leaves { Leaves is_stop result (R.seen names.new.rows) (R.stops names.old.rows) (R.stops names.new.rows) }
 {
     if config.makes(kind) {
         assigned(names, alloc, rule, config, kind, name)

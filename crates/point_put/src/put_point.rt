@@ -31,9 +31,9 @@ pub fn put<R: Rows + Drop>(
     config: &Config,
     point: &Point,
 ) -> Result<Stored, PutFault>
-    ensures says { PutSays (admission config.now rule.now.patterns) (data_point point.now) (R.seen names.old) result (R.seen names.new) }
-    ensures few { MadeSo (R.seen names.old) (λ list. length list ≤ 4 * (1 + 2 * length point.now.tags) + 1) (R.seen names.new) }
-    ensures leaves { Leaves is_stop result (R.seen names.new) (R.stops names.old) (R.stops names.new) }
+    ensures says { PutSays (admission config.now rule.now.patterns) (data_point point.now) (R.seen names.old.rows) result (R.seen names.new.rows) }
+    ensures few { MadeSo (R.seen names.old.rows) (λ list. length list ≤ 4 * (1 + 2 * length point.now.tags) + 1) (R.seen names.new.rows) }
+    ensures leaves { Leaves is_stop result (R.seen names.new.rows) (R.stops names.old.rows) (R.stops names.new.rows) }
 {
     let key = key_for(names, alloc, rule, config, point)?;
     store(names, alloc, config, point, &key)

@@ -44,7 +44,7 @@ impl StoredText {
     /// Gives the series back, so that the next put of its text is as short.
     #[inline]
     pub fn keep<R: Rows + Drop>(self, names: &mut Uids<R>)
-        requires { MayBeKept (R.seen names.old) self }
+        requires { MayBeKept (R.seen names.old.rows) self }
         ensures { names.new ≡ names.old }
     {
         match self {

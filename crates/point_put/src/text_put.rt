@@ -39,10 +39,10 @@ pub fn put_text<R: Rows + Drop>(
     config: &Config,
     text: &[u8],
 ) -> Result<StoredText, TextFault>
-    ensures says { TextSays (admission config.now rule.now.patterns) text.now (R.seen names.old) result (R.seen names.new) }
-    ensures kept { IfOk result (MayBeKept (R.seen names.new)) }
-    ensures few { (point : DataPoint) → point_of text.now ≡ Reads point → MadeSo (R.seen names.old) (IsFewFor point) (R.seen names.new) }
-    ensures leaves { Leaves is_text_stop result (R.seen names.new) (R.stops names.old) (R.stops names.new) }
+    ensures says { TextSays (admission config.now rule.now.patterns) text.now (R.seen names.old.rows) result (R.seen names.new.rows) }
+    ensures kept { IfOk result (MayBeKept (R.seen names.new.rows)) }
+    ensures few { (point : DataPoint) → point_of text.now ≡ Reads point → MadeSo (R.seen names.old.rows) (IsFewFor point) (R.seen names.new.rows) }
+    ensures leaves { Leaves is_text_stop result (R.seen names.new.rows) (R.stops names.old.rows) (R.stops names.new.rows) }
 {
     match parts_of(text) {
         Some(parts) => put_parts(alloc, names, rule, config, text, &parts),
@@ -60,10 +60,10 @@ fn put_parts<R: Rows + Drop>(
     parts: &TextParts<'_>,
 ) -> Result<StoredText, TextFault>
     requires parts { HasTextParts text.now parts.now }
-    ensures says { TextSays (admission config.now rule.now.patterns) text.now (R.seen names.old) result (R.seen names.new) }
-    ensures kept { IfOk result (MayBeKept (R.seen names.new)) }
-    ensures few { (point : DataPoint) → point_of text.now ≡ Reads point → MadeSo (R.seen names.old) (IsFewFor point) (R.seen names.new) }
-    ensures leaves { Leaves is_text_stop result (R.seen names.new) (R.stops names.old) (R.stops names.new) }
+    ensures says { TextSays (admission config.now rule.now.patterns) text.now (R.seen names.old.rows) result (R.seen names.new.rows) }
+    ensures kept { IfOk result (MayBeKept (R.seen names.new.rows)) }
+    ensures few { (point : DataPoint) → point_of text.now ≡ Reads point → MadeSo (R.seen names.old.rows) (IsFewFor point) (R.seen names.new.rows) }
+    ensures leaves { Leaves is_text_stop result (R.seen names.new.rows) (R.stops names.old.rows) (R.stops names.new.rows) }
 {
     match names.take_series(parts.metric, parts.tags) {
         Some(series) => put_known(alloc, names, config, text, parts, series),
@@ -82,13 +82,13 @@ fn put_known<R: Rows + Drop>(
     series: Box<KnownSeries>,
 ) -> Result<StoredText, TextFault>
     requires parts { HasTextParts text.now parts.now }
-    requires shown { IsShownSeries (R.seen names.old) series.value }
+    requires shown { IsShownSeries (R.seen names.old.rows) series.value }
     requires metric { series.value.metric ≡ parts.now.metric.now }
     requires tags { series.value.tags ≡ parts.now.tags.now }
-    ensures says { (c : Admission) → c.config.appends ≡ config.now.appends → TextSays c text.now (R.seen names.old) result (R.seen names.new) }
-    ensures kept { IfOk result (MayBeKept (R.seen names.new)) }
-    ensures few { MadeSo (R.seen names.old) (λ list. length list ≤ 1) (R.seen names.new) }
-    ensures leaves { Leaves is_text_stop result (R.seen names.new) (R.stops names.old) (R.stops names.new) }
+    ensures says { (c : Admission) → c.config.appends ≡ config.now.appends → TextSays c text.now (R.seen names.old.rows) result (R.seen names.new.rows) }
+    ensures kept { IfOk result (MayBeKept (R.seen names.new.rows)) }
+    ensures few { MadeSo (R.seen names.old.rows) (λ list. length list ≤ 1) (R.seen names.new.rows) }
+    ensures leaves { Leaves is_text_stop result (R.seen names.new.rows) (R.stops names.old.rows) (R.stops names.new.rows) }
 {
     let mut series = series;
     match put_next(
@@ -118,10 +118,10 @@ fn put_new<R: Rows + Drop>(
     parts: &TextParts<'_>,
 ) -> Result<StoredText, TextFault>
     requires parts { HasTextParts text.now parts.now }
-    ensures says { TextSays (admission config.now rule.now.patterns) text.now (R.seen names.old) result (R.seen names.new) }
-    ensures kept { IfOk result (MayBeKept (R.seen names.new)) }
-    ensures few { (point : DataPoint) → point_of text.now ≡ Reads point → MadeSo (R.seen names.old) (IsFewFor point) (R.seen names.new) }
-    ensures leaves { Leaves is_text_stop result (R.seen names.new) (R.stops names.old) (R.stops names.new) }
+    ensures says { TextSays (admission config.now rule.now.patterns) text.now (R.seen names.old.rows) result (R.seen names.new.rows) }
+    ensures kept { IfOk result (MayBeKept (R.seen names.new.rows)) }
+    ensures few { (point : DataPoint) → point_of text.now ≡ Reads point → MadeSo (R.seen names.old.rows) (IsFewFor point) (R.seen names.new.rows) }
+    ensures leaves { Leaves is_text_stop result (R.seen names.new.rows) (R.stops names.old.rows) (R.stops names.new.rows) }
 {
     let point = match read_point(alloc, text) {
         Ok(point) => point,
@@ -145,7 +145,7 @@ fn know<R: Rows + Drop>(
 ) -> Stored
     requires parts { HasTextParts text.now parts.now }
     requires reads { point_of text.now ≡ Reads (data_point placed.point) }
-    requires placed { IsPlaced (R.seen names.old) placed }
+    requires placed { IsPlaced (R.seen names.old.rows) placed }
     ensures same { names.new ≡ names.old }
     ensures row { result.row ≡ placed.row }
     ensures base { result.base ≡ placed.base }
@@ -194,10 +194,10 @@ fn put_unknown<R: Rows + Drop>(
     config: &Config,
     text: &[u8],
 ) -> Result<StoredText, TextFault>
-    ensures says { TextSays (admission config.now rule.now.patterns) text.now (R.seen names.old) result (R.seen names.new) }
-    ensures kept { IfOk result (MayBeKept (R.seen names.new)) }
-    ensures few { (point : DataPoint) → point_of text.now ≡ Reads point → MadeSo (R.seen names.old) (IsFewFor point) (R.seen names.new) }
-    ensures leaves { Leaves is_text_stop result (R.seen names.new) (R.stops names.old) (R.stops names.new) }
+    ensures says { TextSays (admission config.now rule.now.patterns) text.now (R.seen names.old.rows) result (R.seen names.new.rows) }
+    ensures kept { IfOk result (MayBeKept (R.seen names.new.rows)) }
+    ensures few { (point : DataPoint) → point_of text.now ≡ Reads point → MadeSo (R.seen names.old.rows) (IsFewFor point) (R.seen names.new.rows) }
+    ensures leaves { Leaves is_text_stop result (R.seen names.new.rows) (R.stops names.old.rows) (R.stops names.new.rows) }
 {
     let point = match read_point(alloc, text) {
         Ok(point) => point,

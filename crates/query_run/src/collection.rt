@@ -85,13 +85,13 @@ fn take_row<R: Rows + Drop>(
     collected: &mut Collected,
 ) -> Result<(), AskFault>
     requires most { end ≤ LAST_TIME }
-    requires row { (metric : ℕ) × FoundRow (R.seen names.old) scan.old.widths metric start end found.now }
+    requires row { (metric : ℕ) × FoundRow (R.seen names.old.rows) scan.old.widths metric start end found.now }
     requires behind { StandsBehind scan.old.widths collected.old.spans found.now }
     requires scan { scan.old.from ≡ found.now.row.bytes ++ 0 ∷ [] }
-    requires possible { IsPossible (R.seen names.old) }
-    ensures asked { (metric : ℕ) → FoundRow (R.seen names.old) scan.old.widths metric start end found.now → RowAsked (passes filters.now) scan.old.widths metric start end found.now (R.seen names.old) collected.old result (R.seen names.new) collected.new }
+    requires possible { IsPossible (R.seen names.old.rows) }
+    ensures asked { (metric : ℕ) → FoundRow (R.seen names.old.rows) scan.old.widths metric start end found.now → RowAsked (passes filters.now) scan.old.widths metric start end found.now (R.seen names.old.rows) collected.old result (R.seen names.new.rows) collected.new }
     ensures goes_on { OnOk result (GoesOn (passes filters.now) scan.old scan.new) }
-    ensures leaves { Leaves is_stop result (R.seen names.new) (R.stops names.old) (R.stops names.new) }
+    ensures leaves { Leaves is_stop result (R.seen names.new.rows) (R.stops names.old.rows) (R.stops names.new.rows) }
 {
     let key = key_of(found.row.bytes.list(), scan);
     if !passes(filters, key.pairs.as_slice()) {
@@ -113,12 +113,12 @@ pub(crate) fn collect<R: Rows + Drop>(
     start: u64,
     end: u64,
 ) -> Result<Collected, AskFault>
-    requires metric { metric ≤ most_ids (R.seen names.old).base.widths.metric }
+    requires metric { metric ≤ most_ids (R.seen names.old.rows).base.widths.metric }
     requires order { start ≤ end }
     requires most { end ≤ LAST_TIME }
-    requires possible { IsPossible (R.seen names.old) }
-    ensures says { CollectSays (passes filters.now) metric start end (R.seen names.old) result (R.seen names.new) }
-    ensures leaves { Leaves is_stop result (R.seen names.new) (R.stops names.old) (R.stops names.new) }
+    requires possible { IsPossible (R.seen names.old.rows) }
+    ensures says { CollectSays (passes filters.now) metric start end (R.seen names.old.rows) result (R.seen names.new.rows) }
+    ensures leaves { Leaves is_stop result (R.seen names.new.rows) (R.stops names.old.rows) (R.stops names.new.rows) }
 {
     let mut scan = Scan::start(metric, base_of(start), base_of(end), names.widths());
     let mut collected = Collected {

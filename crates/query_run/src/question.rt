@@ -41,9 +41,9 @@ pub fn ask<R: Rows + Drop>(
     requires order { query.now.start ≤ query.now.end }
     requires most { query.now.end ≤ LAST_TIME }
     requires downs { All (CanDown query.now.ms) query.now.subs }
-    ensures says { QuerySays query.now (R.seen names.old) result (R.seen names.new) }
+    ensures says { QuerySays query.now (R.seen names.old.rows) result (R.seen names.new.rows) }
     ensures ready { IfOk result (λ reply. All IsReady reply.groups.items) }
-    ensures stops { CountsStops is_stop result (R.stops names.old) (R.stops names.new) }
+    ensures stops { CountsStops is_stop result (R.stops names.old.rows) (R.stops names.new.rows) }
 {
     let mut groups = Vec::new(alloc);
     for sub in query.subs.list() {

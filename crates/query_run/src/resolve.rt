@@ -27,8 +27,8 @@ pub(crate) fn resolve_name<R: Rows + Drop>(
     kind: Kind,
     name: &Name,
 ) -> Result<u32, AskFault>
-    ensures says { Resolves (R.seen names.old) ((kind, name.now) ∷ []) (λ s id. HasShown s kind name.now id) result (R.seen names.new) }
-    ensures leaves { Leaves is_stop result (R.seen names.new) (R.stops names.old) (R.stops names.new) }
+    ensures says { Resolves (R.seen names.old.rows) ((kind, name.now) ∷ []) (λ s id. HasShown s kind name.now id) result (R.seen names.new.rows) }
+    ensures leaves { Leaves is_stop result (R.seen names.new.rows) (R.stops names.old.rows) (R.stops names.new.rows) }
 {
     match names.resolve(alloc, kind, name) {
         Ok(id) => Ok(id),
@@ -49,9 +49,9 @@ fn resolve_values<R: Rows + Drop>(
     names: &mut Uids<R>,
     values: &[Name],
 ) -> Result<Vec<u32>, AskFault>
-    requires possible { IsPossible (R.seen names.old) }
-    ensures says { Resolves (R.seen names.old) (map (λ name. (TagValue, name)) values.now) (λ s ids. AreIds s values.now ids.items) result (R.seen names.new) }
-    ensures leaves { Leaves is_stop result (R.seen names.new) (R.stops names.old) (R.stops names.new) }
+    requires possible { IsPossible (R.seen names.old.rows) }
+    ensures says { Resolves (R.seen names.old.rows) (map (λ name. (TagValue, name)) values.now) (λ s ids. AreIds s values.now ids.items) result (R.seen names.new.rows) }
+    ensures leaves { Leaves is_stop result (R.seen names.new.rows) (R.stops names.old.rows) (R.stops names.new.rows) }
 {
     let mut ids = Vec::new(alloc);
     for value in values {
@@ -66,9 +66,9 @@ fn resolve_test<R: Rows + Drop>(
     names: &mut Uids<R>,
     test: &Test,
 ) -> Result<IdTest, AskFault>
-    requires possible { IsPossible (R.seen names.old) }
-    ensures says { Resolves (R.seen names.old) (map (λ name. (TagValue, name)) (test_names test.now)) (λ s by. IsIdTest s test.now by) result (R.seen names.new) }
-    ensures leaves { Leaves is_stop result (R.seen names.new) (R.stops names.old) (R.stops names.new) }
+    requires possible { IsPossible (R.seen names.old.rows) }
+    ensures says { Resolves (R.seen names.old.rows) (map (λ name. (TagValue, name)) (test_names test.now)) (λ s by. IsIdTest s test.now by) result (R.seen names.new.rows) }
+    ensures leaves { Leaves is_stop result (R.seen names.new.rows) (R.stops names.old.rows) (R.stops names.new.rows) }
 {
     match test {
         Test::Any => Ok(IdTest::Any),
@@ -89,9 +89,9 @@ fn resolve_filter<R: Rows + Drop>(
     names: &mut Uids<R>,
     filter: &Filter,
 ) -> Result<IdFilter, AskFault>
-    requires possible { IsPossible (R.seen names.old) }
-    ensures says { Resolves (R.seen names.old) (filter_names filter.now) (λ s by. IsIdFilter s filter.now by) result (R.seen names.new) }
-    ensures leaves { Leaves is_stop result (R.seen names.new) (R.stops names.old) (R.stops names.new) }
+    requires possible { IsPossible (R.seen names.old.rows) }
+    ensures says { Resolves (R.seen names.old.rows) (filter_names filter.now) (λ s by. IsIdFilter s filter.now by) result (R.seen names.new.rows) }
+    ensures leaves { Leaves is_stop result (R.seen names.new.rows) (R.stops names.old.rows) (R.stops names.new.rows) }
 {
     let key = resolve_name(alloc, names, Kind::TagKey, &filter.key)?;
     let test = resolve_test(alloc, names, &filter.test)?;
@@ -104,9 +104,9 @@ pub(crate) fn resolve_filters<R: Rows + Drop>(
     names: &mut Uids<R>,
     filters: &[Filter],
 ) -> Result<Vec<IdFilter>, AskFault>
-    requires possible { IsPossible (R.seen names.old) }
-    ensures says { Resolves (R.seen names.old) (flat_map filter_names filters.now) (λ s list. AreIdFilters s filters.now list.items) result (R.seen names.new) }
-    ensures leaves { Leaves is_stop result (R.seen names.new) (R.stops names.old) (R.stops names.new) }
+    requires possible { IsPossible (R.seen names.old.rows) }
+    ensures says { Resolves (R.seen names.old.rows) (flat_map filter_names filters.now) (λ s list. AreIdFilters s filters.now list.items) result (R.seen names.new.rows) }
+    ensures leaves { Leaves is_stop result (R.seen names.new.rows) (R.stops names.old.rows) (R.stops names.new.rows) }
 {
     let mut list = Vec::new(alloc);
     for filter in filters {

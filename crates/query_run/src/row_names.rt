@@ -45,10 +45,10 @@ fn name_id<R: Rows + Drop>(
     id: u32,
     list: &mut BTreeMap<u32, Name>,
 ) -> Result<(), RowsFault>
-    requires knows { KnowsName (R.seen names.old) kind id }
-    requires possible { IsPossible (R.seen names.old) }
-    ensures asked { IdAsked (R.seen names.old) kind id list.old.entries result list.new.entries (R.seen names.new) }
-    ensures leaves { Leaves is_stop result (R.seen names.new) (R.stops names.old) (R.stops names.new) }
+    requires knows { KnowsName (R.seen names.old.rows) kind id }
+    requires possible { IsPossible (R.seen names.old.rows) }
+    ensures asked { IdAsked (R.seen names.old.rows) kind id list.old.entries result list.new.entries (R.seen names.new.rows) }
+    ensures leaves { Leaves is_stop result (R.seen names.new.rows) (R.stops names.old.rows) (R.stops names.new.rows) }
 {
     if list.contains_key(&id) {
         return Ok(());
@@ -67,10 +67,10 @@ fn name_pair<R: Rows + Drop>(
     pair: (u32, u32),
     list: &mut IdNames,
 ) -> Result<(), RowsFault>
-    requires knows { KnowsPair (R.seen names.old) pair }
-    requires possible { IsPossible (R.seen names.old) }
-    ensures asked { NamesAsked (R.seen names.old) (known list.old) (ids_of (pair ∷ [])) result (known list.new) (R.seen names.new) }
-    ensures leaves { Leaves is_stop result (R.seen names.new) (R.stops names.old) (R.stops names.new) }
+    requires knows { KnowsPair (R.seen names.old.rows) pair }
+    requires possible { IsPossible (R.seen names.old.rows) }
+    ensures asked { NamesAsked (R.seen names.old.rows) (known list.old) (ids_of (pair ∷ [])) result (known list.new) (R.seen names.new.rows) }
+    ensures leaves { Leaves is_stop result (R.seen names.new.rows) (R.stops names.old.rows) (R.stops names.new.rows) }
 {
     name_id(alloc, names, Kind::TagKey, pair.0, &mut list.keys)?;
     name_id(alloc, names, Kind::TagValue, pair.1, &mut list.values)?;
@@ -84,10 +84,10 @@ pub(crate) fn name_pairs<R: Rows + Drop>(
     pairs: &[(u32, u32)],
     list: &mut IdNames,
 ) -> Result<(), RowsFault>
-    requires knows { (p : ℕ × ℕ) → Contains pairs.now p → KnowsPair (R.seen names.old) p }
-    requires possible { IsPossible (R.seen names.old) }
-    ensures asked { NamesAsked (R.seen names.old) (known list.old) (ids_of pairs.now) result (known list.new) (R.seen names.new) }
-    ensures leaves { Leaves is_stop result (R.seen names.new) (R.stops names.old) (R.stops names.new) }
+    requires knows { (p : ℕ × ℕ) → Contains pairs.now p → KnowsPair (R.seen names.old.rows) p }
+    requires possible { IsPossible (R.seen names.old.rows) }
+    ensures asked { NamesAsked (R.seen names.old.rows) (known list.old) (ids_of pairs.now) result (known list.new) (R.seen names.new.rows) }
+    ensures leaves { Leaves is_stop result (R.seen names.new.rows) (R.stops names.old.rows) (R.stops names.new.rows) }
 {
     for pair in pairs {
         name_pair(alloc, names, *pair, list)?;

@@ -79,9 +79,9 @@ pub(crate) fn work<R: Rows + Drop>(
     requires order { query.now.start ≤ query.now.end }
     requires most { query.now.end ≤ LAST_TIME }
     requires down { CanDown query.now.ms sub.now }
-    ensures says { SubSays query.now sub.now (R.seen names.old) result (R.seen names.new) }
+    ensures says { SubSays query.now sub.now (R.seen names.old.rows) result (R.seen names.new.rows) }
     ensures ready { IfOk result (λ groups. All IsReady groups.items) }
-    ensures stops { CountsStops is_stop result (R.stops names.old) (R.stops names.new) }
+    ensures stops { CountsStops is_stop result (R.stops names.old.rows) (R.stops names.new.rows) }
 {
     laws::scan_covers();
     if let Some(fault) = barred(query, sub) {

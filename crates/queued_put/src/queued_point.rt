@@ -24,10 +24,10 @@ pub fn put_queued<R: Rows + Drop>(
     queue: &mut Queue,
     point: &Point,
 ) -> Result<(), PutFault>
-    ensures ok { OnOk result (PutsQueued (admission config.now rule.now.patterns) (data_point point.now) (R.seen names.old) queue.old (R.seen names.new) queue.new) }
-    ensures err { IfErr result (λ fault. FailsQueued (admission config.now rule.now.patterns) (data_point point.now) (R.seen names.old) fault (R.seen names.new)) }
+    ensures ok { OnOk result (PutsQueued (admission config.now rule.now.patterns) (data_point point.now) (R.seen names.old.rows) queue.old (R.seen names.new.rows) queue.new) }
+    ensures err { IfErr result (λ fault. FailsQueued (admission config.now rule.now.patterns) (data_point point.now) (R.seen names.old.rows) fault (R.seen names.new.rows)) }
     ensures same { OnErr result (queue.new ≡ queue.old) }
-    ensures leaves { Leaves is_stop result (R.seen names.new) (R.stops names.old) (R.stops names.new) }
+    ensures leaves { Leaves is_stop result (R.seen names.new.rows) (R.stops names.old.rows) (R.stops names.new.rows) }
 {
     let stored = put(alloc, names, rule, config, point)?;
     queue.add(&stored.row, stored.base)?;

@@ -19,7 +19,7 @@ pub fn queue_stored<R: Rows + Drop>(
     stored: StoredText,
 ) -> Result<(), AllocError>
     requires points { (stored_at stored).row.table ≡ Points }
-    requires kept { MayBeKept (R.seen names.old) stored }
+    requires kept { MayBeKept (R.seen names.old.rows) stored }
     ensures names { names.new ≡ names.old }
     ensures ok { OnOk result (WasAdded queue.old (stored_at stored) queue.new) }
     ensures same { OnErr result (queue.new ≡ queue.old) }

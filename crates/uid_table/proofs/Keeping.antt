@@ -1,8 +1,10 @@
 -- What is kept was kept before or put, and stays shown.
-use Rattle.std.proofs.Common.{◌≡◌, inl, inr, ℕ, Bool, true, List, [], Contains, rules, IfSome, Option, Some, None, refl, sym, ap, subst, ◌∙◌}
+use Rattle.std.proofs.Common.{◌≡◌, inl, inr, ℕ, suc, ◌-◌, ◌≤◌, Bool, true, false, List, [], ◌∷◌, length, take, Contains, rules, IfSome, Option, Some, None, refl, sym, ap, subst, ◌∙◌, arith}
+use Rattle.std.proofs.lemmas.List.{length-take}
 use Rattle.std.specs.Borrow.{Bor}
 use Rattle.std.specs.Prelude.{option_copied, Result, Ok, Err, IfOk, OnOk, OnErr}
-use Rattle.std.specs.Map.{lookup}
+use Rattle.std.specs.Map.{lookup, lookup_entry, remove_entry}
+use Rattle.std.specs.Option.{option_map_or}
 use Rattle.list_lemmas.proofs.BoolTests.{both_true}
 use Rattle.list_lemmas.proofs.ListMembers.{not_in}
 use Rattle.lru.specs.LruCache.{LruCache, lru_cache, promoted, put_entries}
@@ -38,7 +40,7 @@ use Rattle.uid_table.specs.declared.placed_point.PlacedPoint.{PlacedPoint}
 use Rattle.uid_table.specs.ShownKeys.{AllShown, IdsShown, PairsShown, KeyShown}
 use Rattle.uid_table.specs.PlacedPoints.{IsPlaced}
 use Rattle.uid_table.specs.KnownSeries.{IsShownSeries, IsShownSlot, KeepsSeries, KeepsNone}
-use Rattle.uid_table.specs.Cache.{AreAmong, IsCapped, IsShownId, KeepsIds, KeepsNames}
+use Rattle.uid_table.specs.Cache.{AreAmong, IsCapped, IsShownId, IsWithin, KeepsIds, KeepsNames, StaysWithin}
 use Rattle.cell_laws.proofs.CallerLemmas.{wait_made, step_extends, extends_joined}
 use Rattle.uid_table.proofs.Shows.{shown_kept, with_base}
 
@@ -59,6 +61,34 @@ same_name_key k j e =
 
 pub same_id_key : (k j : IdKey) → (ids.eq-value).it k j ≡ true → k ≡ j
 same_id_key k j e = search rules
+
+as_it_is : {K V : Type 0} (old new it : LruCache K V) → new ≡ it → StaysWithin old it → StaysWithin old new
+as_it_is old new it is = subst (StaysWithin old) (sym is)
+
+module _ {K V : Type 0} (test : K → Bool) where
+  -- a pair that is there goes out once
+  removed_length : (es : List (K × V)) (f : K × V) → lookup_entry test es ≡ Some f → suc (length (remove_entry test es)) ≡ length es
+  removed_length [] f h = cc
+  removed_length (e ∷ es) f h = (elim (test e.0) as (λ y. test e.0 ≡ y → suc (length (remove_entry test (e ∷ es))) ≡ suc (length es)) [
+    | true ↦ λ t. rw t refl
+    | false ↦ λ t. rw t (ap suc (removed_length es f (rw t at h)))
+  ]) refl
+
+  front_length : (es : List (K × V)) (o : Option (K × V)) → lookup_entry test es ≡ o → length (option_map_or (λ e. e ∷ remove_entry test es) o es) ≡ length es
+  front_length es None h = refl
+  front_length es (Some f) h = removed_length es f h
+
+  pub promoted_length : (es : List (K × V)) → length (promoted test es) ≡ length es
+  promoted_length es = front_length es (lookup_entry test es) refl
+
+module _ {K V : Type 0} (eq : K → K → Bool) (c : LruCache K V) (k : K) (v : V) where
+  put_within : (o : Option (K × V)) → lookup_entry (eq k) c.entries ≡ o → IsWithin c → length (option_map_or (λ e. (e.0, v) ∷ remove_entry (eq k) c.entries) o ((k, v) ∷ take (c.cap - 1) c.entries)) ≤ c.cap
+  put_within None h w = let most = length-take (c.cap - 1) c.entries in omega (arith, most, w.0)
+  put_within (Some f) h w = subst (λ n. n ≤ c.cap) (sym (removed_length (eq k) c.entries f h)) w.1
+
+  -- one more pushes the last out of a full cache
+  put_length : IsWithin c → length (put_entries eq c k v) ≤ c.cap
+  put_length w = put_within (lookup_entry (eq k) c.entries) refl w
 
 module _ {K V : Type 0} (eq : K → K → Bool) (exact : (k j : K) → eq k j ≡ true → k ≡ j) where
   -- a value that was found is kept by the key
@@ -83,10 +113,14 @@ module _ {K V : Type 0} (eq : K → K → Bool) (exact : (k j : K) → eq k j �
   after_put P old new k v (Ok x) done kept all one e is = each_put P old k v all one e (subst (λ (c : LruCache K V). Contains c.entries e) done is)
   after_put P old new k v (Err x) done kept all one e is = all e (subst (λ (c : LruCache K V). Contains c.entries e) kept is)
 
-  -- nor does it change how many there may be
-  pub cap_put : {T E : Type 0} (old new : LruCache K V) (k : K) (v : V) (r : Result T E) → OnOk r (new ≡ lru_cache (put_entries eq old k v) old.cap) → OnErr r (new ≡ old) → new.cap ≡ old.cap
-  cap_put old new k v (Ok x) done kept = ap (λ (c : LruCache K V). c.cap) done
-  cap_put old new k v (Err x) done kept = ap (λ (c : LruCache K V). c.cap) kept
+  -- nor does it change how many there may be, and no more are kept
+  pub cap_put : {T E : Type 0} (old new : LruCache K V) (k : K) (v : V) (r : Result T E) → OnOk r (new ≡ lru_cache (put_entries eq old k v) old.cap) → OnErr r (new ≡ old) → StaysWithin old new
+  cap_put old new k v (Ok x) done kept = as_it_is old new (lru_cache (put_entries eq old k v) old.cap) done record { cap = refl; within = λ w. (w.0, put_length eq old k v w) }
+  cap_put old new k v (Err x) done kept = as_it_is old new old kept record { cap = refl; within = λ w. w }
+
+  -- and so with a look
+  pub cap_get : (old new : LruCache K V) (k : K) → new ≡ lru_cache (promoted (eq k) old.entries) old.cap → StaysWithin old new
+  cap_get old new k same = as_it_is old new (lru_cache (promoted (eq k) old.entries) old.cap) same record { cap = refl; within = λ w. (w.0, subst (λ n. n ≤ old.cap) (sym (promoted_length (eq k) old.entries)) w.1) }
 
   -- a look leaves the pairs
   pub after_get : (old new : LruCache K V) (k : K) → new ≡ lru_cache (promoted (eq k) old.entries) old.cap → AreAmong new.entries old.entries
@@ -168,9 +202,9 @@ series_kept s t slots on all k d lt = slot_kept s t _ on (all k d lt)
 pub none_kept : (s : Seen) (slots : List (Option (Box KnownSeries))) → KeepsNone slots → KeepsSeries s slots
 none_kept s slots none k d lt = subst (IsShownSlot s) (sym (none k d lt)) tt
 
--- how many pairs a cache may have, whatever it has
-pub cap_of : {K V : Type 0} (c : LruCache K V) (es : List (K × V)) (cap : ℕ) → c ≡ lru_cache es cap → c.cap ≡ cap
-cap_of c es cap is = ap (λ (x : LruCache _ _). x.cap) is
+-- a cache that was emptied keeps no more than it may
+pub emptied_within : {K V : Type 0} (old new : LruCache K V) → new ≡ lru_cache [] old.cap → StaysWithin old new
+emptied_within old new is = as_it_is old new (lru_cache [] old.cap) is record { cap = refl; within = λ w. (w.0, omega arith) }
 
 -- no pair is kept
 pub no_pairs : {K V : Type 0} (P : K × V → Type 0) (c : LruCache K V) (cap : ℕ) → c ≡ lru_cache [] cap → (e : K × V) → Contains c.entries e → P e
@@ -180,9 +214,18 @@ pub kept_on : {C : Type 0} (s t : Seen) (ids : List (NameKey × ℕ)) (names : L
     → KeepsIds t ids × KeepsNames t names × KeepsSeries t slots × C
 kept_on s t ids names slots all on = (ids_kept s t ids on all.0, names_kept s t names on all.1, series_kept s t slots on all.2, all.3)
 
--- no call changes how many pairs may be kept
-pub capped_on : (ids names ids' names' : ℕ) → ids' ≡ ids → names' ≡ names → IsCapped ids names → IsCapped ids' names'
-capped_on ids names ids' names' a b capped = subst (λ (n : ℕ × ℕ). IsCapped n.0 n.1) (λ i. (sym a i, sym b i)) capped
+-- a cache that nothing was done to
+pub still_within : {K V : Type 0} (c : LruCache K V) → StaysWithin c c
+still_within c = record { cap = refl; within = λ w. w }
+
+-- no call changes how many pairs may be kept, and none keeps more
+pub capped_on : (ids ids' : LruCache NameKey ℕ) (names names' : LruCache IdKey (List ℕ)) → StaysWithin ids ids' → StaysWithin names names' → IsCapped ids names → IsCapped ids' names'
+capped_on ids ids' names names' a b capped = (
+  a.within capped.0,
+  b.within capped.1,
+  subst (λ n. n ≤ 1000000) (sym a.cap) capped.2,
+  subst (λ n. n ≤ 1000000) (sym b.cap) capped.3,
+)
 
 -- a look leaves what is kept shown
 pub look_kept : {K V : Type 0} (P : K × V → Type 0) (old new : List (K × V)) → AreAmong new old → ((e : K × V) → Contains old e → P e) → (e : K × V) → Contains new e → P e

@@ -1,5 +1,6 @@
 -- The pairs of names and ids that are kept.
-use Rattle.std.specs.Prelude.{ℕ, ◌≤◌, List, Contains}
+use Rattle.std.specs.Prelude.{◌≡◌, ℕ, ◌<◌, ◌≤◌, List, length, Contains}
+use Rattle.lru.specs.LruCache.{LruCache}
 use Rattle.cell_model.specs.Seen.{Seen, IsPossible}
 use Rattle.uid_table.specs.declared.cache.NameKey.{NameKey}
 use Rattle.uid_table.specs.declared.cache.IdKey.{IdKey}
@@ -25,6 +26,15 @@ KeepsIds s ids = (pair : NameKey × ℕ) → Contains ids pair → IsShownId s p
 abbrev pub KeepsNames : Seen → List (IdKey × List ℕ) → Type 0
 KeepsNames s names = (pair : IdKey × List ℕ) → Contains names pair → IsShownName s pair
 
--- at most so many pairs are kept by name, and so many by id; a cache has at most its capacity
-abbrev pub IsCapped : ℕ → ℕ → Type 0
-IsCapped ids names = (ids ≤ 1000000) × (names ≤ 1000000)
+-- a cache keeps at most as many pairs as it may
+abbrev pub IsWithin : {K V : Type 0} → LruCache K V → Type 0
+IsWithin c = (0 < c.cap) × (length c.entries ≤ c.cap)
+
+-- both caches do, and these are 1,000,000 at most
+abbrev pub IsCapped : LruCache NameKey ℕ → LruCache IdKey (List ℕ) → Type 0
+IsCapped ids names = IsWithin ids × IsWithin names × (ids.cap ≤ 1000000) × (names.cap ≤ 1000000)
+
+-- as many pairs may be kept as before, and at most so many are kept where they were
+pub record StaysWithin {K V : Type 0} (old new : LruCache K V) : Type 0 where
+  pub cap : new.cap ≡ old.cap
+  pub within : IsWithin old → IsWithin new

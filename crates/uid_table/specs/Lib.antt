@@ -7,3 +7,4 @@ pub mod Suggest
 pub mod KnownSeries
 pub mod PlacedPoints
 pub mod ShownKeys
+pub mod NamedRows

@@ -8,7 +8,7 @@ ghost use Rattle.lru.specs.LruCache.{lru_cache};
 ghost use Rattle.tsd_base.specs.Alphabet.{IsName};
 ghost use Rattle.cell_model.specs.IdRows.{name_row};
 ghost use Rattle.cell_model.specs.Seen.{Seen};
-ghost use Rattle.uid_table.specs.Cache.{AreAmong, IsShownId, IsShownName, KeepsIds, KeepsNames};
+ghost use Rattle.uid_table.specs.Cache.{AreAmong, IsShownId, IsShownName, KeepsIds, KeepsNames, StaysWithin};
 
 use cell_model::row::Row;
 use lru::LruCache;
@@ -111,7 +111,7 @@ pub fn forget(ids: &mut Ids, names: &mut Names)
 pub fn kept_id(ids: &mut Ids, key: &NameKey) -> Option<u32>
     ensures found { IfSome result (λ id. Contains ids.old.entries (key.now, id)) }
     ensures kept { AreAmong ids.new.entries ids.old.entries }
-    ensures cap { ids.new.cap ≡ ids.old.cap }
+    ensures cap { StaysWithin ids.old ids.new }
 {
     ids.get(key).copied()
 }
@@ -119,7 +119,7 @@ pub fn kept_id(ids: &mut Ids, key: &NameKey) -> Option<u32>
 /// Keeps the id of a name, where there is memory for it.
 pub fn keep_id(ids: &mut Ids, key: NameKey, id: u32)
     ensures shown { (s : Seen) → KeepsIds s ids.old.entries → IsShownId s (key, id) → KeepsIds s ids.new.entries }
-    ensures cap { ids.new.cap ≡ ids.old.cap }
+    ensures cap { StaysWithin ids.old ids.new }
 {
     let _ = ids.put(key, id);
 }
@@ -128,7 +128,7 @@ pub fn keep_id(ids: &mut Ids, key: NameKey, id: u32)
 pub fn kept_name(names: &mut Names, alloc: Global, key: IdKey) -> Result<Option<Name>, AllocError>
     ensures found { IfOk result (λ found. IfSome found (λ name. Contains names.old.entries (key, name))) }
     ensures kept { AreAmong names.new.entries names.old.entries }
-    ensures cap { names.new.cap ≡ names.old.cap }
+    ensures cap { StaysWithin names.old names.new }
 {
     match names.get(&key) {
         Some(name) => Ok(Some(name.again(alloc)?)),
@@ -139,7 +139,7 @@ pub fn kept_name(names: &mut Names, alloc: Global, key: IdKey) -> Result<Option<
 /// Keeps a copy of the name of an id, where there is memory for it.
 pub fn keep_name(names: &mut Names, alloc: Global, key: IdKey, name: &Name)
     ensures shown { (s : Seen) → KeepsNames s names.old.entries → IsShownName s (key, name.now) → KeepsNames s names.new.entries }
-    ensures cap { names.new.cap ≡ names.old.cap }
+    ensures cap { StaysWithin names.old names.new }
 {
     if let Ok(name) = name.again(alloc) {
         let _ = names.put(key, name);

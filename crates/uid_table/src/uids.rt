@@ -1,12 +1,13 @@
 //! Rows with the ids of names.
-ghost use Rattle.std.specs.Prelude.{◌≡◌, ◌≤◌, IfOk, IfErr, IfSome};
+ghost use Rattle.std.specs.Prelude.{◌≡◌, ◌≤◌, [], IfOk, IfErr, IfSome};
 ghost use Rattle.cell_model.specs.Stops.{CountsStops, is_stop};
 ghost use Rattle.cell_model.specs.Calls.{Leaves};
 ghost use Rattle.uid_table.specs.IdAnswers.{answered_id, is_resolve_stop, is_assign_stop};
 ghost use Rattle.uid_table.specs.Shown.{HasShown, KnowsName, HasShownName};
 ghost use Rattle.tsd_base.specs.Alphabet.{IsName};
 ghost use Rattle.cell_model.specs.IdRows.{name_row};
-ghost use Rattle.uid_table.specs.Cache.{KeepsIds, KeepsNames};
+ghost use Rattle.lru.specs.LruCache.{lru_cache};
+ghost use Rattle.uid_table.specs.Cache.{KeepsIds, KeepsNames, StaysWithin};
 ghost use Rattle.uid_table.specs.KnownSeries.{IsShownSeries};
 ghost use Rattle.uid_table.specs.Suggest.{AllLooks, Suggests};
 ghost use Rattle.uid_table.specs.IdSteps.{MadeSo, ResolveMade, AssignMade, NameMade};
@@ -45,7 +46,7 @@ pub const KEPT_PAIRS: u32 = 10_000;
 ///
 /// Series are kept too, by the texts of their metric and tags ([`Uids::take_series`]), up to 262,144 of them.
 ///
-/// It is itself [`Rows`], and passes each step on. Contracts see it as the rows.
+/// It is itself [`Rows`], and passes each step on. Contracts see it as the rows and the two lists of pairs that are kept.
 #[derive(Drop)]
 pub struct Uids<R: Rows + Drop> {
     rows: R,
@@ -57,12 +58,13 @@ pub struct Uids<R: Rows + Drop> {
 impl<R: Rows + Drop> Model for Uids<R> {
     ghost use Rattle.uid_table.specs.Cache.{IsCapped, KeepsIds, KeepsNames};
     ghost use Rattle.uid_table.specs.KnownSeries.{KeepsSeries};
+    ghost use Rattle.uid_table.specs.NamedRows.{NamedRows};
 
-    ghost Value = { R };
+    ghost Value = { NamedRows R };
 
-    ghost view = { λ u. u.rows };
+    ghost view = { λ u. record { rows = u.rows; ids = u.ids; names = u.names } };
 
-    ghost invariant = { λ u. KeepsIds (R.seen u.rows) u.ids.entries × KeepsNames (R.seen u.rows) u.names.entries × KeepsSeries (R.seen u.rows) u.series × IsCapped u.ids.cap u.names.cap };
+    ghost invariant = { λ u. KeepsIds (R.seen u.rows) u.ids.entries × KeepsNames (R.seen u.rows) u.names.entries × KeepsSeries (R.seen u.rows) u.series × IsCapped u.ids u.names };
 }
 
 impl<R: Rows + Drop> Uids<R> {
@@ -73,7 +75,7 @@ impl<R: Rows + Drop> Uids<R> {
     pub fn over(alloc: Global, rows: R, cap: u32) -> Result<Uids<R>, (AllocError, R)>
         requires least { 1 ≤ cap }
         requires most { cap ≤ 1000000 }
-        ensures ok { IfOk result (λ uids. uids ≡ rows) }
+        ensures ok { IfOk result (λ uids. uids ≡ record { rows = rows; ids = lru_cache [] cap; names = lru_cache [] cap }) }
         ensures err { IfErr result (λ refused. refused.1 ≡ rows) }
     {
         match nothing_kept(alloc, cap) {
@@ -89,7 +91,7 @@ impl<R: Rows + Drop> Uids<R> {
 
     /// The rows.
     pub fn part(self) -> R
-        ensures { result ≡ self }
+        ensures { result ≡ self.rows }
     {
         let Uids {
             rows,
@@ -102,7 +104,7 @@ impl<R: Rows + Drop> Uids<R> {
 
     /// Forgets the pairs and the series that are kept, so that each is read anew. How many may be kept stays as it is.
     pub fn drop_cache(&mut self)
-        ensures { self.new ≡ self.old }
+        ensures { self.new ≡ record self.old { ids = lru_cache [] self.old.ids.cap; names = lru_cache [] self.old.names.cap } }
     {
         forget(&mut self.ids, &mut self.names);
         self.series.clear();
@@ -113,7 +115,7 @@ impl<R: Rows + Drop> Uids<R> {
     #[inline]
     pub fn take_series(&mut self, metric: &[u8], tags: &[u8]) -> Option<Box<KnownSeries>>
         ensures same { self.new ≡ self.old }
-        ensures shown { IfSome result (λ b. IsShownSeries (R.seen self.old) b.value) }
+        ensures shown { IfSome result (λ b. IsShownSeries (R.seen self.old.rows) b.value) }
         ensures metric { IfSome result (λ b. b.value.metric ≡ metric.now) }
         ensures tags { IfSome result (λ b. b.value.tags ≡ tags.now) }
     {
@@ -123,7 +125,7 @@ impl<R: Rows + Drop> Uids<R> {
     /// Keeps a series that was taken out.
     #[inline]
     pub fn keep_series(&mut self, known: Box<KnownSeries>)
-        requires { IsShownSeries (R.seen self.old) known.value }
+        requires { IsShownSeries (R.seen self.old.rows) known.value }
         ensures { self.new ≡ self.old }
     {
         self.series.keep(known);
@@ -131,7 +133,7 @@ impl<R: Rows + Drop> Uids<R> {
 
     /// Keeps one more series. A later one may take its place.
     pub fn add_series(&mut self, known: Box<KnownSeries>)
-        requires { IsShownSeries (R.seen self.old) known.value }
+        requires { IsShownSeries (R.seen self.old.rows) known.value }
         ensures { self.new ≡ self.old }
     {
         self.series.add(known);
@@ -141,9 +143,11 @@ impl<R: Rows + Drop> Uids<R> {
     ///
     /// `Unknown` exactly where that read found no cell of this kind for the name, which is not kept. What it found is kept.
     pub fn resolve(&mut self, alloc: Global, kind: Kind, name: &Name) -> Result<u32, ResolveFault>
-        ensures made { MadeSo (R.seen self.old) (ResolveMade (R.seen self.old).base.widths kind name.now result) (R.seen self.new) }
-        ensures id { IfOk result (HasShown (R.seen self.new) kind name.now) }
-        ensures leaves { Leaves is_resolve_stop result (R.seen self.new) (R.stops self.old) (R.stops self.new) }
+        ensures made { MadeSo (R.seen self.old.rows) (ResolveMade (R.seen self.old.rows).base.widths kind name.now result) (R.seen self.new.rows) }
+        ensures id { IfOk result (HasShown (R.seen self.new.rows) kind name.now) }
+        ensures leaves { Leaves is_resolve_stop result (R.seen self.new.rows) (R.stops self.old.rows) (R.stops self.new.rows) }
+        ensures kept_ids { StaysWithin self.old.ids self.new.ids }
+        ensures kept_names { self.new.names ≡ self.old.names }
     {
         let Ok(key) = name_key(alloc, kind, name) else {
             return Err(ResolveFault::OutOfMemory);
@@ -165,9 +169,11 @@ impl<R: Rows + Drop> Uids<R> {
         kind: Kind,
         name: &Name,
     ) -> Result<Assigned, AssignFault>
-        ensures made { MadeSo (R.seen self.old) (AssignMade (R.seen self.old).base.widths rule.now.patterns kind name.now result) (R.seen self.new) }
-        ensures id { IfOk result (λ a. HasShown (R.seen self.new) kind name.now (answered_id a)) }
-        ensures leaves { Leaves is_assign_stop result (R.seen self.new) (R.stops self.old) (R.stops self.new) }
+        ensures made { MadeSo (R.seen self.old.rows) (AssignMade (R.seen self.old.rows).base.widths rule.now.patterns kind name.now result) (R.seen self.new.rows) }
+        ensures id { IfOk result (λ a. HasShown (R.seen self.new.rows) kind name.now (answered_id a)) }
+        ensures leaves { Leaves is_assign_stop result (R.seen self.new.rows) (R.stops self.old.rows) (R.stops self.new.rows) }
+        ensures kept_ids { StaysWithin self.old.ids self.new.ids }
+        ensures kept_names { self.new.names ≡ self.old.names }
     {
         let Ok(key) = name_key(alloc, kind, name) else {
             return Err(AssignFault::OutOfMemory);
@@ -179,10 +185,12 @@ impl<R: Rows + Drop> Uids<R> {
     ///
     /// What it found is kept. Where there was no memory for the name, that read may have been made.
     pub fn name_of(&mut self, alloc: Global, kind: Kind, id: u32) -> Result<Name, RowsFault>
-        requires { KnowsName (R.seen self.old) kind id }
-        ensures made { MadeSo (R.seen self.old) (NameMade (R.seen self.old).base.widths kind id result) (R.seen self.new) }
-        ensures name { IfOk result (HasShownName (R.seen self.new) kind id) }
-        ensures leaves { Leaves is_stop result (R.seen self.new) (R.stops self.old) (R.stops self.new) }
+        requires { KnowsName (R.seen self.old.rows) kind id }
+        ensures made { MadeSo (R.seen self.old.rows) (NameMade (R.seen self.old.rows).base.widths kind id result) (R.seen self.new.rows) }
+        ensures name { IfOk result (HasShownName (R.seen self.new.rows) kind id) }
+        ensures leaves { Leaves is_stop result (R.seen self.new.rows) (R.stops self.old.rows) (R.stops self.new.rows) }
+        ensures kept_ids { self.new.ids ≡ self.old.ids }
+        ensures kept_names { StaysWithin self.old.names self.new.names }
     {
         name_of_in(&mut self.rows, &mut self.names, alloc, IdKey { kind, id })
     }
@@ -199,9 +207,11 @@ impl<R: Rows + Drop> Uids<R> {
     ) -> Result<Vec<Name>, RowsFault>
         requires least { 1 ≤ max }
         requires most { max ≤ 10000 }
-        ensures names { IfOk result (λ names. Suggests (R.seen self.old) kind prefix.now max names.items (R.seen self.new)) }
-        ensures made { MadeSo (R.seen self.old) AllLooks (R.seen self.new) }
-        ensures stops { CountsStops is_stop result (R.stops self.old) (R.stops self.new) }
+        ensures names { IfOk result (λ names. Suggests (R.seen self.old.rows) kind prefix.now max names.items (R.seen self.new.rows)) }
+        ensures made { MadeSo (R.seen self.old.rows) AllLooks (R.seen self.new.rows) }
+        ensures stops { CountsStops is_stop result (R.stops self.old.rows) (R.stops self.new.rows) }
+        ensures kept_ids { self.new.ids ≡ self.old.ids }
+        ensures kept_names { self.new.names ≡ self.old.names }
     {
         suggest_in(&mut self.rows, alloc, kind, prefix, max)
     }
@@ -221,7 +231,7 @@ fn resolve_in<R: Rows>(
     ensures id { IfOk result (HasShown (R.seen rows.new) key.kind key.row.bytes) }
     ensures leaves { Leaves is_resolve_stop result (R.seen rows.new) (R.stops rows.old) (R.stops rows.new) }
     ensures kept { KeepsIds (R.seen rows.new) ids.new.entries }
-    ensures cap { ids.new.cap ≡ ids.old.cap }
+    ensures cap { StaysWithin ids.old ids.new }
 {
     match kept_id(ids, &key) {
         Some(id) => Ok(id),
@@ -243,7 +253,7 @@ fn resolve_anew<R: Rows>(
     ensures id { IfOk result (HasShown (R.seen rows.new) key.kind key.row.bytes) }
     ensures leaves { Leaves is_resolve_stop result (R.seen rows.new) (R.stops rows.old) (R.stops rows.new) }
     ensures kept { KeepsIds (R.seen rows.new) ids.new.entries }
-    ensures cap { ids.new.cap ≡ ids.old.cap }
+    ensures cap { StaysWithin ids.old ids.new }
 {
     let kind = key.kind;
     let shown = look(rows, alloc, kind, &key.row)?;
@@ -273,7 +283,7 @@ fn assign_in<R: Rows>(
     ensures id { IfOk result (λ a. HasShown (R.seen rows.new) key.kind key.row.bytes (answered_id a)) }
     ensures leaves { Leaves is_assign_stop result (R.seen rows.new) (R.stops rows.old) (R.stops rows.new) }
     ensures kept { KeepsIds (R.seen rows.new) ids.new.entries }
-    ensures cap { ids.new.cap ≡ ids.old.cap }
+    ensures cap { StaysWithin ids.old ids.new }
 {
     match kept_id(ids, &key) {
         Some(id) => Ok(Assigned::Existing { id }),
@@ -298,7 +308,7 @@ fn assign_anew<R: Rows>(
     ensures id { IfOk result (λ a. HasShown (R.seen rows.new) key.kind key.row.bytes (answered_id a)) }
     ensures leaves { Leaves is_assign_stop result (R.seen rows.new) (R.stops rows.old) (R.stops rows.new) }
     ensures kept { KeepsIds (R.seen rows.new) ids.new.entries }
-    ensures cap { ids.new.cap ≡ ids.old.cap }
+    ensures cap { StaysWithin ids.old ids.new }
 {
     let assigned = look_or_give(rows, alloc, rule, key.kind, name, &key.row)?;
     keep_id(ids, key, assigned.id());
@@ -318,7 +328,7 @@ fn name_of_in<R: Rows>(
     ensures name { IfOk result (HasShownName (R.seen rows.new) key.kind key.id) }
     ensures leaves { Leaves is_stop result (R.seen rows.new) (R.stops rows.old) (R.stops rows.new) }
     ensures kept { KeepsNames (R.seen rows.new) names.new.entries }
-    ensures cap { names.new.cap ≡ names.old.cap }
+    ensures cap { StaysWithin names.old names.new }
 {
     match kept_name(names, alloc, key) {
         Ok(Some(name)) => Ok(name),
@@ -340,7 +350,7 @@ fn name_anew<R: Rows>(
     ensures name { IfOk result (HasShownName (R.seen rows.new) key.kind key.id) }
     ensures leaves { Leaves is_stop result (R.seen rows.new) (R.stops rows.old) (R.stops rows.new) }
     ensures kept { KeepsNames (R.seen rows.new) names.new.entries }
-    ensures cap { names.new.cap ≡ names.old.cap }
+    ensures cap { StaysWithin names.old names.new }
 {
     let name = name_in(rows, alloc, key.kind, key.id)?;
     keep_name(names, alloc, key, &name);
@@ -348,11 +358,11 @@ fn name_anew<R: Rows>(
 }
 
 impl<R: Rows + Drop> Rows for Uids<R> {
-    ghost seen = { λ rows. R.seen rows };
+    ghost seen = { λ u. R.seen u.rows };
 
-    ghost stops = { λ rows. R.stops rows };
+    ghost stops = { λ u. R.stops u.rows };
 
-    ghost spare = { λ rows. R.spare rows };
+    ghost spare = { λ u. R.spare u.rows };
 
     fn widths(&self) -> Widths {
         self.rows.widths()

@@ -9,6 +9,6 @@ use Rattle.batch_job.proofs.pending_ids.note_tags.Given as goal
 -- what is left of the tags decides
 abbrev pub invariant-loop-pair : goal.invariant-loop-pair
 invariant-loop-pair g l = record {
-  notes : (full : Option Kind) (later : Seen) → Notes (g.R.Rows.seen l.store) (tag_names (drop l.pair-index l.pair-items)) full later → Notes (g.R.Rows.seen l.fn.store) (tag_names l.pair-items) full later;
-  grows : g.R.Rows.stops l.fn.store ≤ g.R.Rows.stops l.store;
+  notes : (full : Option Kind) (later : Seen) → Notes (g.R.Rows.seen l.store.rows) (tag_names (drop l.pair-index l.pair-items)) full later → Notes (g.R.Rows.seen l.fn.store.rows) (tag_names l.pair-items) full later;
+  grows : g.R.Rows.stops l.fn.store.rows ≤ g.R.Rows.stops l.store.rows;
 }

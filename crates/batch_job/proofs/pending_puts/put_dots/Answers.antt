@@ -15,18 +15,18 @@ invariant_of-point g c =
 pub put_others-requires : goal.put_others-requires
 put_others-requires g c =
     let times = subst (λ (ds : List (ℕ × ℤ)). AreTimes c.args.fine ds) c.in-Some.ensures.cases.0 c.requires.times in
-    let new = g.R.Rows.seen c.put_one.new.store in
+    let new = g.R.Rows.seen c.put_one.new.store.rows in
     record {
       times = times.1;
       placed = c.in_ok-placed.ensures.placed;
-      resolved = subst (λ (p : Point). AreResolved new (names_of (data_point p))) (sym c.in_ok-placed.ensures.point) (still_resolved _ (g.R.Rows.seen c.args.store.now) new _ c.in_ok-placed.ensures.adds c.requires.resolved);
+      resolved = subst (λ (p : Point). AreResolved new (names_of (data_point p))) (sym c.in_ok-placed.ensures.point) (still_resolved _ (g.R.Rows.seen c.args.store.now.rows) new _ c.in_ok-placed.ensures.adds c.requires.resolved);
     }
 
 pub returns-clause-adds : goal.returns-clause-adds
 returns-clause-adds g c =
-    let old = g.R.Rows.seen c.args.store.now in
-    let mid = g.R.Rows.seen c.put_one.new.store in
-    let new = g.R.Rows.seen c.put_others.new.store in
+    let old = g.R.Rows.seen c.args.store.now.rows in
+    let mid = g.R.Rows.seen c.put_one.new.store.rows in
+    let new = g.R.Rows.seen c.put_others.new.store.rows in
     let others = c.in-Some.others.now in
     let first = c.in-Some.first.now in
     let value : to_z w64 (of_z w64 first.1) ≡ first.1 = search rules in

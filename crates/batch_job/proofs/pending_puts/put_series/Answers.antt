@@ -11,8 +11,8 @@ use Rattle.batch_job.proofs.pending_puts.put_series.Goals as goal
 pub returns-then-is_rising-clause-puts : goal.returns-then-is_rising-clause-puts
 returns-then-is_rising-clause-puts g c =
     let values = c.args.values.now in
-    let old = g.R.Rows.seen c.args.store.now in
-    let new = g.R.Rows.seen c.put_dots.new.store in
+    let old = g.R.Rows.seen c.args.store.now.rows in
+    let new = g.R.Rows.seen c.put_dots.new.store.rows in
     let rising : IsRising values = subst IsRising c.list.ensures (c.is_rising.ensures c.if-is_rising.true) in
     where_ok c.put_dots.result
     (λ adds. series_put c.args.metric c.args.tags c.args.fine values values rising (settled_as_is values rising) old new
@@ -26,8 +26,8 @@ put_dots-requires-2-clause-times g c =
 
 pub returns-clause-puts : goal.returns-clause-puts
 returns-clause-puts g c =
-    let old = g.R.Rows.seen c.args.store.now in
-    let new = g.R.Rows.seen c.put_dots-2.new.store in
+    let old = g.R.Rows.seen c.args.store.now.rows in
+    let new = g.R.Rows.seen c.put_dots-2.new.store.rows in
     let settled : (time : ℕ) → value_at c.in-Ok.dots time ≡ last_at c.args.values.now time = λ time. c.in-Ok.ensures time ∙ ap (λ values. last_at values time) c.list-2.ensures in
     where_ok c.put_dots-2.result
     (λ adds. series_put c.args.metric c.args.tags c.args.fine c.in-Ok.dots c.args.values.now c.list-3.ensures.rising settled old new

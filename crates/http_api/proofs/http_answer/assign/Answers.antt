@@ -14,26 +14,26 @@ use Rattle.http_api.proofs.Answering.{as_named, in_error, names_broken, names_re
 use Rattle.http_api.proofs.http_answer.assign.Goals as goal
 
 pub returns-in_err-ids-clause-err : goal.returns-in_err-ids-clause-err
-returns-in_err-ids-clause-err g c = in_error ((config : Config) (queue : List Stored) → WorkBroken (admission config c.args.rule.now.patterns) (Assigns (assign_lists c.args.request.now)) (g.R.Rows.seen c.args.names.now) queue (g.R.Rows.seen c.assign_lists.new.names) queue) c.from_residual.result
-    (λ config queue. names_broken (admission config c.args.rule.now.patterns) (assign_lists c.args.request.now) (g.R.Rows.seen c.args.names.now) (g.R.Rows.seen c.assign_lists.new.names) queue c.in_err-ids.ensures.since
-    (as_named (λ (names : List NameOf). InEach (g.R.Rows.seen c.assign_lists.new.names) (λ h. AssignBegun c.args.rule.now.patterns h (g.R.Rows.seen c.args.names.now).caller (g.R.Rows.seen c.args.names.now).length names (g.R.Rows.seen c.assign_lists.new.names).length)) c.args.request.now c.in_err-ids.ensures.err))
+returns-in_err-ids-clause-err g c = in_error ((config : Config) (queue : List Stored) → WorkBroken (admission config c.args.rule.now.patterns) (Assigns (assign_lists c.args.request.now)) (g.R.Rows.seen c.args.names.now.rows) queue (g.R.Rows.seen c.assign_lists.new.names.rows) queue) c.from_residual.result
+    (λ config queue. names_broken (admission config c.args.rule.now.patterns) (assign_lists c.args.request.now) (g.R.Rows.seen c.args.names.now.rows) (g.R.Rows.seen c.assign_lists.new.names.rows) queue c.in_err-ids.ensures.since
+    (as_named (λ (names : List NameOf). InEach (g.R.Rows.seen c.assign_lists.new.names.rows) (λ h. AssignBegun c.args.rule.now.patterns h (g.R.Rows.seen c.args.names.now.rows).caller (g.R.Rows.seen c.args.names.now.rows).length names (g.R.Rows.seen c.assign_lists.new.names.rows).length)) c.args.request.now c.in_err-ids.ensures.err))
 
 pub returns-in-Ok-clause-ok : goal.returns-in-Ok-clause-ok
 returns-in-Ok-clause-ok g c =
     let bytes = reply_bytes (assign_status c.in-Ok.answers) c.args.closing (assign_body c.widths.result c.in-Ok.answers) in
-    let old = g.R.Rows.seen c.args.names.now in
-    let new = g.R.Rows.seen c.assign_lists.new.names in
-    with_bytes (λ (b : List ℕ). (config : Config) (queue : List Stored) → WorkReplied (admission config c.args.rule.now.patterns) (Assigns (assign_lists c.args.request.now)) c.args.closing (g.R.Rows.seen c.args.names.now) queue b (g.R.Rows.seen c.assign_lists.new.names) queue)
+    let old = g.R.Rows.seen c.args.names.now.rows in
+    let new = g.R.Rows.seen c.assign_lists.new.names.rows in
+    with_bytes (λ (b : List ℕ). (config : Config) (queue : List Stored) → WorkReplied (admission config c.args.rule.now.patterns) (Assigns (assign_lists c.args.request.now)) c.args.closing (g.R.Rows.seen c.args.names.now.rows) queue b (g.R.Rows.seen c.assign_lists.new.names.rows) queue)
     bytes c.told.result (c.told.ensures.ok bytes c.assign_reply.ensures)
     (λ config queue. names_replied (admission config c.args.rule.now.patterns) (assign_lists c.args.request.now) c.args.closing old new queue c.in-Ok.answers c.widths.result c.widths.ensures c.in_ok-ids.ensures.since c.in-Ok.ensures.texts
     (subst (λ (outs : List IdTold). InEach new (λ h. AssignRan c.args.rule.now.patterns h old.caller old.length (named_in (assign_lists c.args.request.now)) outs new.length)) (sym c.in-Ok.ensures.answers)
     (as_named (λ (names : List NameOf). InEach new (λ h. AssignRan c.args.rule.now.patterns h old.caller old.length names (outcomes_in c.in_ok-ids.ids) new.length)) c.args.request.now c.in_ok-ids.ensures.ok)))
 
 pub returns-in-Ok-clause-err : goal.returns-in-Ok-clause-err
-returns-in-Ok-clause-err g c = in_error ((config : Config) (queue : List Stored) → WorkBroken (admission config c.args.rule.now.patterns) (Assigns (assign_lists c.args.request.now)) (g.R.Rows.seen c.args.names.now) queue (g.R.Rows.seen c.assign_lists.new.names) queue) c.told.result
-    (λ config queue. names_untold (admission config c.args.rule.now.patterns) (assign_lists c.args.request.now) (g.R.Rows.seen c.args.names.now) (g.R.Rows.seen c.assign_lists.new.names) queue (outcomes_in c.in_ok-ids.ids) c.in_ok-ids.ensures.since
-    (as_named (λ (names : List NameOf). InEach (g.R.Rows.seen c.assign_lists.new.names) (λ h. AssignRan c.args.rule.now.patterns h (g.R.Rows.seen c.args.names.now).caller (g.R.Rows.seen c.args.names.now).length names (outcomes_in c.in_ok-ids.ids) (g.R.Rows.seen c.assign_lists.new.names).length)) c.args.request.now c.in_ok-ids.ensures.ok))
+returns-in-Ok-clause-err g c = in_error ((config : Config) (queue : List Stored) → WorkBroken (admission config c.args.rule.now.patterns) (Assigns (assign_lists c.args.request.now)) (g.R.Rows.seen c.args.names.now.rows) queue (g.R.Rows.seen c.assign_lists.new.names.rows) queue) c.told.result
+    (λ config queue. names_untold (admission config c.args.rule.now.patterns) (assign_lists c.args.request.now) (g.R.Rows.seen c.args.names.now.rows) (g.R.Rows.seen c.assign_lists.new.names.rows) queue (outcomes_in c.in_ok-ids.ids) c.in_ok-ids.ensures.since
+    (as_named (λ (names : List NameOf). InEach (g.R.Rows.seen c.assign_lists.new.names.rows) (λ h. AssignRan c.args.rule.now.patterns h (g.R.Rows.seen c.args.names.now.rows).caller (g.R.Rows.seen c.args.names.now.rows).length names (outcomes_in c.in_ok-ids.ids) (g.R.Rows.seen c.assign_lists.new.names.rows).length)) c.args.request.now c.in_ok-ids.ensures.ok))
 
 pub returns-in-Err-clause-err : goal.returns-in-Err-clause-err
-returns-in-Err-clause-err g c config queue = names_untold (admission config c.args.rule.now.patterns) (assign_lists c.args.request.now) (g.R.Rows.seen c.args.names.now) (g.R.Rows.seen c.assign_lists.new.names) queue (outcomes_in c.in_ok-ids.ids) c.in_ok-ids.ensures.since
-    (as_named (λ (names : List NameOf). InEach (g.R.Rows.seen c.assign_lists.new.names) (λ h. AssignRan c.args.rule.now.patterns h (g.R.Rows.seen c.args.names.now).caller (g.R.Rows.seen c.args.names.now).length names (outcomes_in c.in_ok-ids.ids) (g.R.Rows.seen c.assign_lists.new.names).length)) c.args.request.now c.in_ok-ids.ensures.ok)
+returns-in-Err-clause-err g c config queue = names_untold (admission config c.args.rule.now.patterns) (assign_lists c.args.request.now) (g.R.Rows.seen c.args.names.now.rows) (g.R.Rows.seen c.assign_lists.new.names.rows) queue (outcomes_in c.in_ok-ids.ids) c.in_ok-ids.ensures.since
+    (as_named (λ (names : List NameOf). InEach (g.R.Rows.seen c.assign_lists.new.names.rows) (λ h. AssignRan c.args.rule.now.patterns h (g.R.Rows.seen c.args.names.now.rows).caller (g.R.Rows.seen c.args.names.now.rows).length names (outcomes_in c.in_ok-ids.ids) (g.R.Rows.seen c.assign_lists.new.names.rows).length)) c.args.request.now c.in_ok-ids.ensures.ok)

@@ -7,20 +7,20 @@ use Rattle.http_api.proofs.Answering.{in_error, nothing, of_error}
 use Rattle.http_api.proofs.http_answer.perform.Goals as goal
 
 pub returns-in-Say-clause-err : goal.returns-in-Say-clause-err
-returns-in-Say-clause-err g c = in_error ((work : Work) → IsTask work c.args.task.now → WorkBroken (admission c.args.config.now c.args.rule.now.patterns) work (g.R.Rows.seen c.args.names.now) c.args.queue.now (g.R.Rows.seen c.args.names.now) c.args.queue.now) c.say.result
-    (λ work is. nothing (admission c.args.config.now c.args.rule.now.patterns) work (g.R.Rows.seen c.args.names.now) c.args.queue.now)
+returns-in-Say-clause-err g c = in_error ((work : Work) → IsTask work c.args.task.now → WorkBroken (admission c.args.config.now c.args.rule.now.patterns) work (g.R.Rows.seen c.args.names.now.rows) c.args.queue.now (g.R.Rows.seen c.args.names.now.rows) c.args.queue.now) c.say.result
+    (λ work is. nothing (admission c.args.config.now c.args.rule.now.patterns) work (g.R.Rows.seen c.args.names.now.rows) c.args.queue.now)
 
 pub returns-in-Assign-clause-err : goal.returns-in-Assign-clause-err
 returns-in-Assign-clause-err g c = of_error c.assign.result
-    (λ broken work is. subst (λ (w : Work). WorkBroken (admission c.args.config.now c.args.rule.now.patterns) w (g.R.Rows.seen c.args.names.now) c.args.queue.now (g.R.Rows.seen c.assign.new.names) c.args.queue.now) (sym (subst (IsTask work) c.in-Assign.is is)) (broken c.args.config.now c.args.queue.now))
+    (λ broken work is. subst (λ (w : Work). WorkBroken (admission c.args.config.now c.args.rule.now.patterns) w (g.R.Rows.seen c.args.names.now.rows) c.args.queue.now (g.R.Rows.seen c.assign.new.names.rows) c.args.queue.now) (sym (subst (IsTask work) c.in-Assign.is is)) (broken c.args.config.now c.args.queue.now))
     c.assign.ensures.err
 
 pub returns-in-Suggest-clause-err : goal.returns-in-Suggest-clause-err
 returns-in-Suggest-clause-err g c = of_error c.suggest.result
-    (λ broken work is. subst (λ (w : Work). WorkBroken (admission c.args.config.now c.args.rule.now.patterns) w (g.R.Rows.seen c.args.names.now) c.args.queue.now (g.R.Rows.seen c.suggest.new.names) c.args.queue.now) (sym (subst (IsTask work) c.in-Suggest.is is).0) (broken (admission c.args.config.now c.args.rule.now.patterns) c.args.queue.now))
+    (λ broken work is. subst (λ (w : Work). WorkBroken (admission c.args.config.now c.args.rule.now.patterns) w (g.R.Rows.seen c.args.names.now.rows) c.args.queue.now (g.R.Rows.seen c.suggest.new.names.rows) c.args.queue.now) (sym (subst (IsTask work) c.in-Suggest.is is).0) (broken (admission c.args.config.now c.args.rule.now.patterns) c.args.queue.now))
     c.suggest.ensures.err
 
 pub returns-in-Ask-clause-err : goal.returns-in-Ask-clause-err
 returns-in-Ask-clause-err g c = of_error c.answer_query.result
-    (λ broken work is. subst (λ (w : Work). WorkBroken (admission c.args.config.now c.args.rule.now.patterns) w (g.R.Rows.seen c.args.names.now) c.args.queue.now (g.R.Rows.seen c.answer_query.new.names) c.args.queue.now) (sym (subst (IsTask work) c.in-Ask.is is).0) (broken (admission c.args.config.now c.args.rule.now.patterns) c.args.queue.now))
+    (λ broken work is. subst (λ (w : Work). WorkBroken (admission c.args.config.now c.args.rule.now.patterns) w (g.R.Rows.seen c.args.names.now.rows) c.args.queue.now (g.R.Rows.seen c.answer_query.new.names.rows) c.args.queue.now) (sym (subst (IsTask work) c.in-Ask.is is).0) (broken (admission c.args.config.now c.args.rule.now.patterns) c.args.queue.now))
     c.answer_query.ensures.err

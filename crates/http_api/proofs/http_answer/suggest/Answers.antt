@@ -13,20 +13,20 @@ use Rattle.http_api.proofs.Answering.{in_error, suggestion_broken, suggestion_re
 use Rattle.http_api.proofs.http_answer.suggest.Goals as goal
 
 pub returns-in_err-found-clause-err : goal.returns-in_err-found-clause-err
-returns-in_err-found-clause-err g c = in_error ((a : Admission) (queue : List Stored) → WorkBroken a (Suggests (suggestion c.args.request.now)) (g.R.Rows.seen c.args.names.now) queue (g.R.Rows.seen c.suggest_names.new.names) queue) c.from_residual.result
-    (λ a queue. suggestion_broken a (suggestion c.args.request.now) (g.R.Rows.seen c.args.names.now) (g.R.Rows.seen c.suggest_names.new.names) queue c.in_err-found.ensures.since c.in_err-found.ensures.err)
+returns-in_err-found-clause-err g c = in_error ((a : Admission) (queue : List Stored) → WorkBroken a (Suggests (suggestion c.args.request.now)) (g.R.Rows.seen c.args.names.now.rows) queue (g.R.Rows.seen c.suggest_names.new.names.rows) queue) c.from_residual.result
+    (λ a queue. suggestion_broken a (suggestion c.args.request.now) (g.R.Rows.seen c.args.names.now.rows) (g.R.Rows.seen c.suggest_names.new.names.rows) queue c.in_err-found.ensures.since c.in_err-found.ensures.err)
 
 pub returns-in-Ok-clause-ok : goal.returns-in-Ok-clause-ok
 returns-in-Ok-clause-ok g c =
     let names = c.in_ok-found.found.items in
     let bytes = reply_bytes status.Ok c.args.closing (names_text names) in
-    with_bytes (λ (b : List ℕ). (a : Admission) (queue : List Stored) → WorkReplied a (Suggests (suggestion c.args.request.now)) c.args.closing (g.R.Rows.seen c.args.names.now) queue b (g.R.Rows.seen c.suggest_names.new.names) queue)
+    with_bytes (λ (b : List ℕ). (a : Admission) (queue : List Stored) → WorkReplied a (Suggests (suggestion c.args.request.now)) c.args.closing (g.R.Rows.seen c.args.names.now.rows) queue b (g.R.Rows.seen c.suggest_names.new.names.rows) queue)
     bytes c.told.result
     (c.told.ensures.ok bytes (subst (λ (body : List ℕ). IfOk c.reply.result (λ r. r.items ≡ reply_bytes status.Ok c.args.closing body)) (c.as_slice-in-Ok.ensures.value ∙ c.in-Ok.ensures ∙ ap names_text c.as_slice.ensures.value) c.reply.ensures))
-    (λ a queue. suggestion_replied a (suggestion c.args.request.now) c.args.closing (g.R.Rows.seen c.args.names.now) (g.R.Rows.seen c.suggest_names.new.names) queue names c.in_ok-found.ensures.since
-    (subst (λ (prefix : List ℕ). InEach (g.R.Rows.seen c.suggest_names.new.names) (λ h. SuggestAsked h (g.R.Rows.seen c.args.names.now).caller (g.R.Rows.seen c.args.names.now).length c.args.request.now.kind prefix c.args.request.now.max c.in_ok-found.found.items (g.R.Rows.seen c.suggest_names.new.names).length)) c.list.ensures c.in_ok-found.ensures.ok))
+    (λ a queue. suggestion_replied a (suggestion c.args.request.now) c.args.closing (g.R.Rows.seen c.args.names.now.rows) (g.R.Rows.seen c.suggest_names.new.names.rows) queue names c.in_ok-found.ensures.since
+    (subst (λ (prefix : List ℕ). InEach (g.R.Rows.seen c.suggest_names.new.names.rows) (λ h. SuggestAsked h (g.R.Rows.seen c.args.names.now.rows).caller (g.R.Rows.seen c.args.names.now.rows).length c.args.request.now.kind prefix c.args.request.now.max c.in_ok-found.found.items (g.R.Rows.seen c.suggest_names.new.names.rows).length)) c.list.ensures c.in_ok-found.ensures.ok))
 
 pub returns-in-Ok-clause-err : goal.returns-in-Ok-clause-err
-returns-in-Ok-clause-err g c = in_error ((a : Admission) (queue : List Stored) → WorkBroken a (Suggests (suggestion c.args.request.now)) (g.R.Rows.seen c.args.names.now) queue (g.R.Rows.seen c.suggest_names.new.names) queue) c.told.result
-    (λ a queue. suggestion_untold a (suggestion c.args.request.now) (g.R.Rows.seen c.args.names.now) (g.R.Rows.seen c.suggest_names.new.names) queue c.in_ok-found.found.items c.in_ok-found.ensures.since
-    (subst (λ (prefix : List ℕ). InEach (g.R.Rows.seen c.suggest_names.new.names) (λ h. SuggestAsked h (g.R.Rows.seen c.args.names.now).caller (g.R.Rows.seen c.args.names.now).length c.args.request.now.kind prefix c.args.request.now.max c.in_ok-found.found.items (g.R.Rows.seen c.suggest_names.new.names).length)) c.list.ensures c.in_ok-found.ensures.ok))
+returns-in-Ok-clause-err g c = in_error ((a : Admission) (queue : List Stored) → WorkBroken a (Suggests (suggestion c.args.request.now)) (g.R.Rows.seen c.args.names.now.rows) queue (g.R.Rows.seen c.suggest_names.new.names.rows) queue) c.told.result
+    (λ a queue. suggestion_untold a (suggestion c.args.request.now) (g.R.Rows.seen c.args.names.now.rows) (g.R.Rows.seen c.suggest_names.new.names.rows) queue c.in_ok-found.found.items c.in_ok-found.ensures.since
+    (subst (λ (prefix : List ℕ). InEach (g.R.Rows.seen c.suggest_names.new.names.rows) (λ h. SuggestAsked h (g.R.Rows.seen c.args.names.now.rows).caller (g.R.Rows.seen c.args.names.now.rows).length c.args.request.now.kind prefix c.args.request.now.max c.in_ok-found.found.items (g.R.Rows.seen c.suggest_names.new.names.rows).length)) c.list.ensures c.in_ok-found.ensures.ok))

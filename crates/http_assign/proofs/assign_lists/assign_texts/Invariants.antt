@@ -5,8 +5,8 @@ use Rattle.http_assign.proofs.assign_lists.assign_texts.Given as goal
 
 abbrev pub invariant-loop-text : goal.invariant-loop-text
 invariant-loop-text g l = record {
-  made : MadeSome (g.R.Rows.seen l.fn.names) (g.R.Rows.seen l.names);
-  goes_on : GoesOn l.rule.patterns (of_kind l.kind (take l.text-index l.texts)) (g.R.Rows.seen l.fn.names) (outcomes_of l.outs.items) (g.R.Rows.seen l.names);
+  made : MadeSome (g.R.Rows.seen l.fn.names.rows) (g.R.Rows.seen l.names.rows);
+  goes_on : GoesOn l.rule.patterns (of_kind l.kind (take l.text-index l.texts)) (g.R.Rows.seen l.fn.names.rows) (outcomes_of l.outs.items) (g.R.Rows.seen l.names.rows);
   each : length l.outs.items ≡ l.text-index;
-  grows : g.R.Rows.stops l.fn.names ≤ g.R.Rows.stops l.names;
+  grows : g.R.Rows.stops l.fn.names.rows ≤ g.R.Rows.stops l.names.rows;
 }

@@ -7,6 +7,6 @@ use Rattle.http_put.proofs.put_elements.put_elements.Given as goal
 
 abbrev pub invariant-loop-element : goal.invariant-loop-element
 invariant-loop-element g l = record {
-  so_far : SoFar (admission l.config l.rule.patterns) (map view (take l.element-index l.elements)) (g.R.Rows.seen l.fn.names) l.fn.queue (texts_of l.outs.items) (g.R.Rows.seen l.names) l.queue;
-  grows : g.R.Rows.stops l.fn.names ≤ g.R.Rows.stops l.names;
+  so_far : SoFar (admission l.config l.rule.patterns) (map view (take l.element-index l.elements)) (g.R.Rows.seen l.fn.names.rows) l.fn.queue (texts_of l.outs.items) (g.R.Rows.seen l.names.rows) l.queue;
+  grows : g.R.Rows.stops l.fn.names.rows ≤ g.R.Rows.stops l.names.rows;
 }

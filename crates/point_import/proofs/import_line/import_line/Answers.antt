@@ -10,8 +10,8 @@ use Rattle.point_import.proofs.import_line.import_line.Goals as goal
 pub returns-in-Ok-Taken-clause-puts : goal.returns-in-Ok-Taken-clause-puts
 returns-in-Ok-Taken-clause-puts g c =
     let line : Line = record { bytes = c.args.bytes.now; ended = c.args.ended } in
-    let old = g.R.Rows.seen c.args.names.now in
-    let new = g.R.Rows.seen c.import_text.new.names in
+    let old = g.R.Rows.seen c.args.names.now.rows in
+    let new = g.R.Rows.seen c.import_text.new.names.rows in
     let puts = subst (λ (o : TextOutcome). PutsText c.args.rule.now.patterns c.text_of-text.result.now old (Ok o) new) c.in-Ok-Taken.field-0-is c.in-Ok-Taken.ensures.puts in
     line_taken c.args.rule.now.patterns line c.args.number old new c.requires.short
     (subst (λ (text : List ℕ). is_blank text ≡ false) c.text_of-text.ensures (sym c.is_blank.ensures ∙ c.if-is_blank.false))

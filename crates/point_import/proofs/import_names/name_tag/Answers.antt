@@ -8,14 +8,14 @@ use Rattle.point_import.proofs.import_names.name_tag.Goals as goal
 
 pub returns-in-Ok-None-clause-names : goal.returns-in-Ok-None-clause-names
 returns-in-Ok-None-clause-names g c =
-    let one = subst (λ (o : Option Kind). Names c.args.rule.now.patterns (g.R.Rows.seen c.args.names.now) ((TagKey, c.args.key.now) ∷ []) (Ok o) (g.R.Rows.seen c.name_one.new.names)) c.in-Ok-None.field-0-is c.in-Ok-None.ensures.names in
-    names_then c.args.rule.now.patterns (g.R.Rows.seen c.args.names.now) (g.R.Rows.seen c.name_one.new.names) (g.R.Rows.seen c.name_one-in-Ok-None.new.names) ((TagKey, c.args.key.now) ∷ []) ((TagValue, c.args.value.now) ∷ []) c.name_one-in-Ok-None.result one c.name_one-in-Ok-None.ensures.names
+    let one = subst (λ (o : Option Kind). Names c.args.rule.now.patterns (g.R.Rows.seen c.args.names.now.rows) ((TagKey, c.args.key.now) ∷ []) (Ok o) (g.R.Rows.seen c.name_one.new.names.rows)) c.in-Ok-None.field-0-is c.in-Ok-None.ensures.names in
+    names_then c.args.rule.now.patterns (g.R.Rows.seen c.args.names.now.rows) (g.R.Rows.seen c.name_one.new.names.rows) (g.R.Rows.seen c.name_one-in-Ok-None.new.names.rows) ((TagKey, c.args.key.now) ∷ []) ((TagValue, c.args.value.now) ∷ []) c.name_one-in-Ok-None.result one c.name_one-in-Ok-None.ensures.names
 
 pub returns-in-Ok-Some-clause-names : goal.returns-in-Ok-Some-clause-names
 returns-in-Ok-Some-clause-names g c =
-    let one = subst (λ (o : Option Kind). Names c.args.rule.now.patterns (g.R.Rows.seen c.args.names.now) ((TagKey, c.args.key.now) ∷ []) (Ok o) (g.R.Rows.seen c.name_one.new.names)) c.in-Ok-Some.field-0-is c.in-Ok-Some.ensures.names in
-    names_full c.args.rule.now.patterns (g.R.Rows.seen c.args.names.now) (g.R.Rows.seen c.name_one.new.names) ((TagKey, c.args.key.now) ∷ []) ((TagValue, c.args.value.now) ∷ []) c.in-Ok-Some.kind one
+    let one = subst (λ (o : Option Kind). Names c.args.rule.now.patterns (g.R.Rows.seen c.args.names.now.rows) ((TagKey, c.args.key.now) ∷ []) (Ok o) (g.R.Rows.seen c.name_one.new.names.rows)) c.in-Ok-Some.field-0-is c.in-Ok-Some.ensures.names in
+    names_full c.args.rule.now.patterns (g.R.Rows.seen c.args.names.now.rows) (g.R.Rows.seen c.name_one.new.names.rows) ((TagKey, c.args.key.now) ∷ []) ((TagValue, c.args.value.now) ∷ []) c.in-Ok-Some.kind one
 
 pub returns-in-Err-clause-names : goal.returns-in-Err-clause-names
 returns-in-Err-clause-names g c =
-    names_fault c.args.rule.now.patterns (g.R.Rows.seen c.args.names.now) (g.R.Rows.seen c.name_one.new.names) ((TagKey, c.args.key.now) ∷ []) ((TagValue, c.args.value.now) ∷ []) c.in-Err.fault c.in-Err.ensures.names
+    names_fault c.args.rule.now.patterns (g.R.Rows.seen c.args.names.now.rows) (g.R.Rows.seen c.name_one.new.names.rows) ((TagKey, c.args.key.now) ∷ []) ((TagValue, c.args.value.now) ∷ []) c.in-Err.fault c.in-Err.ensures.names

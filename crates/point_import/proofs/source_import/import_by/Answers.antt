@@ -18,7 +18,7 @@ pub returns-in_err-reader-clause-imports : goal.returns-in_err-reader-clause-imp
 returns-in_err-reader-clause-imports g c =
     let s = g.S.Source in
     let patterns = c.args.rule.now.patterns in
-    let old = g.R.Rows.seen c.args.names.now in
+    let old = g.R.Rows.seen c.args.names.now.rows in
     let start = nothing_taken patterns (s.taken c.args.source.now) (s.left c.args.source.now) old in
     let p = err_from_is_err_and c.from_residual.result c.from_residual.ensures.1 in
     rw (p.1, p.2) (out_of_memory patterns (s.taken c.args.source.now) (s.taken c.args.source.now) (s.left c.args.source.now) (s.left c.args.source.now) old old 0 (no_bytes LONGEST_LINE) start (omega arith))
@@ -26,15 +26,15 @@ returns-in_err-reader-clause-imports g c =
 pub loop-reader-init : goal.loop-reader-init
 loop-reader-init g c =
     let s = g.S.Source in
-    let start = nothing_taken c.args.rule.now.patterns (s.taken c.args.source.now) (s.left c.args.source.now) (g.R.Rows.seen c.args.names.now) in
+    let start = nothing_taken c.args.rule.now.patterns (s.taken c.args.source.now) (s.left c.args.source.now) (g.R.Rows.seen c.args.names.now.rows) in
     rw c.in_ok-reader.ensures (record { put = start; longest = refl; few = omega arith; most = omega arith; later = omega arith; grows = omega arith })
 
 pub returns-in_err-end-clause-imports : goal.returns-in_err-end-clause-imports
 returns-in_err-end-clause-imports g c =
     let s = g.S.Source in
     let patterns = c.args.rule.now.patterns in
-    let old = g.R.Rows.seen c.args.names.now in
-    let now = g.R.Rows.seen c.loop-reader.names in
+    let old = g.R.Rows.seen c.args.names.now.rows in
+    let now = g.R.Rows.seen c.loop-reader.names.rows in
     let p = err_from_is_err_and c.from_residual-in_err-end.result c.from_residual-in_err-end.ensures.1 in
     rw (p.1, p.2) (not_found patterns (s.taken c.args.source.now) (s.taken c.loop-reader.source) (s.taken c.next_line.new.source) (s.left c.args.source.now) (s.left c.loop-reader.source) (s.left c.next_line.new.source) old now c.loop-reader.count c.loop-reader.reader c.next_line.new.self c.loop-reader.invariant.put c.in_err-end.field-0.0 c.in_err-end.ensures.next)
 
@@ -51,28 +51,28 @@ pub returns-in-Err-clause-imports : goal.returns-in-Err-clause-imports
 returns-in-Err-clause-imports g c =
     let s = g.S.Source in
     let patterns = c.args.rule.now.patterns in
-    let old = g.R.Rows.seen c.args.names.now in
-    let now = g.R.Rows.seen c.loop-reader.names in
+    let old = g.R.Rows.seen c.args.names.now.rows in
+    let now = g.R.Rows.seen c.loop-reader.names.rows in
     let n = subst (λ (line : NextLine). NextLineIs (s.taken c.loop-reader.source) (s.taken c.next_line.new.source) (s.left c.loop-reader.source) (s.left c.next_line.new.source) c.loop-reader.reader (Ok line) c.next_line.new.self) c.in-Whole.is c.in_ok-end.ensures.next in
     let f = found patterns (s.taken c.args.source.now) (s.taken c.loop-reader.source) (s.taken c.next_line.new.source) (s.left c.args.source.now) (s.left c.loop-reader.source) (s.left c.next_line.new.source) old now c.loop-reader.count c.loop-reader.reader c.next_line.new.self c.loop-reader.invariant.put (Whole c.in-Whole.end) n in
-    let read = subst (λ (number : ℕ). PutsLine patterns (whole_line (take c.in-Whole.end c.bytes.result.now)) number now (Err c.in-Err.fault) (g.R.Rows.seen c.import_line.new.names)) c.number.ensures c.in-Err.ensures.puts in
-    let one = subst (λ (xs : List ℕ). PutsLine patterns (whole_line (take c.in-Whole.end xs)) (c.next_line.new.self.lines + 1) now (Err c.in-Err.fault) (g.R.Rows.seen c.import_line.new.names)) c.bytes.ensures read in
-    line_failed patterns (s.taken c.args.source.now) (s.taken c.next_line.new.source) (s.left c.args.source.now) (s.left c.next_line.new.source) old now c.loop-reader.count c.next_line.new.self f.0 f.2 c.in-Whole.end (c.next_line.new.self.lines + 1) (g.R.Rows.seen c.import_line.new.names) c.in-Err.fault refl f.1 one
+    let read = subst (λ (number : ℕ). PutsLine patterns (whole_line (take c.in-Whole.end c.bytes.result.now)) number now (Err c.in-Err.fault) (g.R.Rows.seen c.import_line.new.names.rows)) c.number.ensures c.in-Err.ensures.puts in
+    let one = subst (λ (xs : List ℕ). PutsLine patterns (whole_line (take c.in-Whole.end xs)) (c.next_line.new.self.lines + 1) now (Err c.in-Err.fault) (g.R.Rows.seen c.import_line.new.names.rows)) c.bytes.ensures read in
+    line_failed patterns (s.taken c.args.source.now) (s.taken c.next_line.new.source) (s.left c.args.source.now) (s.left c.next_line.new.source) old now c.loop-reader.count c.next_line.new.self f.0 f.2 c.in-Whole.end (c.next_line.new.self.lines + 1) (g.R.Rows.seen c.import_line.new.names.rows) c.in-Err.fault refl f.1 one
 
 pub returns-in-Err-clause-cause : goal.returns-in-Err-clause-cause
-returns-in-Err-clause-cause g c = line_cause _ _ (g.R.Rows.stops c.args.names.now) (g.R.Rows.stops c.loop-reader.names) (g.R.Rows.stops c.import_line.new.names) c.in-Err.fault c.loop-reader.invariant.grows c.in-Err.ensures.cause
+returns-in-Err-clause-cause g c = line_cause _ _ (g.R.Rows.stops c.args.names.now.rows) (g.R.Rows.stops c.loop-reader.names.rows) (g.R.Rows.stops c.import_line.new.names.rows) c.in-Err.fault c.loop-reader.invariant.grows c.in-Err.ensures.cause
 
 pub loop-reader-preserved : goal.loop-reader-preserved
 loop-reader-preserved g c =
     let s = g.S.Source in
     let patterns = c.args.rule.now.patterns in
-    let old = g.R.Rows.seen c.args.names.now in
-    let now = g.R.Rows.seen c.loop-reader.names in
+    let old = g.R.Rows.seen c.args.names.now.rows in
+    let now = g.R.Rows.seen c.loop-reader.names.rows in
     let n = subst (λ (line : NextLine). NextLineIs (s.taken c.loop-reader.source) (s.taken c.next_line.new.source) (s.left c.loop-reader.source) (s.left c.next_line.new.source) c.loop-reader.reader (Ok line) c.next_line.new.self) c.in-Whole.is c.in_ok-end.ensures.next in
     let f = found patterns (s.taken c.args.source.now) (s.taken c.loop-reader.source) (s.taken c.next_line.new.source) (s.left c.args.source.now) (s.left c.loop-reader.source) (s.left c.next_line.new.source) old now c.loop-reader.count c.loop-reader.reader c.next_line.new.self c.loop-reader.invariant.put (Whole c.in-Whole.end) n in
-    let read = subst (λ (number : ℕ). PutsLine patterns (whole_line (take c.in-Whole.end c.bytes.result.now)) number now (Ok c.in-Ok.more) (g.R.Rows.seen c.import_line.new.names)) c.number.ensures c.in-Ok.ensures.puts in
-    let one = subst (λ (xs : List ℕ). PutsLine patterns (whole_line (take c.in-Whole.end xs)) (c.next_line.new.self.lines + 1) now (Ok c.in-Ok.more) (g.R.Rows.seen c.import_line.new.names)) c.bytes.ensures read in
-    let put = line_put patterns (s.taken c.args.source.now) (s.taken c.next_line.new.source) (s.left c.args.source.now) (s.left c.next_line.new.source) old now c.loop-reader.count c.next_line.new.self f.0 c.in-Whole.end (c.next_line.new.self.lines + 1) c.in-Ok.more (g.R.Rows.seen c.import_line.new.names) f.1 one in
+    let read = subst (λ (number : ℕ). PutsLine patterns (whole_line (take c.in-Whole.end c.bytes.result.now)) number now (Ok c.in-Ok.more) (g.R.Rows.seen c.import_line.new.names.rows)) c.number.ensures c.in-Ok.ensures.puts in
+    let one = subst (λ (xs : List ℕ). PutsLine patterns (whole_line (take c.in-Whole.end xs)) (c.next_line.new.self.lines + 1) now (Ok c.in-Ok.more) (g.R.Rows.seen c.import_line.new.names.rows)) c.bytes.ensures read in
+    let put = line_put patterns (s.taken c.args.source.now) (s.taken c.next_line.new.source) (s.left c.args.source.now) (s.left c.next_line.new.source) old now c.loop-reader.count c.next_line.new.self f.0 c.in-Whole.end (c.next_line.new.self.lines + 1) c.in-Ok.more (g.R.Rows.seen c.import_line.new.names.rows) f.1 one in
     let most = f.2 in
     let few = c.loop-reader.invariant.few in
     let same = ap (λ (r : Reading). r.lines) n.keeps in
@@ -96,11 +96,11 @@ pub returns-in-Last-clause-imports : goal.returns-in-Last-clause-imports
 returns-in-Last-clause-imports g c =
     let s = g.S.Source in
     let patterns = c.args.rule.now.patterns in
-    let old = g.R.Rows.seen c.args.names.now in
-    let now = g.R.Rows.seen c.loop-reader.names in
+    let old = g.R.Rows.seen c.args.names.now.rows in
+    let now = g.R.Rows.seen c.loop-reader.names.rows in
     let n = subst (λ (line : NextLine). NextLineIs (s.taken c.loop-reader.source) (s.taken c.next_line.new.source) (s.left c.loop-reader.source) (s.left c.next_line.new.source) c.loop-reader.reader (Ok line) c.next_line.new.self) c.in-Last.is c.in_ok-end.ensures.next in
     let f = found patterns (s.taken c.args.source.now) (s.taken c.loop-reader.source) (s.taken c.next_line.new.source) (s.left c.args.source.now) (s.left c.loop-reader.source) (s.left c.next_line.new.source) old now c.loop-reader.count c.loop-reader.reader c.next_line.new.self c.loop-reader.invariant.put Last n in
-    let new = g.R.Rows.seen c.import_line-in-Last.new.names in
+    let new = g.R.Rows.seen c.import_line-in-Last.new.names.rows in
     let read = subst (λ (number : ℕ). PutsLine patterns (last_line c.bytes-in-Last.result.now) number now c.import_line-in-Last.result new) c.number-in-Last.ensures c.import_line-in-Last.ensures.puts in
     let one = subst (λ (xs : List ℕ). PutsLine patterns (last_line xs) (c.next_line.new.self.lines + 1) now c.import_line-in-Last.result new) c.bytes-in-Last.ensures read in
     elim c.match-import_line-2.branch [
@@ -113,17 +113,17 @@ returns-in-Last-clause-imports g c =
 pub returns-in-Last-clause-cause : goal.returns-in-Last-clause-cause
 returns-in-Last-clause-cause g c =
     elim c.match-import_line-2.branch [
-      | in-Ok-import_line w ↦ subst (λ (r : Result ℕ ImportFault). IfErr r (ImportCause (g.S.Source.faults c.args.source.now) (g.S.Source.faults c.next_line.new.source) (g.R.Rows.stops c.args.names.now) (g.R.Rows.stops c.import_line-in-Last.new.names))) (sym w.result-is) tt
-      | in-Err-import_line w ↦ subst (λ (r : Result ℕ ImportFault). IfErr r (ImportCause (g.S.Source.faults c.args.source.now) (g.S.Source.faults c.next_line.new.source) (g.R.Rows.stops c.args.names.now) (g.R.Rows.stops c.import_line-in-Last.new.names))) (sym w.result-is)
-          (line_cause _ _ (g.R.Rows.stops c.args.names.now) (g.R.Rows.stops c.loop-reader.names) (g.R.Rows.stops c.import_line-in-Last.new.names) w.in-Err-import_line.fault c.loop-reader.invariant.grows w.in-Err-import_line.ensures.cause)
+      | in-Ok-import_line w ↦ subst (λ (r : Result ℕ ImportFault). IfErr r (ImportCause (g.S.Source.faults c.args.source.now) (g.S.Source.faults c.next_line.new.source) (g.R.Rows.stops c.args.names.now.rows) (g.R.Rows.stops c.import_line-in-Last.new.names.rows))) (sym w.result-is) tt
+      | in-Err-import_line w ↦ subst (λ (r : Result ℕ ImportFault). IfErr r (ImportCause (g.S.Source.faults c.args.source.now) (g.S.Source.faults c.next_line.new.source) (g.R.Rows.stops c.args.names.now.rows) (g.R.Rows.stops c.import_line-in-Last.new.names.rows))) (sym w.result-is)
+          (line_cause _ _ (g.R.Rows.stops c.args.names.now.rows) (g.R.Rows.stops c.loop-reader.names.rows) (g.R.Rows.stops c.import_line-in-Last.new.names.rows) w.in-Err-import_line.fault c.loop-reader.invariant.grows w.in-Err-import_line.ensures.cause)
     ]
 
 pub returns-in-TooLong-clause-imports : goal.returns-in-TooLong-clause-imports
 returns-in-TooLong-clause-imports g c =
     let s = g.S.Source in
     let patterns = c.args.rule.now.patterns in
-    let old = g.R.Rows.seen c.args.names.now in
-    let now = g.R.Rows.seen c.loop-reader.names in
+    let old = g.R.Rows.seen c.args.names.now.rows in
+    let now = g.R.Rows.seen c.loop-reader.names.rows in
     let n = subst (λ (line : NextLine). NextLineIs (s.taken c.loop-reader.source) (s.taken c.next_line.new.source) (s.left c.loop-reader.source) (s.left c.next_line.new.source) c.loop-reader.reader (Ok line) c.next_line.new.self) c.in-TooLong.is c.in_ok-end.ensures.next in
     let f = found patterns (s.taken c.args.source.now) (s.taken c.loop-reader.source) (s.taken c.next_line.new.source) (s.left c.args.source.now) (s.left c.loop-reader.source) (s.left c.next_line.new.source) old now c.loop-reader.count c.loop-reader.reader c.next_line.new.self c.loop-reader.invariant.put TooLong n in
     too_long patterns (s.taken c.args.source.now) (s.taken c.next_line.new.source) (s.left c.args.source.now) (s.left c.next_line.new.source) old now c.loop-reader.count c.next_line.new.self f.0 f.2 c.number-in-TooLong.result c.number-in-TooLong.ensures f.1

@@ -11,7 +11,7 @@ use Rattle.point_put.proofs.point_key.pairs_for.Goals as goal
 pub loop-tag-init : goal.loop-tag-init
 loop-tag-init g c = record {
   asked = asked_nothing (admission c.args.config.now c.args.rule.now.patterns) _;
-  pairs = subst (λ (xs : List (ℕ × ℕ)). PairsShown (g.R.Rows.seen c.args.names.now) [] xs) (sym c.new-pairs.ensures) (pairs_none _);
+  pairs = subst (λ (xs : List (ℕ × ℕ)). PairsShown (g.R.Rows.seen c.args.names.now.rows) [] xs) (sym c.new-pairs.ensures) (pairs_none _);
   possible = c.requires.possible;
   grows = omega arith;
 }
@@ -33,7 +33,7 @@ loop-tag-preserved g c =
     let more = pairs_more _ _ (take i tags) c.loop-tag.pairs.items c.add_pair.new.pairs.items tag c.in_ok-pair.pair c.in_ok-pair.ensures.asked.made.since.extends c.loop-tag.invariant.pairs c.in_ok-pair.ensures.ids c.add_pair.ensures.rising c.add_pair.ensures.permuted in
     record {
       asked = tag_asked (admission c.args.config.now c.args.rule.now.patterns) tags i tag _ _ _ c.in_ok-pair.pair c.loop-tag-test.true c.tag-item.is c.loop-tag.invariant.asked c.in_ok-pair.ensures.asked;
-      pairs = subst (λ (ts : List Pair). PairsShown (g.R.Rows.seen c.pair_for.new.names) ts c.add_pair.new.pairs.items) (sym (taken tags i tag c.loop-tag-test.true c.tag-item.is)) more;
+      pairs = subst (λ (ts : List Pair). PairsShown (g.R.Rows.seen c.pair_for.new.names.rows) ts c.add_pair.new.pairs.items) (sym (taken tags i tag c.loop-tag-test.true c.tag-item.is)) more;
       possible = c.in_ok-pair.ensures.leaves.possible;
       grows = let a = c.loop-tag.invariant.grows in let b = c.in_ok-pair.ensures.leaves.grows in omega (arith, a, b);
     }
@@ -41,4 +41,4 @@ loop-tag-preserved g c =
 pub returns-in_err-pair-clause-asked : goal.returns-in_err-pair-clause-asked
 returns-in_err-pair-clause-asked g c =
     let failed = tag_failed {U = ArrayVec (ℕ × ℕ)} (admission c.args.config.now c.args.rule.now.patterns) c.args.tags.now c.loop-tag.tag-index c.tag-item.result _ _ _ c.in_err-pair.field-0.0 c.loop-tag-test.true c.tag-item.is c.loop-tag.invariant.asked c.in_err-pair.ensures.asked in
-    passed_on (λ r. NamesAsked {T = ArrayVec (ℕ × ℕ)} (admission c.args.config.now c.args.rule.now.patterns) (tag_names c.args.tags.now) (g.R.Rows.seen c.args.names.now) r (g.R.Rows.seen c.pair_for.new.names)) c.in_err-pair.field-0.0 c.from_residual.result c.from_residual.ensures.1 failed
+    passed_on (λ r. NamesAsked {T = ArrayVec (ℕ × ℕ)} (admission c.args.config.now c.args.rule.now.patterns) (tag_names c.args.tags.now) (g.R.Rows.seen c.args.names.now.rows) r (g.R.Rows.seen c.pair_for.new.names.rows)) c.in_err-pair.field-0.0 c.from_residual.result c.from_residual.ensures.1 failed

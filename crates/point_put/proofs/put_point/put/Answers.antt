@@ -7,7 +7,7 @@ use Rattle.point_put.proofs.put_point.put.Goals as goal
 
 pub returns-in_err-key-clause-says : goal.returns-in_err-key-clause-says
 returns-in_err-key-clause-says g c =
-    passed_on (λ r. PutSays (admission c.args.config.now c.args.rule.now.patterns) (data_point c.args.point.now) (g.R.Rows.seen c.args.names.now) r (g.R.Rows.seen c.key_for.new.names)) c.in_err-key.field-0.0 c.from_residual.result c.from_residual.ensures.1
+    passed_on (λ r. PutSays (admission c.args.config.now c.args.rule.now.patterns) (data_point c.args.point.now) (g.R.Rows.seen c.args.names.now.rows) r (g.R.Rows.seen c.key_for.new.names.rows)) c.in_err-key.field-0.0 c.from_residual.result c.from_residual.ensures.1
     (put_failed (admission c.args.config.now c.args.rule.now.patterns) (data_point c.args.point.now) _ _ c.in_err-key.field-0.0 c.in_err-key.ensures.asked)
 
 pub returns-in_err-key-clause-few : goal.returns-in_err-key-clause-few

@@ -14,7 +14,7 @@ use Rattle.query_run.proofs.collection.collect.Goals as goal
 pub loop-init : goal.loop-init
 loop-init g c = record {
   far = scan_starts (passes c.args.filters.now) c.args.metric c.args.start c.args.end c.start-scan.result _ c.make.result (known c.none.result)
-      (subst (λ (x : ℕ × ℕ). IsStart (g.R.Rows.seen c.args.names.now).base.widths c.args.metric x.0 x.1 c.start-scan.result) (λ i. (c.base_of.ensures i, c.base_of-2.ensures i))
+      (subst (λ (x : ℕ × ℕ). IsStart (g.R.Rows.seen c.args.names.now.rows).base.widths c.args.metric x.0 x.1 c.start-scan.result) (λ i. (c.base_of.ensures i, c.base_of-2.ensures i))
       (starts_there c.widths.result _ c.args.metric c.base_of.result c.base_of-2.result c.start-scan.result c.widths.ensures c.requires.metric c.start-scan.ensures.starts))
       (gathered_none (passes c.args.filters.now) _ c.args.metric c.args.start c.args.end c.make.result (known c.none.result) c.make.ensures) c.none.ensures;
   possible = c.requires.possible;
@@ -26,7 +26,7 @@ turn-requires g c = turn_widths (passes c.args.filters.now) c.args.metric c.args
 
 pub returns-in_err-found-clause-says : goal.returns-in_err-found-clause-says
 returns-in_err-found-clause-says g c =
-    passed_on (λ r. CollectSays (passes c.args.filters.now) c.args.metric c.args.start c.args.end (g.R.Rows.seen c.args.names.now) r (g.R.Rows.seen c.turn.new.rows)) (ask_fault c.in_err-found.field-0.0) c.from_residual.result c.from_residual.ensures.1
+    passed_on (λ r. CollectSays (passes c.args.filters.now) c.args.metric c.args.start c.args.end (g.R.Rows.seen c.args.names.now.rows) r (g.R.Rows.seen c.turn.new.rows.rows)) (ask_fault c.in_err-found.field-0.0) c.from_residual.result c.from_residual.ensures.1
     (no_turn (passes c.args.filters.now) _ _ _ c.args.metric c.args.start c.args.end c.loop.scan c.loop.collected.spans (known c.loop.collected.names) c.in_err-found.field-0.0 c.loop.invariant.far c.in_err-found.ensures.made)
 
 pub returns-in_default-clause-says : goal.returns-in_default-clause-says
@@ -38,14 +38,14 @@ take_row-requires-clause-row g c =
     let t = turned (passes c.args.filters.now) _ _ _ c.args.metric c.args.start c.args.end c.loop.scan c.loop.collected.spans (known c.loop.collected.names) c.in_ok-found.field-0 c.in-Some.found c.loop.invariant.far c.in-Some.is c.in_ok-found.ensures.made c.in_ok-found.ensures.leaves.possible in
     let row = (row_found (passes c.args.filters.now) _ _ _ c.args.metric c.args.start c.args.end c.loop.scan c.loop.collected.spans (known c.loop.collected.names) c.in-Some.found t).row in
     let left : c.turn.new.self ≡ after_turn c.loop.scan (Ok (Some c.in-Some.found)) = c.in_ok-found.ensures.left ∙ ap (λ o. after_turn c.loop.scan (Ok o)) c.in-Some.is in
-    let widths : c.turn.new.self.widths ≡ (g.R.Rows.seen c.args.names.now).base.widths = ap (λ (l : Left). l.widths) left ∙ scan_widths (passes c.args.filters.now) c.args.metric c.args.start c.args.end c.loop.scan _ _ c.loop.collected.spans (known c.loop.collected.names) c.loop.invariant.far in
-    (c.args.metric, subst (λ (w : Widths). FoundRow (g.R.Rows.seen c.turn.new.rows) w c.args.metric c.args.start c.args.end c.in-Some.found) (sym widths) row)
+    let widths : c.turn.new.self.widths ≡ (g.R.Rows.seen c.args.names.now.rows).base.widths = ap (λ (l : Left). l.widths) left ∙ scan_widths (passes c.args.filters.now) c.args.metric c.args.start c.args.end c.loop.scan _ _ c.loop.collected.spans (known c.loop.collected.names) c.loop.invariant.far in
+    (c.args.metric, subst (λ (w : Widths). FoundRow (g.R.Rows.seen c.turn.new.rows.rows) w c.args.metric c.args.start c.args.end c.in-Some.found) (sym widths) row)
 
 pub take_row-requires-clause-behind : goal.take_row-requires-clause-behind
 take_row-requires-clause-behind g c =
     let t = turned (passes c.args.filters.now) _ _ _ c.args.metric c.args.start c.args.end c.loop.scan c.loop.collected.spans (known c.loop.collected.names) c.in_ok-found.field-0 c.in-Some.found c.loop.invariant.far c.in-Some.is c.in_ok-found.ensures.made c.in_ok-found.ensures.leaves.possible in
     let left : c.turn.new.self ≡ after_turn c.loop.scan (Ok (Some c.in-Some.found)) = c.in_ok-found.ensures.left ∙ ap (λ o. after_turn c.loop.scan (Ok o)) c.in-Some.is in
-    let widths : c.turn.new.self.widths ≡ (g.R.Rows.seen c.args.names.now).base.widths = ap (λ (l : Left). l.widths) left ∙ scan_widths (passes c.args.filters.now) c.args.metric c.args.start c.args.end c.loop.scan _ _ c.loop.collected.spans (known c.loop.collected.names) c.loop.invariant.far in
+    let widths : c.turn.new.self.widths ≡ (g.R.Rows.seen c.args.names.now.rows).base.widths = ap (λ (l : Left). l.widths) left ∙ scan_widths (passes c.args.filters.now) c.args.metric c.args.start c.args.end c.loop.scan _ _ c.loop.collected.spans (known c.loop.collected.names) c.loop.invariant.far in
     subst (λ (w : Widths). StandsBehind w c.loop.collected.spans c.in-Some.found) (sym widths)
     (row_behind (passes c.args.filters.now) _ _ _ c.args.metric c.args.start c.args.end c.loop.scan c.loop.collected.spans (known c.loop.collected.names) c.in-Some.found t)
 
@@ -54,9 +54,9 @@ returns-in_err-take_row-clause-says g c =
     let t = turned (passes c.args.filters.now) _ _ _ c.args.metric c.args.start c.args.end c.loop.scan c.loop.collected.spans (known c.loop.collected.names) c.in_ok-found.field-0 c.in-Some.found c.loop.invariant.far c.in-Some.is c.in_ok-found.ensures.made c.in_ok-found.ensures.leaves.possible in
     let row = (row_found (passes c.args.filters.now) _ _ _ c.args.metric c.args.start c.args.end c.loop.scan c.loop.collected.spans (known c.loop.collected.names) c.in-Some.found t).row in
     let left : c.turn.new.self ≡ after_turn c.loop.scan (Ok (Some c.in-Some.found)) = c.in_ok-found.ensures.left ∙ ap (λ o. after_turn c.loop.scan (Ok o)) c.in-Some.is in
-    let widths : c.turn.new.self.widths ≡ (g.R.Rows.seen c.args.names.now).base.widths = ap (λ (l : Left). l.widths) left ∙ scan_widths (passes c.args.filters.now) c.args.metric c.args.start c.args.end c.loop.scan _ _ c.loop.collected.spans (known c.loop.collected.names) c.loop.invariant.far in
-    let asked = asked_there (passes c.args.filters.now) _ _ c.args.metric c.args.start c.args.end c.in-Some.found (g.R.Rows.seen c.turn.new.rows) (g.R.Rows.seen c.take_row.new.names) c.loop.collected c.take_row.new.collected (Err c.in_err-take_row.field-0.0) widths row c.in_err-take_row.ensures.asked in
-    passed_on (λ r. CollectSays (passes c.args.filters.now) c.args.metric c.args.start c.args.end (g.R.Rows.seen c.args.names.now) r (g.R.Rows.seen c.take_row.new.names)) c.in_err-take_row.field-0.0 c.from_residual-in_err-take_row.result c.from_residual-in_err-take_row.ensures.1
+    let widths : c.turn.new.self.widths ≡ (g.R.Rows.seen c.args.names.now.rows).base.widths = ap (λ (l : Left). l.widths) left ∙ scan_widths (passes c.args.filters.now) c.args.metric c.args.start c.args.end c.loop.scan _ _ c.loop.collected.spans (known c.loop.collected.names) c.loop.invariant.far in
+    let asked = asked_there (passes c.args.filters.now) _ _ c.args.metric c.args.start c.args.end c.in-Some.found (g.R.Rows.seen c.turn.new.rows.rows) (g.R.Rows.seen c.take_row.new.names.rows) c.loop.collected c.take_row.new.collected (Err c.in_err-take_row.field-0.0) widths row c.in_err-take_row.ensures.asked in
+    passed_on (λ r. CollectSays (passes c.args.filters.now) c.args.metric c.args.start c.args.end (g.R.Rows.seen c.args.names.now.rows) r (g.R.Rows.seen c.take_row.new.names.rows)) c.in_err-take_row.field-0.0 c.from_residual-in_err-take_row.result c.from_residual-in_err-take_row.ensures.1
     (turn_fails (passes c.args.filters.now) _ _ _ c.args.metric c.args.start c.args.end c.loop.scan c.loop.collected.spans (known c.loop.collected.names) c.in-Some.found t _ c.loop.collected c.take_row.new.collected c.in_err-take_row.field-0.0 refl asked)
 
 pub take_row-requires-clause-scan : goal.take_row-requires-clause-scan
@@ -67,8 +67,8 @@ loop-preserved g c =
     let t = turned (passes c.args.filters.now) _ _ _ c.args.metric c.args.start c.args.end c.loop.scan c.loop.collected.spans (known c.loop.collected.names) c.in_ok-found.field-0 c.in-Some.found c.loop.invariant.far c.in-Some.is c.in_ok-found.ensures.made c.in_ok-found.ensures.leaves.possible in
     let row = (row_found (passes c.args.filters.now) _ _ _ c.args.metric c.args.start c.args.end c.loop.scan c.loop.collected.spans (known c.loop.collected.names) c.in-Some.found t).row in
     let left : c.turn.new.self ≡ after_turn c.loop.scan (Ok (Some c.in-Some.found)) = c.in_ok-found.ensures.left ∙ ap (λ o. after_turn c.loop.scan (Ok o)) c.in-Some.is in
-    let widths : c.turn.new.self.widths ≡ (g.R.Rows.seen c.args.names.now).base.widths = ap (λ (l : Left). l.widths) left ∙ scan_widths (passes c.args.filters.now) c.args.metric c.args.start c.args.end c.loop.scan _ _ c.loop.collected.spans (known c.loop.collected.names) c.loop.invariant.far in
-    let asked = asked_there (passes c.args.filters.now) _ _ c.args.metric c.args.start c.args.end c.in-Some.found (g.R.Rows.seen c.turn.new.rows) (g.R.Rows.seen c.take_row.new.names) c.loop.collected c.take_row.new.collected (Ok tt) widths row c.in_ok-take_row.ensures.asked in
+    let widths : c.turn.new.self.widths ≡ (g.R.Rows.seen c.args.names.now.rows).base.widths = ap (λ (l : Left). l.widths) left ∙ scan_widths (passes c.args.filters.now) c.args.metric c.args.start c.args.end c.loop.scan _ _ c.loop.collected.spans (known c.loop.collected.names) c.loop.invariant.far in
+    let asked = asked_there (passes c.args.filters.now) _ _ c.args.metric c.args.start c.args.end c.in-Some.found (g.R.Rows.seen c.turn.new.rows.rows) (g.R.Rows.seen c.take_row.new.names.rows) c.loop.collected c.take_row.new.collected (Ok tt) widths row c.in_ok-take_row.ensures.asked in
     record {
       far = goes_on (passes c.args.filters.now) _ _ c.args.metric c.args.start c.args.end (after_turn c.loop.scan (Ok (Some c.in-Some.found))) c.turn.new.self c.take_row.new.scan c.take_row.new.collected.spans (known c.take_row.new.collected.names) left
           (turn_goes (passes c.args.filters.now) _ _ _ c.args.metric c.args.start c.args.end c.loop.scan c.loop.collected.spans (known c.loop.collected.names) c.in-Some.found t _ c.take_row.new.collected.spans (known c.take_row.new.collected.names) asked)

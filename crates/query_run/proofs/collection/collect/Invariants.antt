@@ -8,7 +8,7 @@ use Rattle.query_run.proofs.collection.collect.Given as goal
 -- the rows so far were collected
 abbrev pub invariant-loop : goal.invariant-loop
 invariant-loop g l = record {
-  far : SoFar (passes l.filters) l.fn.metric l.fn.start l.fn.end l.scan (g.R.Rows.seen l.initial.names) l.collected.spans (known l.collected.names) (g.R.Rows.seen l.names);
-  possible : IsPossible (g.R.Rows.seen l.names);
-  grows : g.R.Rows.stops l.initial.names ≤ g.R.Rows.stops l.names;
+  far : SoFar (passes l.filters) l.fn.metric l.fn.start l.fn.end l.scan (g.R.Rows.seen l.initial.names.rows) l.collected.spans (known l.collected.names) (g.R.Rows.seen l.names.rows);
+  possible : IsPossible (g.R.Rows.seen l.names.rows);
+  grows : g.R.Rows.stops l.initial.names.rows ≤ g.R.Rows.stops l.names.rows;
 }

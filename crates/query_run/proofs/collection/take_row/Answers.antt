@@ -30,7 +30,7 @@ row_dots-requires-clause-up_to g c =
 pub returns-in_err-dots-clause-asked : goal.returns-in_err-dots-clause-asked
 returns-in_err-dots-clause-asked g c = λ id found.
     let of = key_of_row _ c.args.scan.now.widths id c.args.start c.args.end c.args.found.now c.key_of-key.result found c.key_of-key.ensures.is_key (sym c.list.ensures ∙ c.key_of-key.ensures.row) in
-    passed_on (λ r. RowAsked (passes c.args.filters.now) c.args.scan.now.widths id c.args.start c.args.end c.args.found.now (g.R.Rows.seen c.args.names.now) c.args.collected.now r (g.R.Rows.seen c.args.names.now) c.args.collected.now) c.in_err-dots.field-0.0 c.from_residual.result c.from_residual.ensures.1
+    passed_on (λ r. RowAsked (passes c.args.filters.now) c.args.scan.now.widths id c.args.start c.args.end c.args.found.now (g.R.Rows.seen c.args.names.now.rows) c.args.collected.now r (g.R.Rows.seen c.args.names.now.rows) c.args.collected.now) c.in_err-dots.field-0.0 c.from_residual.result c.from_residual.ensures.1
     (dots_failed (passes c.args.filters.now) _ c.args.scan.now.widths id c.args.start c.args.end c.args.found.now c.key_of-key.result c.args.collected.now c.args.collected.now c.in_err-dots.field-0.0 of (let e = c.passes.ensures in let v = c.as_slice.ensures.value in let t = c.if-not-passes.false in cc) c.in_err-dots.ensures)
 
 pub name_pairs-requires-clause-knows : goal.name_pairs-requires-clause-knows
@@ -40,7 +40,7 @@ pub returns-in_err-name_pairs-clause-asked : goal.returns-in_err-name_pairs-clau
 returns-in_err-name_pairs-clause-asked g c = λ id found.
     let of = key_of_row _ c.args.scan.now.widths id c.args.start c.args.end c.args.found.now c.key_of-key.result found c.key_of-key.ensures.is_key (sym c.list.ensures ∙ c.key_of-key.ensures.row) in
     let after : Collected = record { spans = c.args.collected.now.spans; names = c.name_pairs.new.list } in
-    passed_on (λ r. RowAsked (passes c.args.filters.now) c.args.scan.now.widths id c.args.start c.args.end c.args.found.now (g.R.Rows.seen c.args.names.now) c.args.collected.now r (g.R.Rows.seen c.name_pairs.new.names) after) (ask_fault c.in_err-name_pairs.field-0.0) c.from_residual-in_err-name_pairs.result
+    passed_on (λ r. RowAsked (passes c.args.filters.now) c.args.scan.now.widths id c.args.start c.args.end c.args.found.now (g.R.Rows.seen c.args.names.now.rows) c.args.collected.now r (g.R.Rows.seen c.name_pairs.new.names.rows) after) (ask_fault c.in_err-name_pairs.field-0.0) c.from_residual-in_err-name_pairs.result
     c.from_residual-in_err-name_pairs.ensures.1
     (names_failed (passes c.args.filters.now) _ _ c.args.scan.now.widths id c.args.start c.args.end c.args.found.now c.key_of-key.result c.as_slice-2.result.now c.args.collected.now after c.in_err-name_pairs.field-0.0 of c.as_slice-2.ensures.value c.in_err-name_pairs.ensures.asked)
 
@@ -54,7 +54,7 @@ pub returns-in_err-add_dots-clause-asked : goal.returns-in_err-add_dots-clause-a
 returns-in_err-add_dots-clause-asked g c = λ id found.
     let of = key_of_row _ c.args.scan.now.widths id c.args.start c.args.end c.args.found.now c.key_of-key.result found c.key_of-key.ensures.is_key (sym c.list.ensures ∙ c.key_of-key.ensures.row) in
     let after : Collected = record { spans = c.add_dots.new.spans; names = c.name_pairs.new.list } in
-    passed_on (λ r. RowAsked (passes c.args.filters.now) c.args.scan.now.widths id c.args.start c.args.end c.args.found.now (g.R.Rows.seen c.args.names.now) c.args.collected.now r (g.R.Rows.seen c.name_pairs.new.names) after) OutOfMemory c.from_residual-in_err-add_dots.result c.from_residual-in_err-add_dots.ensures.1
+    passed_on (λ r. RowAsked (passes c.args.filters.now) c.args.scan.now.widths id c.args.start c.args.end c.args.found.now (g.R.Rows.seen c.args.names.now.rows) c.args.collected.now r (g.R.Rows.seen c.name_pairs.new.names.rows) after) OutOfMemory c.from_residual-in_err-add_dots.result c.from_residual-in_err-add_dots.ensures.1
     (add_failed (passes c.args.filters.now) _ _ c.args.scan.now.widths id c.args.start c.args.end c.args.found.now c.key_of-key.result c.as_slice-2.result.now c.args.collected.now after (known c.name_pairs.new.list) of c.as_slice-2.ensures.value c.in_ok-name_pairs.ensures.asked)
 
 pub returns-clause-asked : goal.returns-clause-asked

@@ -22,7 +22,7 @@ returns-in_err-more-clause-says g c =
     let subs = c.args.query.now.subs in
     let i = c.loop-sub.sub-index in
     let w = at_subs subs c.list-sub-items.result.now i c.sub-item.result c.list-sub-items.ensures c.loop-sub-test.true c.sub-item.is in
-    passed_on (λ r. QuerySays c.args.query.now (g.R.Rows.seen c.args.names.now) r (g.R.Rows.seen c.work.new.names)) c.in_err-more.field-0.0 c.from_residual.result c.from_residual.ensures.1
+    passed_on (λ r. QuerySays c.args.query.now (g.R.Rows.seen c.args.names.now.rows) r (g.R.Rows.seen c.work.new.names.rows)) c.in_err-more.field-0.0 c.from_residual.result c.from_residual.ensures.1
     (one_refused c.args.query.now c.sub-item.result _ _ _ (take i subs) (drop (suc i) subs) _ c.in_err-more.field-0.0 (cut_at c.args.query.now subs i c.sub-item.result refl w.0 w.1) c.loop-sub.invariant.progress c.in_err-more.ensures.says)
 
 pub returns-in_err-add-clause-says : goal.returns-in_err-add-clause-says
@@ -30,7 +30,7 @@ returns-in_err-add-clause-says g c =
     let subs = c.args.query.now.subs in
     let i = c.loop-sub.sub-index in
     let w = at_subs subs c.list-sub-items.result.now i c.sub-item.result c.list-sub-items.ensures c.loop-sub-test.true c.sub-item.is in
-    passed_on (λ r. QuerySays c.args.query.now (g.R.Rows.seen c.args.names.now) r (g.R.Rows.seen c.work.new.names)) OutOfMemory c.from_residual-in_err-add.result c.from_residual-in_err-add.ensures.1
+    passed_on (λ r. QuerySays c.args.query.now (g.R.Rows.seen c.args.names.now.rows) r (g.R.Rows.seen c.work.new.names.rows)) OutOfMemory c.from_residual-in_err-add.result c.from_residual-in_err-add.ensures.1
     (one_refused c.args.query.now c.sub-item.result _ _ _ (take i subs) (drop (suc i) subs) _ OutOfMemory (cut_at c.args.query.now subs i c.sub-item.result refl w.0 w.1) c.loop-sub.invariant.progress (no_room c.args.query.now c.sub-item.result _ _ _ c.in_ok-more.ensures.says))
 
 pub loop-sub-preserved : goal.loop-sub-preserved

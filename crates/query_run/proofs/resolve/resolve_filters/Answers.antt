@@ -14,12 +14,12 @@ loop-filter-init g c = record { far = far_none filter_names IsIdFilter by_filter
 
 pub returns-in_err-resolve_filter-clause-says : goal.returns-in_err-resolve_filter-clause-says
 returns-in_err-resolve_filter-clause-says g c =
-    passed_on (λ r. Resolves {X = Vec IdFilter Global} (g.R.Rows.seen c.args.names.now) (flat_map filter_names c.args.filters.now) (λ s list. AreIdFilters s c.args.filters.now list.items) r (g.R.Rows.seen c.resolve_filter.new.names)) c.in_err-resolve_filter.field-0.0 c.from_residual.result c.from_residual.ensures.1
+    passed_on (λ r. Resolves {X = Vec IdFilter Global} (g.R.Rows.seen c.args.names.now.rows) (flat_map filter_names c.args.filters.now) (λ s list. AreIdFilters s c.args.filters.now list.items) r (g.R.Rows.seen c.resolve_filter.new.names.rows)) c.in_err-resolve_filter.field-0.0 c.from_residual.result c.from_residual.ensures.1
     (far_fails filter_names IsIdFilter by_filter_later _ _ _ c.args.filters.now c.loop-filter.filter-index c.filter-item.result c.loop-filter.list.items c.loop-filter-test.true c.filter-item.is c.loop-filter.invariant.far c.in_err-resolve_filter.field-0.0 c.in_err-resolve_filter.ensures.says)
 
 pub returns-in_err-push-clause-says : goal.returns-in_err-push-clause-says
 returns-in_err-push-clause-says g c =
-    passed_on (λ r. Resolves {X = Vec IdFilter Global} (g.R.Rows.seen c.args.names.now) (flat_map filter_names c.args.filters.now) (λ s list. AreIdFilters s c.args.filters.now list.items) r (g.R.Rows.seen c.resolve_filter.new.names)) OutOfMemory c.from_residual-in_err-push.result c.from_residual-in_err-push.ensures.1
+    passed_on (λ r. Resolves {X = Vec IdFilter Global} (g.R.Rows.seen c.args.names.now.rows) (flat_map filter_names c.args.filters.now) (λ s list. AreIdFilters s c.args.filters.now list.items) r (g.R.Rows.seen c.resolve_filter.new.names.rows)) OutOfMemory c.from_residual-in_err-push.result c.from_residual-in_err-push.ensures.1
     (far_lost filter_names IsIdFilter by_filter_later _ _ _ c.args.filters.now c.loop-filter.filter-index c.filter-item.result c.loop-filter.list.items c.loop-filter-test.true c.filter-item.is c.loop-filter.invariant.far c.in_ok-resolve_filter.ensures.says.0)
 
 pub loop-filter-preserved : goal.loop-filter-preserved

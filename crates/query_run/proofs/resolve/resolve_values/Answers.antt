@@ -13,16 +13,16 @@ loop-value-init g c = record { far = far_none value_name IsValue value_later _ c
 
 pub returns-in_err-resolve_name-clause-says : goal.returns-in_err-resolve_name-clause-says
 returns-in_err-resolve_name-clause-says g c =
-    let old = g.R.Rows.seen c.args.names.now in
-    let new = g.R.Rows.seen c.resolve_name.new.names in
+    let old = g.R.Rows.seen c.args.names.now.rows in
+    let new = g.R.Rows.seen c.resolve_name.new.names.rows in
     passed_on (λ r. Resolves {X = Vec ℕ Global} old (map (λ name. (TagValue, name)) c.args.values.now) (λ s ids. AreIds s c.args.values.now ids.items) r new) c.in_err-resolve_name.field-0.0 c.from_residual.result c.from_residual.ensures.1
     (subst (λ (l : List NameOf). IsUnresolved old l c.in_err-resolve_name.field-0.0 new) (value_names c.args.values.now)
     (far_fails value_name IsValue value_later _ _ _ c.args.values.now c.loop-value.value-index c.value-item.result c.loop-value.ids.items c.loop-value-test.true c.value-item.is c.loop-value.invariant.far c.in_err-resolve_name.field-0.0 c.in_err-resolve_name.ensures.says))
 
 pub returns-in_err-push-clause-says : goal.returns-in_err-push-clause-says
 returns-in_err-push-clause-says g c =
-    let old = g.R.Rows.seen c.args.names.now in
-    let new = g.R.Rows.seen c.resolve_name.new.names in
+    let old = g.R.Rows.seen c.args.names.now.rows in
+    let new = g.R.Rows.seen c.resolve_name.new.names.rows in
     passed_on (λ r. Resolves {X = Vec ℕ Global} old (map (λ name. (TagValue, name)) c.args.values.now) (λ s ids. AreIds s c.args.values.now ids.items) r new) OutOfMemory c.from_residual-in_err-push.result c.from_residual-in_err-push.ensures.1
     (subst (λ (l : List NameOf). IsUnresolved old l OutOfMemory new) (value_names c.args.values.now)
     (far_lost value_name IsValue value_later _ _ _ c.args.values.now c.loop-value.value-index c.value-item.result c.loop-value.ids.items c.loop-value-test.true c.value-item.is c.loop-value.invariant.far c.in_ok-resolve_name.ensures.says.0))
@@ -38,4 +38,4 @@ loop-value-preserved g c = record {
 pub returns-clause-says : goal.returns-clause-says
 returns-clause-says g c =
     let far = far_all value_name IsValue value_later _ _ c.args.values.now c.loop-value.value-index c.loop-value.ids.items c.loop-value-test.false c.loop-value.invariant.far in
-    (subst (λ (l : List NameOf). AreResolved (g.R.Rows.seen c.args.names.now) l (g.R.Rows.seen c.loop-value.names)) (value_names c.args.values.now) far.resolved, far.are)
+    (subst (λ (l : List NameOf). AreResolved (g.R.Rows.seen c.args.names.now.rows) l (g.R.Rows.seen c.loop-value.names.rows)) (value_names c.args.values.now) far.resolved, far.are)

@@ -4,12 +4,12 @@ use Rattle.query_run.proofs.NameReads.{passed_on, is_listed, not_listed, name_as
 use Rattle.query_run.proofs.row_names.name_id.Goals as goal
 
 pub returns-then-contains_key-clause-asked : goal.returns-then-contains_key-clause-asked
-returns-then-contains_key-clause-asked g c = is_listed (g.R.Rows.seen c.args.names.now) c.args.kind c.args.list.now.entries c.args.id (sym c.contains_key.ensures ∙ c.if-contains_key.true)
+returns-then-contains_key-clause-asked g c = is_listed (g.R.Rows.seen c.args.names.now.rows) c.args.kind c.args.list.now.entries c.args.id (sym c.contains_key.ensures ∙ c.if-contains_key.true)
 
 pub returns-in_err-name-clause-asked : goal.returns-in_err-name-clause-asked
 returns-in_err-name-clause-asked g c =
     let none = not_listed c.args.list.now.entries c.args.id (sym c.contains_key.ensures ∙ c.if-contains_key.false) in
-    passed_on (λ r. IdAsked (g.R.Rows.seen c.args.names.now) c.args.kind c.args.id c.args.list.now.entries r c.args.list.now.entries (g.R.Rows.seen c.name_of.new.self)) c.in_err-name.field-0.0 c.from_residual.result c.from_residual.ensures.1
+    passed_on (λ r. IdAsked (g.R.Rows.seen c.args.names.now.rows) c.args.kind c.args.id c.args.list.now.entries r c.args.list.now.entries (g.R.Rows.seen c.name_of.new.self.rows)) c.in_err-name.field-0.0 c.from_residual.result c.from_residual.ensures.1
     (name_asked _ _ c.args.kind c.args.id c.args.list.now.entries c.in_err-name.field-0.0 none c.in_err-name.ensures.made)
 
 pub returns-in-Ok-clause-asked : goal.returns-in-Ok-clause-asked

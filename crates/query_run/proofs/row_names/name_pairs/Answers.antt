@@ -8,7 +8,7 @@ name_pair-requires-clause-knows g c = pairs_known _ _ _ _ _ c.args.pairs.now c.l
 
 pub returns-in_err-name_pair-clause-asked : goal.returns-in_err-name_pair-clause-asked
 returns-in_err-name_pair-clause-asked g c =
-    passed_on (λ r. NamesAsked (g.R.Rows.seen c.args.names.now) (known c.args.list.now) (ids_of c.args.pairs.now) r (known c.name_pair.new.list) (g.R.Rows.seen c.name_pair.new.names)) c.in_err-name_pair.field-0.0 c.from_residual.result c.from_residual.ensures.1
+    passed_on (λ r. NamesAsked (g.R.Rows.seen c.args.names.now.rows) (known c.args.list.now) (ids_of c.args.pairs.now) r (known c.name_pair.new.list) (g.R.Rows.seen c.name_pair.new.names.rows)) c.in_err-name_pair.field-0.0 c.from_residual.result c.from_residual.ensures.1
     (pairs_cut _ _ _ _ _ c.args.pairs.now c.loop-pair.pair-index c.loop-pair-test.true c.loop-pair.invariant.read c.in_err-name_pair.ensures.asked)
 
 pub loop-pair-init : goal.loop-pair-init

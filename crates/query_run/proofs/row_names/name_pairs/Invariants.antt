@@ -6,7 +6,7 @@ use Rattle.query_run.proofs.row_names.name_pairs.Given as goal
 -- the names of the pairs that were passed were asked
 abbrev pub invariant-loop-pair : goal.invariant-loop-pair
 invariant-loop-pair g l = record {
-  read : NamesRead (g.R.Rows.seen l.initial.names) (known l.initial.list) (ids_of (take l.pair-index l.pairs)) (g.R.Rows.seen l.names) (known l.list);
-  possible : IsPossible (g.R.Rows.seen l.names);
-  grows : g.R.Rows.stops l.initial.names ≤ g.R.Rows.stops l.names;
+  read : NamesRead (g.R.Rows.seen l.initial.names.rows) (known l.initial.list) (ids_of (take l.pair-index l.pairs)) (g.R.Rows.seen l.names.rows) (known l.list);
+  possible : IsPossible (g.R.Rows.seen l.names.rows);
+  grows : g.R.Rows.stops l.initial.names.rows ≤ g.R.Rows.stops l.names.rows;
 }

@@ -13,12 +13,12 @@ returns-in-Some-clause-says g c = sub_barred c.args.query.now c.args.sub.now _ c
 
 pub returns-in_err-metric-clause-says : goal.returns-in_err-metric-clause-says
 returns-in_err-metric-clause-says g c =
-    passed_on (λ r. SubSays c.args.query.now c.args.sub.now (g.R.Rows.seen c.args.names.now) r (g.R.Rows.seen c.resolve_name.new.names)) c.in_err-metric.field-0.0 c.from_residual.result c.from_residual.ensures.1
+    passed_on (λ r. SubSays c.args.query.now c.args.sub.now (g.R.Rows.seen c.args.names.now.rows) r (g.R.Rows.seen c.resolve_name.new.names.rows)) c.in_err-metric.field-0.0 c.from_residual.result c.from_residual.ensures.1
     (metric_refused c.args.query.now c.args.sub.now _ _ c.in_err-metric.field-0.0 (sym c.barred.ensures ∙ c.in_default.is) c.in_err-metric.ensures.says)
 
 pub returns-in_err-filters-clause-says : goal.returns-in_err-filters-clause-says
 returns-in_err-filters-clause-says g c =
-    passed_on (λ r. SubSays c.args.query.now c.args.sub.now (g.R.Rows.seen c.args.names.now) r (g.R.Rows.seen c.resolve_filters.new.names)) c.in_err-filters.field-0.0 c.from_residual-in_err-filters.result c.from_residual-in_err-filters.ensures.1
+    passed_on (λ r. SubSays c.args.query.now c.args.sub.now (g.R.Rows.seen c.args.names.now.rows) r (g.R.Rows.seen c.resolve_filters.new.names.rows)) c.in_err-filters.field-0.0 c.from_residual-in_err-filters.result c.from_residual-in_err-filters.ensures.1
     (filters_refused c.args.query.now c.args.sub.now c.list.result.now _ _ _ c.in_err-filters.field-0.0 c.list.ensures (sym c.barred.ensures ∙ c.in_default.is) c.in_ok-metric.ensures.says.0 c.in_err-filters.ensures.says)
 
 pub collect-requires-clause-metric : goal.collect-requires-clause-metric
@@ -29,7 +29,7 @@ returns-in_err-collected-clause-says g c =
     let q = c.args.query.now in
     let s = c.args.sub.now in
     let cut = c.in_err-collected.ensures.says in
-    passed_on (λ r. SubSays q s (g.R.Rows.seen c.args.names.now) r (g.R.Rows.seen c.collect.new.names)) c.in_err-collected.field-0.0 c.from_residual-in_err-collected.result c.from_residual-in_err-collected.ensures.1
+    passed_on (λ r. SubSays q s (g.R.Rows.seen c.args.names.now.rows) r (g.R.Rows.seen c.collect.new.names.rows)) c.in_err-collected.field-0.0 c.from_residual-in_err-collected.result c.from_residual-in_err-collected.ensures.1
     (collect_refused q s _ _ _ c.in_ok-metric.metric c.deref.result.now (sym c.barred.ensures ∙ c.in_default.is) c.in_err-collected.field-0.0 cut
     (begun s c.in_ok-metric.metric c.list.result.now c.in_ok-filters.filters.items c.deref.result.now _ _ _ _ cut.own c.list.ensures c.deref.ensures.value c.in_ok-metric.ensures.says c.in_ok-filters.ensures.says cut.made))
 

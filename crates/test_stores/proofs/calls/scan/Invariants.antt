@@ -3,4 +3,4 @@ use Rattle.test_stores.proofs.calls.scan.Given as goal
 
 -- the ids of the rows have the widths that the scan was started with
 abbrev pub invariant-loop : goal.invariant-loop
-invariant-loop g l = l.scan.widths ≡ (g.R.Rows.seen l.names).base.widths
+invariant-loop g l = l.scan.widths ≡ (g.R.Rows.seen l.names.rows).base.widths

@@ -1,5 +1,5 @@
 use Rattle.std.proofs.Common.{◌∙◌}
-use Rattle.uid_table.proofs.Keeping.{same_name_key, found_kept, after_get, cap_of}
+use Rattle.uid_table.proofs.Keeping.{same_name_key, found_kept, after_get, cap_get}
 use Rattle.uid_table.proofs.cache.kept_id.Goals as goal
 
 pub returns-clause-found : goal.returns-clause-found
@@ -9,4 +9,4 @@ pub returns-clause-kept : goal.returns-clause-kept
 returns-clause-kept c = after_get _ same_name_key _ _ c.args.key.now c.get.follows.holds-at-none
 
 pub returns-clause-cap : goal.returns-clause-cap
-returns-clause-cap c = cap_of _ _ _ c.get.follows.holds-at-none
+returns-clause-cap c = cap_get _ same_name_key _ _ c.args.key.now c.get.follows.holds-at-none

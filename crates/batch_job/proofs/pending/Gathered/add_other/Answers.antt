@@ -9,5 +9,5 @@ add_read-requires-clause-known g c = λ p is. known_by c.args.text.now c.args.pa
 
 pub returns-in-Ok-true-clause-adds : goal.returns-in-Ok-true-clause-adds
 returns-in-Ok-true-clause-adds g c =
-    text_adds c.args.self.now c.add_known.new.self (g.R.Rows.seen c.args.store.now) c.args.text.now c.args.parts.now c.requires.parts
+    text_adds c.args.self.now c.add_known.new.self (g.R.Rows.seen c.args.store.now.rows) c.args.text.now c.args.parts.now c.requires.parts
     (subst (λ (known : Bool). AddsKnown c.args.parts.now c.args.self.now known c.add_known.new.self) c.in-Ok-true.field-0-test c.in-Ok-true.ensures.known)
