@@ -10,56 +10,60 @@ use Rattle.tsd_daemon.specs.ConnClocks.{ClockTells}
 use Rattle.tsd_daemon.specs.ConnPieces.{PieceTaken, TakesNext, no_piece}
 use Rattle.tsd_daemon.specs.ConnReplies.{no_counts}
 use Rattle.tsd_daemon.specs.ConnRequests.{begins_http, conn_requests, http_asks, telnet_asks}
-use Rattle.tsd_daemon.specs.ServedConns.{AsksBytes, ConnCauses, HasConnCause, Passes, QueuesBytes, ServesBytes}
+use Rattle.tsd_daemon.specs.ServedConns.{AsksBytes, ConnCauses, HasConnCause, Passes, QueuesBytes, ServesBytes, TakesBytes}
 use Rattle.tsd_daemon.specs.Talks.{Ends, HasClockCause, HasEndCause, Stand, Start, Talks}
 use Rattle.tsd_daemon.proofs.Giving.{gave_none}
 use Rattle.tsd_daemon.proofs.Pieces.{piece_moved, talk_no_piece, talk_piece}
 use Rattle.tsd_daemon.proofs.Talking.{talk_come, talk_memory, talk_start}
 
-abbrev start_of : Seen → Option (List ℕ) → Option (List ℕ) → ClockTells → Option (List ℕ) → List Stored → Start
-start_of seen taken left clock held queue = record { seen = seen; taken = taken; left = left; clock = clock; held = held; queue = queue }
+abbrev start_of : Seen → Option (List ℕ) → Option (List ℕ) → Option (List ℕ) → ClockTells → Option (List ℕ) → List Stored → Start
+start_of seen taken left last clock held queue = record { seen = seen; taken = taken; left = left; last = last; clock = clock; held = held; queue = queue }
 
 abbrev first_stand : Seen → Option (List ℕ) → List Stored → Stand
 first_stand seen held queue = record { seen = seen; held = held; queue = queue; waiting = []; counts = no_counts }
 
 -- ---- what a served connection says
 
-pub ends_served : (c : Admission) (from : Start) (taken left : Option (List ℕ)) (clock : ClockTells) (result : Served) (seen : Seen) (held : Option (List ℕ)) (queue : List Stored) → Ends c from taken left clock result seen held queue
+pub ends_served : (c : Admission) (from : Start) (taken left last : Option (List ℕ)) (clock : ClockTells) (result : Served) (seen : Seen) (held : Option (List ℕ)) (queue : List Stored) → Ends c from taken left last clock result seen held queue
     → Passes from.taken taken from.left left from.held held from.clock.moments clock.moments (ServesBytes c from.seen result seen)
-ends_served c from taken left clock result seen held queue e = record { input = e.input; output = e.output; times = e.times; takes = e.takes; leaves = e.leaves; gives = e.gives; ticks = e.ticks; so = (record { since = e.since; served = λ h l f. (e.served h l f).served }, e.fills) }
+ends_served c from taken left last clock result seen held queue e = record { input = e.input; output = e.output; times = e.times; takes = e.takes; leaves = e.leaves; gives = e.gives; ticks = e.ticks; so = (record { since = e.since; served = λ h l f. (e.served h l f).served }, e.fills) }
 
-pub ends_queued : (c : Admission) (from : Start) (taken left : Option (List ℕ)) (clock : ClockTells) (result : Served) (seen : Seen) (held : Option (List ℕ)) (queue : List Stored) → Ends c from taken left clock result seen held queue
+pub ends_queued : (c : Admission) (from : Start) (taken left last : Option (List ℕ)) (clock : ClockTells) (result : Served) (seen : Seen) (held : Option (List ℕ)) (queue : List Stored) → Ends c from taken left last clock result seen held queue
     → Passes from.taken taken from.left left from.held held from.clock.moments clock.moments (QueuesBytes c from.seen from.queue result seen queue)
-ends_queued c from taken left clock result seen held queue e = record { input = e.input; output = e.output; times = e.times; takes = e.takes; leaves = e.leaves; gives = e.gives; ticks = e.ticks; so = e.served }
+ends_queued c from taken left last clock result seen held queue e = record { input = e.input; output = e.output; times = e.times; takes = e.takes; leaves = e.leaves; gives = e.gives; ticks = e.ticks; so = e.served }
 
-pub ends_asked : (c : Admission) (from : Start) (taken left : Option (List ℕ)) (clock : ClockTells) (result : Served) (seen : Seen) (held : Option (List ℕ)) (queue : List Stored) → Ends c from taken left clock result seen held queue
+pub ends_asked : (c : Admission) (from : Start) (taken left last : Option (List ℕ)) (clock : ClockTells) (result : Served) (seen : Seen) (held : Option (List ℕ)) (queue : List Stored) → Ends c from taken left last clock result seen held queue
     → Passes from.taken taken from.left left from.held held from.clock.moments clock.moments (AsksBytes c from.seen from.clock.calls result seen clock.calls)
-ends_asked c from taken left clock result seen held queue e = record { input = e.input; output = e.output; times = e.times; takes = e.takes; leaves = e.leaves; gives = e.gives; ticks = e.ticks; so = (record { since = e.since; served = λ h l f. (e.served h l f).served }, e.called) }
+ends_asked c from taken left last clock result seen held queue e = record { input = e.input; output = e.output; times = e.times; takes = e.takes; leaves = e.leaves; gives = e.gives; ticks = e.ticks; so = (record { since = e.since; served = λ h l f. (e.served h l f).served }, e.called) }
+
+pub ends_taken : (c : Admission) (from : Start) (taken left last : Option (List ℕ)) (clock : ClockTells) (result : Served) (seen : Seen) (held : Option (List ℕ)) (queue : List Stored) → Ends c from taken left last clock result seen held queue
+    → Passes from.taken taken from.left left from.held held from.clock.moments clock.moments (TakesBytes c from.seen from.last result seen last)
+ends_taken c from taken left last clock result seen held queue e = record { input = e.input; output = e.output; times = e.times; takes = e.takes; leaves = e.leaves; gives = e.gives; ticks = e.ticks; so = λ h l f. record { served = (e.served h l f).served; last_take = e.pieces h l f } }
 
 -- ---- ends before a session begins
 
-pub none_taken : (c : Admission) (seen : Seen) (taken left : Option (List ℕ)) (clock : ClockTells) (held : Option (List ℕ)) (queue : List Stored) → Ends c (start_of seen taken left clock held queue) taken left clock answer.OutOfMemory seen held queue
-none_taken c seen taken left clock held queue = talk_memory c (start_of seen taken left clock held queue) (record { taken = taken; left = left; clock = clock; size = 0 }) (first_stand seen held queue) conn_requests (omega arith) (talk_start c seen taken left clock held queue) refl
+pub none_taken : (c : Admission) (seen : Seen) (taken left last : Option (List ℕ)) (clock : ClockTells) (held : Option (List ℕ)) (queue : List Stored) → Ends c (start_of seen taken left last clock held queue) taken left last clock answer.OutOfMemory seen held queue
+none_taken c seen taken left last clock held queue = talk_memory c (start_of seen taken left last clock held queue) (record { taken = taken; left = left; last = last; clock = clock; size = 0 }) (first_stand seen held queue) conn_requests (omega arith) (talk_start c seen taken left last clock held queue) refl
 
-started : (c : Admission) (seen : Seen) (taken left : Option (List ℕ)) (clock : ClockTells) (held : Option (List ℕ)) (queue : List Stored) (input : PieceTaken) → input ≡ no_piece
-    → Talks c (start_of seen taken left clock held queue) (record { taken = taken; left = left; clock = clock; size = input.taken }) (first_stand seen held queue) conn_requests
-started c seen taken left clock held queue input none = subst (λ (i : PieceTaken). Talks c (start_of seen taken left clock held queue) (record { taken = taken; left = left; clock = clock; size = i.taken }) (first_stand seen held queue) conn_requests) (sym none) (talk_start c seen taken left clock held queue)
+started : (c : Admission) (seen : Seen) (taken left last : Option (List ℕ)) (clock : ClockTells) (held : Option (List ℕ)) (queue : List Stored) (input : PieceTaken) → input ≡ no_piece
+    → Talks c (start_of seen taken left last clock held queue) (record { taken = taken; left = left; last = last; clock = clock; size = input.taken }) (first_stand seen held queue) conn_requests
+started c seen taken left last clock held queue input none = subst (λ (i : PieceTaken). Talks c (start_of seen taken left last clock held queue) (record { taken = taken; left = left; last = last; clock = clock; size = i.taken }) (first_stand seen held queue) conn_requests) (sym none) (talk_start c seen taken left last clock held queue)
 
 least : (input : PieceTaken) → input ≡ no_piece → input.taken ≤ 2 ^ 40
 least input none = let e = ap (λ (i : PieceTaken). i.taken) none in omega (arith, e)
 
-pub no_piece_taken : (c : Admission) (seen : Seen) (taken left taken' left' : Option (List ℕ)) (clock : ClockTells) (held : Option (List ℕ)) (queue : List Stored) (input new : PieceTaken) (end : Served) → input ≡ no_piece → TakesNext taken taken' left left' input (Err end) new
-    → Ends c (start_of seen taken left clock held queue) taken' left' clock end seen held queue
-no_piece_taken c seen taken left taken' left' clock held queue input new end none t =
-    talk_no_piece c (start_of seen taken left clock held queue) taken left taken' left' clock (first_stand seen held queue) held input new end conn_requests (least input none) (started c seen taken left clock held queue input none) refl
-    (piece_moved taken taken' left left' held held [] input new (Err end) (gave_none held []) t)
+pub no_piece_taken : (c : Admission) (seen : Seen) (taken left last taken' left' last' : Option (List ℕ)) (clock : ClockTells) (held : Option (List ℕ)) (queue : List Stored) (input new : PieceTaken) (end : Served) → input ≡ no_piece → TakesNext taken taken' left left' last last' input (Err end) new
+    → Ends c (start_of seen taken left last clock held queue) taken' left' last' clock end seen held queue
+no_piece_taken c seen taken left last taken' left' last' clock held queue input new end none t =
+    talk_no_piece c (start_of seen taken left last clock held queue) taken left last taken' left' last' clock (first_stand seen held queue) held input new end conn_requests (least input none) (started c seen taken left last clock held queue input none) refl
+    (piece_moved taken taken' left left' last last' held held [] input new (Err end) (gave_none held []) t)
 
 -- ---- the first piece
 
-first_piece : (c : Admission) (seen : Seen) (taken left taken' left' : Option (List ℕ)) (clock : ClockTells) (held : Option (List ℕ)) (queue : List Stored) (input new : PieceTaken) → input ≡ no_piece → TakesNext taken taken' left left' input (Ok tt) new
-    → Talks c (start_of seen taken left clock held queue) (record { taken = taken'; left = left'; clock = clock; size = new.taken }) (first_stand seen held queue) (λ more. conn_requests (new.piece ++ more))
-first_piece c seen taken left taken' left' clock held queue input new none t =
-    talk_piece c (start_of seen taken left clock held queue) taken left taken' left' clock (first_stand seen held queue) held input new conn_requests (started c seen taken left clock held queue input none) refl (piece_moved taken taken' left left' held held [] input new (Ok tt) (gave_none held []) t)
+first_piece : (c : Admission) (seen : Seen) (taken left last taken' left' last' : Option (List ℕ)) (clock : ClockTells) (held : Option (List ℕ)) (queue : List Stored) (input new : PieceTaken) → input ≡ no_piece → TakesNext taken taken' left left' last last' input (Ok tt) new
+    → Talks c (start_of seen taken left last clock held queue) (record { taken = taken'; left = left'; last = last'; clock = clock; size = new.taken }) (first_stand seen held queue) (λ more. conn_requests (new.piece ++ more))
+first_piece c seen taken left last taken' left' last' clock held queue input new none t =
+    talk_piece c (start_of seen taken left last clock held queue) taken left last taken' left' last' clock (first_stand seen held queue) held input new conn_requests (started c seen taken left last clock held queue input none) refl (piece_moved taken taken' left left' last last' held held [] input new (Ok tt) (gave_none held []) t)
 
 chosen : (piece more : List ℕ) (b : Bool) → 0 < length piece → begins_http piece ≡ b → conn_requests (piece ++ more) ≡ (if b then http_asks (piece ++ more) else telnet_asks (piece ++ more))
 chosen [] more b some e = absurd (omega (arith, some))
@@ -69,10 +73,10 @@ some_bytes : (new : PieceTaken) (more : List ℕ) → (new.piece ≡ more) × (0
 some_bytes new more (is, some) = subst (λ (p : List ℕ). 0 < length p) (sym is) some
 
 -- the first byte decides what is asked
-pub begins : (c : Admission) (seen : Seen) (taken left taken' left' : Option (List ℕ)) (clock : ClockTells) (held : Option (List ℕ)) (queue : List Stored) (input new : PieceTaken) (b : Bool) → input ≡ no_piece → TakesNext taken taken' left left' input (Ok tt) new → begins_http new.piece ≡ b
-    → Talks c (start_of seen taken left clock held queue) (record { taken = taken'; left = left'; clock = clock; size = new.taken }) (first_stand seen held queue) (λ more. if b then http_asks (new.piece ++ more) else telnet_asks (new.piece ++ more))
-begins c seen taken left taken' left' clock held queue input new b none t is =
-    talk_come c (start_of seen taken left clock held queue) _ _ (λ more. conn_requests (new.piece ++ more)) (λ more. if b then http_asks (new.piece ++ more) else telnet_asks (new.piece ++ more)) (first_piece c seen taken left taken' left' clock held queue input new none t)
+pub begins : (c : Admission) (seen : Seen) (taken left last taken' left' last' : Option (List ℕ)) (clock : ClockTells) (held : Option (List ℕ)) (queue : List Stored) (input new : PieceTaken) (b : Bool) → input ≡ no_piece → TakesNext taken taken' left left' last last' input (Ok tt) new → begins_http new.piece ≡ b
+    → Talks c (start_of seen taken left last clock held queue) (record { taken = taken'; left = left'; last = last'; clock = clock; size = new.taken }) (first_stand seen held queue) (λ more. if b then http_asks (new.piece ++ more) else telnet_asks (new.piece ++ more))
+begins c seen taken left last taken' left' last' clock held queue input new b none t is =
+    talk_come c (start_of seen taken left last clock held queue) _ _ (λ more. conn_requests (new.piece ++ more)) (λ more. if b then http_asks (new.piece ++ more) else telnet_asks (new.piece ++ more)) (first_piece c seen taken left last taken' left' last' clock held queue input new none t)
     (λ more. sym (chosen new.piece more b (some_bytes new t.more t.next) is))
 
 -- ---- causes

@@ -1,5 +1,5 @@
 -- How a connection's bytes are taken.
-use Rattle.std.specs.Prelude.{◌≡◌, ℕ, ◌+◌, ◌^◌, ◌<◌, ◌≤◌, List, [], length, Option, Result, Ok, Err}
+use Rattle.std.specs.Prelude.{◌≡◌, ℕ, ◌+◌, ◌^◌, ◌<◌, ◌≤◌, List, [], length, Option, None, Some, Result, Ok, Err}
 use Rattle.std.specs.Io.KnownBytes.{Appends, Consumes, IsAtEnd}
 use Rattle.tsd_daemon.specs.declared.served.Served.{Served}
 use Rattle.tsd_daemon.specs.declared.served.Served.TheVariants as answer
@@ -24,12 +24,23 @@ NextPiece left old more (Err answer.ReadFault) new = (more ≡ []) × (old.taken
 NextPiece left old more (Err answer.SessionFull) new = (more ≡ []) × (old.taken ≡ 2 ^ 40)
 NextPiece left old more (Err other) new = ⊥
 
+-- these bytes are what the last take gave, where the source tells it
+abbrev pub IsLast : Option (List ℕ) → List ℕ → Type 0
+IsLast None piece = Unit {0}
+IsLast (Some given) piece = piece ≡ given
+
+-- the last take gave these bytes, and none where it failed or found the end; where the session was full none was made
+abbrev pub GaveNext : Option (List ℕ) → Option (List ℕ) → List ℕ → Result (Unit {0}) Served → Type 0
+GaveNext last last' more (Err answer.SessionFull) = last' ≡ last
+GaveNext last last' more result = IsLast last' more
+
 -- these further bytes were taken
-pub record TakesNext (taken taken' left left' : Option (List ℕ)) (old : PieceTaken) (result : Result (Unit {0}) Served) (new : PieceTaken) : Type 0 where
+pub record TakesNext (taken taken' left left' last last' : Option (List ℕ)) (old : PieceTaken) (result : Result (Unit {0}) Served) (new : PieceTaken) : Type 0 where
   pub more : List ℕ
   pub takes : Appends taken taken' more
   pub leaves : Consumes left left' more
   pub count : new.taken ≡ old.taken + length more
   pub most : new.taken ≤ 2 ^ 40
   pub within : length more ≤ longest_piece
+  pub gave : GaveNext last last' more result
   pub next : NextPiece left' old more result new

@@ -1,7 +1,7 @@
 -- What had been answered when the last piece of a connection was taken.
-use Rattle.std.specs.Prelude.{◌≡◌, ◌≤◌, ℕ, false, List, ◌++◌, length}
+use Rattle.std.specs.Prelude.{◌≡◌, ◌⊎◌, ◌≤◌, ℕ, false, List, [], ◌++◌, length, Option}
 use Rattle.std.specs.List.{list_any}
-use Rattle.tsd_daemon.specs.ConnPieces.{longest_piece}
+use Rattle.tsd_daemon.specs.ConnPieces.{IsLast, longest_piece}
 use Rattle.tsd_daemon.specs.ConnRequests.{closes_conn, conn_requests}
 use Rattle.tsd_daemon.specs.Exchanges.{Exchange, replies_in, requests_in}
 
@@ -18,3 +18,12 @@ pub record TakenLast (done : List Exchange) (input output : List ℕ) : Type 0 w
   pub open_still : list_any closes_conn (conn_requests before) ≡ false
   pub given_later : List ℕ
   pub given : output ≡ replies_in answered ++ given_later
+
+-- The piece is what the last take gave, where the source tells it. Or no take was made: no bytes were taken, and what the source tells stands still.
+abbrev pub GaveLast : Option (List ℕ) → Option (List ℕ) → List ℕ → List ℕ → Type 0
+GaveLast last last' input piece = IsLast last' piece ⊎ ((input ≡ []) × (last' ≡ last))
+
+-- What the last take gave, nothing where it failed or found the end, was taken only where all that came before was answered.
+pub record LastTake (last last' : Option (List ℕ)) (done : List Exchange) (input output : List ℕ) : Type 0 where
+  pub taken : TakenLast done input output
+  pub gave : GaveLast last last' input taken.piece

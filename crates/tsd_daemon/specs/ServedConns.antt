@@ -16,7 +16,7 @@ use Rattle.tsd_daemon.specs.declared.served.Served.TheVariants as answer
 use Rattle.tsd_daemon.specs.ConnClocks.{CalledOnce, Gave}
 use Rattle.tsd_daemon.specs.ConnRequests.{ConnRequest, asks_clock, closes_conn, conn_requests, end_of}
 use Rattle.tsd_daemon.specs.Exchanges.{Exchange, moments_in, requests_in, replies_in, rows_in, BegunBetween, Ran}
-use Rattle.tsd_daemon.specs.LastPieces.{TakenLast}
+use Rattle.tsd_daemon.specs.LastPieces.{LastTake, TakenLast}
 
 -- ---- the table of answers
 
@@ -98,7 +98,12 @@ pub record IsServed (c : Admission) (h : History) (caller n n2 : ℕ) (input out
   pub table : Table result c h caller last n2 done input output times
   pub pieces : TakenLast done input output
 
--- the same in each lawful history that fits what the caller has seen after it
+-- the same, and the last take was made only where all that had come was answered, with what the source told of its last take before and after
+pub record AnswersFirst (c : Admission) (h : History) (caller n n2 : ℕ) (input output times : List ℕ) (result : Served) (last last' : Option (List ℕ)) : Type 0 where
+  pub served : IsServed c h caller n n2 input output times result
+  pub last_take : LastTake last last' served.done input output
+
+-- so it was served in each lawful history that fits what the caller has seen after it
 pub record Serves (c : Admission) (old : Seen) (input output times : List ℕ) (result : Served) (new : Seen) : Type 0 where
   pub since : Since old new
   pub served : InEach new (λ h. IsServed c h old.caller old.length new.length input output times result)
@@ -153,6 +158,10 @@ AsksBytes c old calls result new calls' input output times = Serves c old input 
 
 abbrev pub QueuesBytes : Admission → Seen → List Stored → Served → Seen → List Stored → List ℕ → List ℕ → List ℕ → Type 0
 QueuesBytes c old before result new after input output times = Queues c old before input output times result new after
+
+-- so it was served, and the last take was made only where all that had come was answered
+abbrev pub TakesBytes : Admission → Seen → Option (List ℕ) → Served → Seen → Option (List ℕ) → List ℕ → List ℕ → List ℕ → Type 0
+TakesBytes c old last result new last' input output times = InEach new (λ h. AnswersFirst c h old.caller old.length new.length input output times result last last')
 
 -- ---- causes
 

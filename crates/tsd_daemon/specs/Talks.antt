@@ -8,7 +8,9 @@ use Rattle.telnet_put.specs.Sessions.{to_come}
 use Rattle.http_exchange.specs.HttpSessions as calls
 use Rattle.http_exchange.specs.HttpUnread as http
 use Rattle.cell_model.specs.declared.answers.Stored.{Stored}
-use Rattle.cell_model.specs.Seen.{Seen, InEach}
+use Rattle.cell_model.specs.History.{History}
+use Rattle.cell_model.specs.Lawful.{IsLawful}
+use Rattle.cell_model.specs.Seen.{Fits, Seen, InEach}
 use Rattle.cell_model.specs.Deeds.{deeds, Since}
 use Rattle.compactor.specs.Queues.{HasRows}
 use Rattle.point_put.specs.Admissions.{Admission}
@@ -24,7 +26,7 @@ use Rattle.tsd_daemon.specs.ConnClocks.{CalledOnce, ClockTells, Gave, Ticked}
 use Rattle.tsd_daemon.specs.ConnReplies.{no_counts}
 use Rattle.tsd_daemon.specs.ConnPieces.{PieceTaken, TakesNext}
 use Rattle.tsd_daemon.specs.Exchanges.{Exchange, AnsweredBetween, BegunBetween, Ran, counts_of, is_put, moments_in, replies_in, requests_in, rows_in}
-use Rattle.tsd_daemon.specs.LastPieces.{TakenLast}
+use Rattle.tsd_daemon.specs.LastPieces.{LastTake}
 use Rattle.tsd_daemon.specs.ServedConns.{Fills, IsQueued}
 
 -- ---- one request
@@ -83,6 +85,7 @@ pub record Start : Type 0 where
   pub seen : Seen
   pub taken : Option (List ℕ)
   pub left : Option (List ℕ)
+  pub last : Option (List ℕ)
   pub clock : ClockTells
   pub held : Option (List ℕ)
   pub queue : List Stored
@@ -91,6 +94,7 @@ pub record Start : Type 0 where
 pub record Taken : Type 0 where
   pub taken : Option (List ℕ)
   pub left : Option (List ℕ)
+  pub last : Option (List ℕ)
   pub clock : ClockTells
   pub size : ℕ
 
@@ -124,7 +128,7 @@ pub record Told (c : Admission) (from : Start) (t : Taken) (done : List Exchange
   pub requests : (more : List ℕ) → conn_requests (input ++ more) ≡ requests_in done ++ come more
   pub queued : HasRows from.queue (rows_in done) now.queue
   pub counted : now.counts ≡ counts_of done
-  pub pieces : TakenLast done input output
+  pub pieces : LastTake from.last t.last done input output
 
 -- the connection goes on
 pub record Talks (c : Admission) (from : Start) (t : Taken) (now : Stand) (come : List ℕ → List ConnRequest) : Type 0 where
@@ -133,7 +137,7 @@ pub record Talks (c : Admission) (from : Start) (t : Taken) (now : Stand) (come 
   pub open_still : list_any closes_conn (requests_in done) ≡ false
 
 -- the connection was served to this end
-pub record Ends (c : Admission) (from : Start) (taken left : Option (List ℕ)) (clock : ClockTells) (result : Served) (seen : Seen) (held : Option (List ℕ)) (queue : List Stored) : Type 0 where
+pub record Ends (c : Admission) (from : Start) (taken left last : Option (List ℕ)) (clock : ClockTells) (result : Served) (seen : Seen) (held : Option (List ℕ)) (queue : List Stored) : Type 0 where
   pub input : List ℕ
   pub output : List ℕ
   pub times : List ℕ
@@ -144,11 +148,12 @@ pub record Ends (c : Admission) (from : Start) (taken left : Option (List ℕ)) 
   pub called : CalledOnce result from.clock.calls times clock.calls
   pub since : Since from.seen seen
   pub served : InEach seen (λ h. IsQueued c h from.seen.caller from.seen.length seen.length input output times result from.queue queue)
+  pub pieces : (h : History) (lawful : IsLawful h) (fits : Fits seen h) → LastTake from.last last (served h lawful fits).served.done input output
   pub fills : Fills result (length input)
 
 abbrev pub GoesOn : Admission → Start → Taken → Stand → (List ℕ → List ConnRequest) → Option Served → Type 0
 GoesOn c from t new come None = Talks c from t new come
-GoesOn c from t new come (Some result) = Ends c from t.taken t.left t.clock result new.seen new.held new.queue
+GoesOn c from t new come (Some result) = Ends c from t.taken t.left t.last t.clock result new.seen new.held new.queue
 
 -- however the connection came here, it goes on or ended so
 abbrev pub Moves : Admission → Stand → (List ℕ → List ConnRequest) → Stand → (List ℕ → List ConnRequest) → Option Served → Type 0
@@ -164,15 +169,15 @@ abbrev pub MovesOn : Admission → Taken → Stand → (List ℕ → List ConnRe
 MovesOn c t old come t' new come' = (from : Start) → Talks c from t old come → Talks c from t' new come'
 
 -- What waited was given, and then the next piece was taken. Where the sink failed nothing was taken.
-abbrev pub PieceMoves : Option (List ℕ) → Option (List ℕ) → Option (List ℕ) → Option (List ℕ) → Option (List ℕ) → Option (List ℕ) → List ℕ → PieceTaken → Result (Unit {0}) Served → PieceTaken → Type 0
-PieceMoves taken taken' left left' held held' waiting old (Err answer.WriteFault) new = GivesSome held held' waiting × (taken' ≡ taken) × (left' ≡ left)
-PieceMoves taken taken' left left' held held' waiting old result new = Gives held held' waiting [] × TakesNext taken taken' left left' old result new
+abbrev pub PieceMoves : Option (List ℕ) → Option (List ℕ) → Option (List ℕ) → Option (List ℕ) → Option (List ℕ) → Option (List ℕ) → Option (List ℕ) → Option (List ℕ) → List ℕ → PieceTaken → Result (Unit {0}) Served → PieceTaken → Type 0
+PieceMoves taken taken' left left' last last' held held' waiting old (Err answer.WriteFault) new = GivesSome held held' waiting × (taken' ≡ taken) × (left' ≡ left) × (last' ≡ last)
+PieceMoves taken taken' left left' last last' held held' waiting old result new = Gives held held' waiting [] × TakesNext taken taken' left left' last last' old result new
 
 -- a connection whose first piece was taken was served to an end, however it came there, where this is what bytes ask
-abbrev pub SessionServed : (List ℕ → List ConnRequest) → Admission → Seen → Option (List ℕ) → List Stored → PieceTaken → Option (List ℕ) → Option (List ℕ) → ClockTells → Served → Seen → Option (List ℕ) → List Stored → Option (List ℕ) → Option (List ℕ) → ClockTells → Type 0
-SessionServed asks c seen held queue input taken left clock result seen' held' queue' taken' left' clock' =
-    (from : Start) → Talks c from (record { taken = taken; left = left; clock = clock; size = input.taken }) (record { seen = seen; held = held; queue = queue; waiting = []; counts = no_counts }) (λ more. asks (input.piece ++ more))
-    → Ends c from taken' left' clock' result seen' held' queue'
+abbrev pub SessionServed : (List ℕ → List ConnRequest) → Admission → Seen → Option (List ℕ) → List Stored → PieceTaken → Option (List ℕ) → Option (List ℕ) → Option (List ℕ) → ClockTells → Served → Seen → Option (List ℕ) → List Stored → Option (List ℕ) → Option (List ℕ) → Option (List ℕ) → ClockTells → Type 0
+SessionServed asks c seen held queue input taken left last clock result seen' held' queue' taken' left' last' clock' =
+    (from : Start) → Talks c from (record { taken = taken; left = left; last = last; clock = clock; size = input.taken }) (record { seen = seen; held = held; queue = queue; waiting = []; counts = no_counts }) (λ more. asks (input.piece ++ more))
+    → Ends c from taken' left' last' clock' result seen' held' queue'
 
 -- this request is the next, whatever more bytes come; behind one that closes none is
 pub record IsNext (request : ConnRequest) (come come' : List ℕ → List ConnRequest) : Type 0 where

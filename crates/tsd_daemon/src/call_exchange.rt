@@ -42,9 +42,9 @@ pub fn exchange_call<R: Rows + Drop, K: Sink, C: Clock>(
 ) -> Option<Served>
     requires { valued router.now ≡ route_table }
     ensures moves { (come come' : List ℕ → List ConnRequest) → IsNext (Http call) come come'
-        → ClockMoves (admission config.now rule.now.patterns) (record { moments = C.moments clock.old; calls = C.calls clock.old }) (record { seen = R.seen names.old; held = K.held sink.old; queue = queue.old; waiting = session.old.replies; counts = session.old.counts }) come
-        (record { moments = C.moments clock.new; calls = C.calls clock.new }) (record { seen = R.seen names.new; held = K.held sink.new; queue = queue.new; waiting = session.new.replies; counts = session.new.counts }) come' result }
-    ensures causes { ClockCauses (K.faults sink.old) (K.faults sink.new) (R.stops names.old) (R.stops names.new) (C.faults clock.old) (C.faults clock.new) result }
+        → ClockMoves (admission config.now rule.now.patterns) (record { moments = C.moments clock.old; calls = C.calls clock.old }) (record { seen = R.seen names.old.rows; held = K.held sink.old; queue = queue.old; waiting = session.old.replies; counts = session.old.counts }) come
+        (record { moments = C.moments clock.new; calls = C.calls clock.new }) (record { seen = R.seen names.new.rows; held = K.held sink.new; queue = queue.new; waiting = session.new.replies; counts = session.new.counts }) come' result }
+    ensures causes { ClockCauses (K.faults sink.old) (K.faults sink.new) (R.stops names.old.rows) (R.stops names.new.rows) (C.faults clock.old) (C.faults clock.new) result }
     ensures number { K.number sink.new ≡ K.number sink.old }
 {
     work_call(
@@ -67,9 +67,9 @@ fn work_call<R: Rows + Drop, K: Sink, C: Clock>(
 ) -> Option<Served>
     requires { valued router.now ≡ route_table }
     ensures moves { (come come' : List ℕ → List ConnRequest) → IsNext (Http call.now) come come'
-        → ClockMoves (admission config.now rule.now.patterns) (record { moments = C.moments clock.old; calls = C.calls clock.old }) (record { seen = R.seen names.old; held = K.held sink.old; queue = queue.old; waiting = session.old.replies; counts = session.old.counts }) come
-        (record { moments = C.moments clock.new; calls = C.calls clock.new }) (record { seen = R.seen names.new; held = K.held sink.new; queue = queue.new; waiting = session.new.replies; counts = session.new.counts }) come' result }
-    ensures causes { ClockCauses (K.faults sink.old) (K.faults sink.new) (R.stops names.old) (R.stops names.new) (C.faults clock.old) (C.faults clock.new) result }
+        → ClockMoves (admission config.now rule.now.patterns) (record { moments = C.moments clock.old; calls = C.calls clock.old }) (record { seen = R.seen names.old.rows; held = K.held sink.old; queue = queue.old; waiting = session.old.replies; counts = session.old.counts }) come
+        (record { moments = C.moments clock.new; calls = C.calls clock.new }) (record { seen = R.seen names.new.rows; held = K.held sink.new; queue = queue.new; waiting = session.new.replies; counts = session.new.counts }) come' result }
+    ensures causes { ClockCauses (K.faults sink.old) (K.faults sink.new) (R.stops names.old.rows) (R.stops names.new.rows) (C.faults clock.old) (C.faults clock.new) result }
     ensures number { K.number sink.new ≡ K.number sink.old }
 {
     match session.replies.give(sink) {
@@ -96,9 +96,9 @@ fn call_in_turn<R: Rows + Drop, K: Sink, C: Clock>(
     requires router { valued router.now ≡ route_table }
     requires quiet { session.old.replies ≡ [] }
     ensures moves { (come come' : List ℕ → List ConnRequest) → IsNext (Http call.now) come come'
-        → ClockMoves (admission config.now rule.now.patterns) (record { moments = C.moments clock.old; calls = C.calls clock.old }) (record { seen = R.seen names.old; held = K.held sink.old; queue = queue.old; waiting = session.old.replies; counts = session.old.counts }) come
-        (record { moments = C.moments clock.new; calls = C.calls clock.new }) (record { seen = R.seen names.new; held = K.held sink.new; queue = queue.new; waiting = session.new.replies; counts = session.new.counts }) come' result }
-    ensures causes { ClockCauses (K.faults sink.old) (K.faults sink.new) (R.stops names.old) (R.stops names.new) (C.faults clock.old) (C.faults clock.new) result }
+        → ClockMoves (admission config.now rule.now.patterns) (record { moments = C.moments clock.old; calls = C.calls clock.old }) (record { seen = R.seen names.old.rows; held = K.held sink.old; queue = queue.old; waiting = session.old.replies; counts = session.old.counts }) come
+        (record { moments = C.moments clock.new; calls = C.calls clock.new }) (record { seen = R.seen names.new.rows; held = K.held sink.new; queue = queue.new; waiting = session.new.replies; counts = session.new.counts }) come' result }
+    ensures causes { ClockCauses (K.faults sink.old) (K.faults sink.new) (R.stops names.old.rows) (R.stops names.new.rows) (C.faults clock.old) (C.faults clock.new) result }
     ensures number { K.number sink.new ≡ K.number sink.old }
 {
     match moment_of(clock, call) {
@@ -139,9 +139,9 @@ fn call_at<R: Rows + Drop, K: Sink>(
     requires quiet { session.old.replies ≡ [] }
     ensures moves { (come come' : List ℕ → List ConnRequest) → IsNext (Http call.now) come come'
         → (told told' : ClockTells) → Ticked told (option_to_list (moment_for call.now now)) told'
-        → ClockMoves (admission config.now rule.now.patterns) told (record { seen = R.seen names.old; held = K.held sink.old; queue = queue.old; waiting = session.old.replies; counts = session.old.counts }) come
-        told' (record { seen = R.seen names.new; held = K.held sink.new; queue = queue.new; waiting = session.new.replies; counts = session.new.counts }) come' result }
-    ensures causes { Causes (K.faults sink.old) (K.faults sink.new) (R.stops names.old) (R.stops names.new) result }
+        → ClockMoves (admission config.now rule.now.patterns) told (record { seen = R.seen names.old.rows; held = K.held sink.old; queue = queue.old; waiting = session.old.replies; counts = session.old.counts }) come
+        told' (record { seen = R.seen names.new.rows; held = K.held sink.new; queue = queue.new; waiting = session.new.replies; counts = session.new.counts }) come' result }
+    ensures causes { Causes (K.faults sink.old) (K.faults sink.new) (R.stops names.old.rows) (R.stops names.new.rows) result }
     ensures number { K.number sink.new ≡ K.number sink.old }
 {
     let reply = match answer(alloc, router, names, rule, config, queue, call, now) {

@@ -3,7 +3,8 @@ ghost use Rattle.std.specs.Prelude.{◌≡◌, ◌≤◌, length, IfOk, Err};
 ghost use Rattle.std.specs.Io.{ReadsAtMost};
 ghost use Rattle.std.specs.Io.KnownBytes.{ReadConsumes, WriteAppends};
 ghost use Rattle.tsd_io.specs.Causes.{HasCause, Rose};
-ghost use Rattle.tsd_daemon.specs.ConnPieces.{TakesNext, no_piece};
+ghost use Rattle.tsd_io.specs.Takes.{given_by};
+ghost use Rattle.tsd_daemon.specs.ConnPieces.{IsLast, TakesNext, no_piece};
 
 use crate::served::Served;
 use line_stream::reader::LONGEST_INPUT;
@@ -59,7 +60,7 @@ impl ConnInput {
 
     /// Takes the next piece, which has a byte. Else the serving ends: `End`, `ReadFault`, or `SessionFull` where 2^40 bytes were taken.
     pub fn take<S: Source>(&mut self, source: &mut S) -> Result<(), Served>
-        ensures takes { TakesNext (S.taken source.old) (S.taken source.new) (S.left source.old) (S.left source.new) self.old result self.new }
+        ensures takes { TakesNext (S.taken source.old) (S.taken source.new) (S.left source.old) (S.left source.new) (S.last source.old) (S.last source.new) self.old result self.new }
         ensures later { S.faults source.old ≤ S.faults source.new }
         ensures failed { result ≡ Err Served.ReadFault → Rose (S.faults source.old) (S.faults source.new) }
         ensures number { S.number source.new ≡ S.number source.old }
@@ -88,6 +89,7 @@ fn take_into<S: Source>(source: &mut S, block: &mut Vec<u8>) -> Result<usize, Fa
     ensures bound { ReadsAtMost result block.new.items }
     ensures taken { WriteAppends (S.taken source.old) (S.taken source.new) result block.new.items }
     ensures left { ReadConsumes (S.left source.old) (S.left source.new) result block.new.items }
+    ensures last { IsLast (S.last source.new) (given_by result block.new.items) }
     ensures cause { HasCause (S.faults source.old) (S.faults source.new) result }
     ensures number { S.number source.new ≡ S.number source.old }
 {

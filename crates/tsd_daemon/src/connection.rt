@@ -5,7 +5,8 @@ ghost use Rattle.cell_model.specs.Seen.{InEach};
 ghost use Rattle.point_put.specs.Admissions.{admission};
 ghost use Rattle.tsd_daemon.specs.ConnRequests.{begins_http};
 ghost use Rattle.tsd_daemon.specs.Headline.{Headline};
-ghost use Rattle.tsd_daemon.specs.ServedConns.{AsksBytes, ConnCauses, Passes, QueuesBytes, ServesBytes};
+ghost use Rattle.tsd_daemon.specs.ServedConns.{AsksBytes, ConnCauses, Passes, QueuesBytes, ServesBytes, TakesBytes};
+ghost use Rattle.tsd_daemon.specs.Talks.{Ends};
 
 use crate::conn_input::ConnInput;
 use crate::http_session::serve_http;
@@ -27,7 +28,9 @@ use uid_table::uids::Uids;
 /// that was accepted is added to the queue. At most 2^40 bytes are taken.
 ///
 /// Replies may wait to be given together, at most 64 KiB of them, but not while a point is put, not while an HTTP request is worked, and not
-/// while bytes are taken. Nothing is taken behind a request that closes.
+/// while bytes are taken. Nothing is taken behind a request that closes. The clause `pieces` says so of the last take, where the source tells
+/// what that gave: nothing where it failed or found the end.
+///
 /// The clock is asked once for each HTTP request to `/api/query` that isn't refused, before it is worked, and for no other request.
 /// Where it fails it isn't asked again.
 pub fn serve_conn<R: Rows + Drop, S: Source, K: Sink, C: Clock>(
@@ -42,16 +45,19 @@ pub fn serve_conn<R: Rows + Drop, S: Source, K: Sink, C: Clock>(
 ) -> Served
     // In each lawful history that fits names keep their ids, and queries are answered plainly.
     ensures headline { Passes (S.taken source.old) (S.taken source.new) (S.left source.old) (S.left source.new) (K.held sink.old) (K.held sink.new) (C.moments clock.old) (C.moments clock.new)
-        (λ input output times. InEach (R.seen names.new) (λ h. Headline h (R.seen names.old).length (R.seen names.new).length input output times result)) }
+        (λ input output times. InEach (R.seen names.new.rows) (λ h. Headline h (R.seen names.old.rows).length (R.seen names.new.rows).length input output times result)) }
 
     ensures served { Passes (S.taken source.old) (S.taken source.new) (S.left source.old) (S.left source.new) (K.held sink.old) (K.held sink.new) (C.moments clock.old) (C.moments clock.new)
-        (ServesBytes (admission config.now rule.now.patterns) (R.seen names.old) result (R.seen names.new)) }
+        (ServesBytes (admission config.now rule.now.patterns) (R.seen names.old.rows) result (R.seen names.new.rows)) }
     ensures queue { Passes (S.taken source.old) (S.taken source.new) (S.left source.old) (S.left source.new) (K.held sink.old) (K.held sink.new) (C.moments clock.old) (C.moments clock.new)
-        (QueuesBytes (admission config.now rule.now.patterns) (R.seen names.old) queue.old result (R.seen names.new) queue.new) }
+        (QueuesBytes (admission config.now rule.now.patterns) (R.seen names.old.rows) queue.old result (R.seen names.new.rows) queue.new) }
     ensures calls { Passes (S.taken source.old) (S.taken source.new) (S.left source.old) (S.left source.new) (K.held sink.old) (K.held sink.new) (C.moments clock.old) (C.moments clock.new)
-        (AsksBytes (admission config.now rule.now.patterns) (R.seen names.old) (C.calls clock.old) result (R.seen names.new) (C.calls clock.new)) }
+        (AsksBytes (admission config.now rule.now.patterns) (R.seen names.old.rows) (C.calls clock.old) result (R.seen names.new.rows) (C.calls clock.new)) }
+    // Before the last take all requests that had come whole were answered, none of which closes, and their replies given.
+    ensures pieces { Passes (S.taken source.old) (S.taken source.new) (S.left source.old) (S.left source.new) (K.held sink.old) (K.held sink.new) (C.moments clock.old) (C.moments clock.new)
+        (TakesBytes (admission config.now rule.now.patterns) (R.seen names.old.rows) (S.last source.old) result (R.seen names.new.rows) (S.last source.new)) }
     ensures end { result ≡ Served.End → IsAtEnd (S.left source.new) }
-    ensures causes { ConnCauses (S.faults source.old) (S.faults source.new) (K.faults sink.old) (K.faults sink.new) (R.stops names.old) (R.stops names.new) (C.faults clock.old) (C.faults clock.new) result }
+    ensures causes { ConnCauses (S.faults source.old) (S.faults source.new) (K.faults sink.old) (K.faults sink.new) (R.stops names.old.rows) (R.stops names.new.rows) (C.faults clock.old) (C.faults clock.new) result }
     ensures source { S.number source.new ≡ S.number source.old }
     ensures sink { K.number sink.new ≡ K.number sink.old }
 {
@@ -69,14 +75,10 @@ fn serve_requests<R: Rows + Drop, S: Source, K: Sink, C: Clock>(
     clock: &mut C,
     queue: &mut Queue,
 ) -> Served
-    ensures served { Passes (S.taken source.old) (S.taken source.new) (S.left source.old) (S.left source.new) (K.held sink.old) (K.held sink.new) (C.moments clock.old) (C.moments clock.new)
-        (ServesBytes (admission config.now rule.now.patterns) (R.seen names.old) result (R.seen names.new)) }
-    ensures queue { Passes (S.taken source.old) (S.taken source.new) (S.left source.old) (S.left source.new) (K.held sink.old) (K.held sink.new) (C.moments clock.old) (C.moments clock.new)
-        (QueuesBytes (admission config.now rule.now.patterns) (R.seen names.old) queue.old result (R.seen names.new) queue.new) }
-    ensures calls { Passes (S.taken source.old) (S.taken source.new) (S.left source.old) (S.left source.new) (K.held sink.old) (K.held sink.new) (C.moments clock.old) (C.moments clock.new)
-        (AsksBytes (admission config.now rule.now.patterns) (R.seen names.old) (C.calls clock.old) result (R.seen names.new) (C.calls clock.new)) }
+    ensures served { Ends (admission config.now rule.now.patterns) (record { seen = R.seen names.old.rows; taken = S.taken source.old; left = S.left source.old; last = S.last source.old; clock = record { moments = C.moments clock.old; calls = C.calls clock.old }; held = K.held sink.old; queue = queue.old })
+        (S.taken source.new) (S.left source.new) (S.last source.new) (record { moments = C.moments clock.new; calls = C.calls clock.new }) result (R.seen names.new.rows) (K.held sink.new) queue.new }
     ensures end { result ≡ Served.End → IsAtEnd (S.left source.new) }
-    ensures causes { ConnCauses (S.faults source.old) (S.faults source.new) (K.faults sink.old) (K.faults sink.new) (R.stops names.old) (R.stops names.new) (C.faults clock.old) (C.faults clock.new) result }
+    ensures causes { ConnCauses (S.faults source.old) (S.faults source.new) (K.faults sink.old) (K.faults sink.new) (R.stops names.old.rows) (R.stops names.new.rows) (C.faults clock.old) (C.faults clock.new) result }
     ensures source { S.number source.new ≡ S.number source.old }
     ensures sink { K.number sink.new ≡ K.number sink.old }
 {

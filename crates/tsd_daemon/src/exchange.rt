@@ -39,9 +39,9 @@ pub fn exchange<R: Rows + Drop, K: Sink>(
     command: &Command<'_>,
 ) -> Option<Served>
     ensures moves { (come come' : List ℕ → List ConnRequest) → IsNext (Telnet (request_of command.now)) come come'
-        → Moves (admission config.now rule.now.patterns) (record { seen = R.seen names.old; held = K.held sink.old; queue = queue.old; waiting = session.old.replies; counts = session.old.counts }) come
-        (record { seen = R.seen names.new; held = K.held sink.new; queue = queue.new; waiting = session.new.replies; counts = session.new.counts }) come' result }
-    ensures causes { Causes (K.faults sink.old) (K.faults sink.new) (R.stops names.old) (R.stops names.new) result }
+        → Moves (admission config.now rule.now.patterns) (record { seen = R.seen names.old.rows; held = K.held sink.old; queue = queue.old; waiting = session.old.replies; counts = session.old.counts }) come
+        (record { seen = R.seen names.new.rows; held = K.held sink.new; queue = queue.new; waiting = session.new.replies; counts = session.new.counts }) come' result }
+    ensures causes { Causes (K.faults sink.old) (K.faults sink.new) (R.stops names.old.rows) (R.stops names.new.rows) result }
     ensures number { K.number sink.new ≡ K.number sink.old }
 {
     if let Some(text) = put_asked(command) {
@@ -53,7 +53,7 @@ pub fn exchange<R: Rows + Drop, K: Sink>(
 
 /// Forgets the kept pairs of names and ids, where that is asked.
 fn forget<R: Rows + Drop>(names: &mut Uids<R>, command: &Command<'_>)
-    ensures { names.new ≡ names.old }
+    ensures { names.new.rows ≡ names.old.rows }
 {
     if let Command::DropCaches = command {
         names.drop_cache();
@@ -82,9 +82,9 @@ fn work_put<R: Rows + Drop, K: Sink>(
     text: &[u8],
 ) -> Option<Served>
     ensures moves { (come come' : List ℕ → List ConnRequest) → IsNext (put_of text.now) come come'
-        → Moves (admission config.now rule.now.patterns) (record { seen = R.seen names.old; held = K.held sink.old; queue = queue.old; waiting = session.old.replies; counts = session.old.counts }) come
-        (record { seen = R.seen names.new; held = K.held sink.new; queue = queue.new; waiting = session.new.replies; counts = session.new.counts }) come' result }
-    ensures causes { Causes (K.faults sink.old) (K.faults sink.new) (R.stops names.old) (R.stops names.new) result }
+        → Moves (admission config.now rule.now.patterns) (record { seen = R.seen names.old.rows; held = K.held sink.old; queue = queue.old; waiting = session.old.replies; counts = session.old.counts }) come
+        (record { seen = R.seen names.new.rows; held = K.held sink.new; queue = queue.new; waiting = session.new.replies; counts = session.new.counts }) come' result }
+    ensures causes { Causes (K.faults sink.old) (K.faults sink.new) (R.stops names.old.rows) (R.stops names.new.rows) result }
     ensures number { K.number sink.new ≡ K.number sink.old }
 {
     match session.replies.give(sink) {
@@ -106,9 +106,9 @@ fn put_in_turn<R: Rows + Drop, K: Sink>(
 ) -> Option<Served>
     requires { session.old.replies ≡ [] }
     ensures moves { (come come' : List ℕ → List ConnRequest) → IsNext (put_of text.now) come come'
-        → Moves (admission config.now rule.now.patterns) (record { seen = R.seen names.old; held = K.held sink.old; queue = queue.old; waiting = session.old.replies; counts = session.old.counts }) come
-        (record { seen = R.seen names.new; held = K.held sink.new; queue = queue.new; waiting = session.new.replies; counts = session.new.counts }) come' result }
-    ensures causes { Causes (K.faults sink.old) (K.faults sink.new) (R.stops names.old) (R.stops names.new) result }
+        → Moves (admission config.now rule.now.patterns) (record { seen = R.seen names.old.rows; held = K.held sink.old; queue = queue.old; waiting = session.old.replies; counts = session.old.counts }) come
+        (record { seen = R.seen names.new.rows; held = K.held sink.new; queue = queue.new; waiting = session.new.replies; counts = session.new.counts }) come' result }
+    ensures causes { Causes (K.faults sink.old) (K.faults sink.new) (R.stops names.old.rows) (R.stops names.new.rows) result }
     ensures number { K.number sink.new ≡ K.number sink.old }
 {
     let answer = match answer_put(alloc, names, rule, config, queue, text) {

@@ -37,10 +37,10 @@ pub fn serve_http<R: Rows + Drop, S: Source, K: Sink, C: Clock>(
     input: &mut ConnInput,
 ) -> Served
     requires { input.old.taken ≤ 2 ^ 40 }
-    ensures served { SessionServed http_asks (admission config.now rule.now.patterns) (R.seen names.old) (K.held sink.old) queue.old input.old (S.taken source.old) (S.left source.old) (record { moments = C.moments clock.old; calls = C.calls clock.old })
-        result (R.seen names.new) (K.held sink.new) queue.new (S.taken source.new) (S.left source.new) (record { moments = C.moments clock.new; calls = C.calls clock.new }) }
+    ensures served { SessionServed http_asks (admission config.now rule.now.patterns) (R.seen names.old.rows) (K.held sink.old) queue.old input.old (S.taken source.old) (S.left source.old) (S.last source.old) (record { moments = C.moments clock.old; calls = C.calls clock.old })
+        result (R.seen names.new.rows) (K.held sink.new) queue.new (S.taken source.new) (S.left source.new) (S.last source.new) (record { moments = C.moments clock.new; calls = C.calls clock.new }) }
     ensures end { result ≡ Served.End → IsAtEnd (S.left source.new) }
-    ensures causes { ConnCauses (S.faults source.old) (S.faults source.new) (K.faults sink.old) (K.faults sink.new) (R.stops names.old) (R.stops names.new) (C.faults clock.old) (C.faults clock.new) result }
+    ensures causes { ConnCauses (S.faults source.old) (S.faults source.new) (K.faults sink.old) (K.faults sink.new) (R.stops names.old.rows) (R.stops names.new.rows) (C.faults clock.old) (C.faults clock.new) result }
     ensures source { S.number source.new ≡ S.number source.old }
     ensures sink { K.number sink.new ≡ K.number sink.old }
 {
@@ -89,10 +89,10 @@ fn answer_calls<R: Rows + Drop, K: Sink, C: Clock>(
     calls: &mut Exchange,
 ) -> Option<Served>
     requires { valued router.now ≡ route_table }
-    ensures moves { ClockMoves (admission config.now rule.now.patterns) (record { moments = C.moments clock.old; calls = C.calls clock.old }) (record { seen = R.seen names.old; held = K.held sink.old; queue = queue.old; waiting = session.old.replies; counts = session.old.counts }) (http_to_come calls.old)
-        (record { moments = C.moments clock.new; calls = C.calls clock.new }) (record { seen = R.seen names.new; held = K.held sink.new; queue = queue.new; waiting = session.new.replies; counts = session.new.counts }) (http_to_come calls.new) result }
+    ensures moves { ClockMoves (admission config.now rule.now.patterns) (record { moments = C.moments clock.old; calls = C.calls clock.old }) (record { seen = R.seen names.old.rows; held = K.held sink.old; queue = queue.old; waiting = session.old.replies; counts = session.old.counts }) (http_to_come calls.old)
+        (record { moments = C.moments clock.new; calls = C.calls clock.new }) (record { seen = R.seen names.new.rows; held = K.held sink.new; queue = queue.new; waiting = session.new.replies; counts = session.new.counts }) (http_to_come calls.new) result }
     ensures none { result ≡ None → http_to_come calls.new [] ≡ [] }
-    ensures causes { ClockCauses (K.faults sink.old) (K.faults sink.new) (R.stops names.old) (R.stops names.new) (C.faults clock.old) (C.faults clock.new) result }
+    ensures causes { ClockCauses (K.faults sink.old) (K.faults sink.new) (R.stops names.old.rows) (R.stops names.new.rows) (C.faults clock.old) (C.faults clock.new) result }
     ensures number { K.number sink.new ≡ K.number sink.old }
 {
     loop {

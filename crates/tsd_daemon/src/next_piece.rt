@@ -16,7 +16,7 @@ pub fn next_piece<S: Source, K: Sink>(
     replies: &mut ReplyBuffer,
     input: &mut ConnInput,
 ) -> Result<(), Served>
-    ensures moves { PieceMoves (S.taken source.old) (S.taken source.new) (S.left source.old) (S.left source.new) (K.held sink.old) (K.held sink.new) replies.old input.old result input.new }
+    ensures moves { PieceMoves (S.taken source.old) (S.taken source.new) (S.left source.old) (S.left source.new) (S.last source.old) (S.last source.new) (K.held sink.old) (K.held sink.new) replies.old input.old result input.new }
     ensures none { OnOk result (replies.new ≡ []) }
     ensures end { result ≡ Err Served.End → IsAtEnd (S.left source.new) }
     ensures causes { IfErr result (λ end. (stops ticks : ℕ) → ConnCauses (S.faults source.old) (S.faults source.new) (K.faults sink.old) (K.faults sink.new) stops stops ticks ticks end) }

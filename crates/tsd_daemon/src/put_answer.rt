@@ -37,9 +37,9 @@ pub fn answer_put<R: Rows + Drop>(
     queue: &mut Queue,
     text: &[u8],
 ) -> Result<Answer, RowsFault>
-    ensures ok { IfOk result (λ answer. (counts : Counts) → Replied (admission config.now rule.now.patterns) counts None (put_of text.now) (R.seen names.old) queue.old answer.reply.items answer.counted (R.seen names.new) queue.new) }
-    ensures err { OnErr result (WasBegun (admission config.now rule.now.patterns) None (put_of text.now) (R.seen names.old) queue.old (R.seen names.new) queue.new) }
-    ensures stops { CountsStops is_stop result (R.stops names.old) (R.stops names.new) }
+    ensures ok { IfOk result (λ answer. (counts : Counts) → Replied (admission config.now rule.now.patterns) counts None (put_of text.now) (R.seen names.old.rows) queue.old answer.reply.items answer.counted (R.seen names.new.rows) queue.new) }
+    ensures err { OnErr result (WasBegun (admission config.now rule.now.patterns) None (put_of text.now) (R.seen names.old.rows) queue.old (R.seen names.new.rows) queue.new) }
+    ensures stops { CountsStops is_stop result (R.stops names.old.rows) (R.stops names.new.rows) }
 {
     match put_text(alloc, names, rule, config, text) {
         Ok(stored) => {

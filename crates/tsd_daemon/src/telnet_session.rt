@@ -35,10 +35,10 @@ pub fn serve_telnet<R: Rows + Drop, S: Source, K: Sink>(
     input: &mut ConnInput,
 ) -> Served
     requires { input.old.taken ≤ 2 ^ 40 }
-    ensures served { (clock : ClockTells) → SessionServed telnet_asks (admission config.now rule.now.patterns) (R.seen names.old) (K.held sink.old) queue.old input.old (S.taken source.old) (S.left source.old) clock
-        result (R.seen names.new) (K.held sink.new) queue.new (S.taken source.new) (S.left source.new) clock }
+    ensures served { (clock : ClockTells) → SessionServed telnet_asks (admission config.now rule.now.patterns) (R.seen names.old.rows) (K.held sink.old) queue.old input.old (S.taken source.old) (S.left source.old) (S.last source.old) clock
+        result (R.seen names.new.rows) (K.held sink.new) queue.new (S.taken source.new) (S.left source.new) (S.last source.new) clock }
     ensures end { result ≡ Served.End → IsAtEnd (S.left source.new) }
-    ensures causes { (ticks : ℕ) → ConnCauses (S.faults source.old) (S.faults source.new) (K.faults sink.old) (K.faults sink.new) (R.stops names.old) (R.stops names.new) ticks ticks result }
+    ensures causes { (ticks : ℕ) → ConnCauses (S.faults source.old) (S.faults source.new) (K.faults sink.old) (K.faults sink.new) (R.stops names.old.rows) (R.stops names.new.rows) ticks ticks result }
     ensures source { S.number source.new ≡ S.number source.old }
     ensures sink { K.number sink.new ≡ K.number sink.old }
 {
@@ -79,10 +79,10 @@ fn answer_all<R: Rows + Drop, K: Sink>(
     session: &mut Session,
     lines: &mut Lines,
 ) -> Option<Served>
-    ensures moves { Moves (admission config.now rule.now.patterns) (record { seen = R.seen names.old; held = K.held sink.old; queue = queue.old; waiting = session.old.replies; counts = session.old.counts }) (telnet_to_come lines.old)
-        (record { seen = R.seen names.new; held = K.held sink.new; queue = queue.new; waiting = session.new.replies; counts = session.new.counts }) (telnet_to_come lines.new) result }
+    ensures moves { Moves (admission config.now rule.now.patterns) (record { seen = R.seen names.old.rows; held = K.held sink.old; queue = queue.old; waiting = session.old.replies; counts = session.old.counts }) (telnet_to_come lines.old)
+        (record { seen = R.seen names.new.rows; held = K.held sink.new; queue = queue.new; waiting = session.new.replies; counts = session.new.counts }) (telnet_to_come lines.new) result }
     ensures none { result ≡ None → telnet_to_come lines.new [] ≡ [] }
-    ensures causes { Causes (K.faults sink.old) (K.faults sink.new) (R.stops names.old) (R.stops names.new) result }
+    ensures causes { Causes (K.faults sink.old) (K.faults sink.new) (R.stops names.old.rows) (R.stops names.new.rows) result }
     ensures number { K.number sink.new ≡ K.number sink.old }
 {
     while let Some(end) = lines.find() {
@@ -108,10 +108,10 @@ fn answer_next<R: Rows + Drop, K: Sink>(
     end: usize,
 ) -> Option<Served>
     requires { HasNext lines.old end }
-    ensures moves { Moves (admission config.now rule.now.patterns) (record { seen = R.seen names.old; held = K.held sink.old; queue = queue.old; waiting = session.old.replies; counts = session.old.counts }) (telnet_to_come lines.old)
-        (record { seen = R.seen names.new; held = K.held sink.new; queue = queue.new; waiting = session.new.replies; counts = session.new.counts }) (telnet_to_come lines.new) result }
+    ensures moves { Moves (admission config.now rule.now.patterns) (record { seen = R.seen names.old.rows; held = K.held sink.old; queue = queue.old; waiting = session.old.replies; counts = session.old.counts }) (telnet_to_come lines.old)
+        (record { seen = R.seen names.new.rows; held = K.held sink.new; queue = queue.new; waiting = session.new.replies; counts = session.new.counts }) (telnet_to_come lines.new) result }
     ensures used { (request : Request) × Gives lines.old request lines.new }
-    ensures causes { Causes (K.faults sink.old) (K.faults sink.new) (R.stops names.old) (R.stops names.new) result }
+    ensures causes { Causes (K.faults sink.old) (K.faults sink.new) (R.stops names.old.rows) (R.stops names.new.rows) result }
     ensures number { K.number sink.new ≡ K.number sink.old }
 {
     let command = lines.command(end);

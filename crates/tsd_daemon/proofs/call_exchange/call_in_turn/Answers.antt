@@ -12,7 +12,7 @@ returns-in-Ok-clause-causes g c = clock_causes _ _ _ _ _ _ c.call_at.result c.in
 
 pub returns-in-Err-clause-moves : goal.returns-in-Err-clause-moves
 returns-in-Err-clause-moves g c = λ come come' next.
-    clock_failed (admission c.args.config.now c.args.rule.now.patterns) (record { seen = g.R.Rows.seen c.args.names.now; held = g.K.Sink.held c.args.sink.now; queue = c.args.queue.now; waiting = c.args.session.now.replies; counts = c.args.session.now.counts }) (g.C.Clock.moments c.args.clock.now) (g.C.Clock.moments c.moment_of.new.clock) (g.C.Clock.calls c.args.clock.now) (g.C.Clock.calls c.moment_of.new.clock)
+    clock_failed (admission c.args.config.now c.args.rule.now.patterns) (record { seen = g.R.Rows.seen c.args.names.now.rows; held = g.K.Sink.held c.args.sink.now; queue = c.args.queue.now; waiting = c.args.session.now.replies; counts = c.args.session.now.counts }) (g.C.Clock.moments c.args.clock.now) (g.C.Clock.moments c.moment_of.new.clock) (g.C.Clock.calls c.args.clock.now) (g.C.Clock.calls c.moment_of.new.clock)
     (Http c.args.call.now) come come' c.requires.quiet c.in-Err.ensures.err c.in-Err.ensures.called next
 
 pub returns-in-Err-clause-causes : goal.returns-in-Err-clause-causes

@@ -11,9 +11,9 @@ invariant-loop-end g l =
     let seen = g.R.Rows.seen in
     let held = g.K.Sink.held in
     record {
-      moves : Moves (admission l.config l.rule.patterns) (record { seen = seen l.fn.names; held = held l.fn.sink; queue = l.fn.queue; waiting = l.fn.session.replies; counts = l.fn.session.counts }) (telnet_to_come l.fn.lines)
-          (record { seen = seen l.names; held = held l.sink; queue = l.queue; waiting = l.session.replies; counts = l.session.counts }) (telnet_to_come l.lines) None;
-      causes : Causes (g.K.Sink.faults l.fn.sink) (g.K.Sink.faults l.sink) (g.R.Rows.stops l.fn.names) (g.R.Rows.stops l.names) None;
+      moves : Moves (admission l.config l.rule.patterns) (record { seen = seen l.fn.names.rows; held = held l.fn.sink; queue = l.fn.queue; waiting = l.fn.session.replies; counts = l.fn.session.counts }) (telnet_to_come l.fn.lines)
+          (record { seen = seen l.names.rows; held = held l.sink; queue = l.queue; waiting = l.session.replies; counts = l.session.counts }) (telnet_to_come l.lines) None;
+      causes : Causes (g.K.Sink.faults l.fn.sink) (g.K.Sink.faults l.sink) (g.R.Rows.stops l.fn.names.rows) (g.R.Rows.stops l.names.rows) None;
       number : g.K.Sink.number l.sink ≡ g.K.Sink.number l.fn.sink;
     }
 

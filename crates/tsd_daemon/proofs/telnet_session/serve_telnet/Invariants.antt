@@ -13,15 +13,15 @@ invariant-loop-session g l =
     let held = g.K.Sink.held in
     let s = g.S.Source in
     record {
-      talks : (clock : ClockTells) → MovesOn (admission l.config l.rule.patterns) (record { taken = s.taken l.fn.source; left = s.left l.fn.source; clock = clock; size = l.fn.input.taken })
-          (record { seen = seen l.fn.names; held = held l.fn.sink; queue = l.fn.queue; waiting = []; counts = no_counts }) (λ more. telnet_asks (l.fn.input.piece ++ more))
-          (record { taken = s.taken l.source; left = s.left l.source; clock = clock; size = l.input.taken })
-          (record { seen = seen l.names; held = held l.sink; queue = l.queue; waiting = l.session.replies; counts = l.session.counts }) (λ more. telnet_to_come l.lines (l.input.piece ++ more));
+      talks : (clock : ClockTells) → MovesOn (admission l.config l.rule.patterns) (record { taken = s.taken l.fn.source; left = s.left l.fn.source; last = s.last l.fn.source; clock = clock; size = l.fn.input.taken })
+          (record { seen = seen l.fn.names.rows; held = held l.fn.sink; queue = l.fn.queue; waiting = []; counts = no_counts }) (λ more. telnet_asks (l.fn.input.piece ++ more))
+          (record { taken = s.taken l.source; left = s.left l.source; last = s.last l.source; clock = clock; size = l.input.taken })
+          (record { seen = seen l.names.rows; held = held l.sink; queue = l.queue; waiting = l.session.replies; counts = l.session.counts }) (λ more. telnet_to_come l.lines (l.input.piece ++ more));
       quiet : l.session.replies ≡ [];
       most : l.input.taken ≤ 2 ^ 40;
       reads : s.faults l.fn.source ≤ s.faults l.source;
       writes : g.K.Sink.faults l.fn.sink ≤ g.K.Sink.faults l.sink;
-      stops : g.R.Rows.stops l.fn.names ≤ g.R.Rows.stops l.names;
+      stops : g.R.Rows.stops l.fn.names.rows ≤ g.R.Rows.stops l.names.rows;
       source : s.number l.source ≡ s.number l.fn.source;
       sink : g.K.Sink.number l.sink ≡ g.K.Sink.number l.fn.sink;
     }
