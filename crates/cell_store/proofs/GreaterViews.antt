@@ -8,13 +8,15 @@ use Rattle.cell_model.specs.declared.events.Placed.{Placed}
 use Rattle.cell_model.specs.History.{History, entry_at}
 use Rattle.cell_model.specs.Seen.{Seen, Saw, Waited, HasSeenOpening}
 use Rattle.cell_model.specs.Deeds.{placed, Extends}
+use Rattle.step_count.specs.declared.counter_rule.TheConstants.{OPENINGS}
 use Rattle.step_count.specs.declared.view.Named.{Named}
 use Rattle.step_count.specs.declared.view.View.{View}
-use Rattle.step_count.specs.CounterRule.{Log, AreDifferent, numbers_in, opening, by_caller, Fits}
-use Rattle.step_count.specs.ViewSteps.{Lives, learned, met, first_named, opened, newcomer}
-use Rattle.cell_store.specs.CallerViews.{head_of, rest_of, base_in, numbers_of, seen_of, IsCaller, IsNote, Heard}
+use Rattle.step_count.specs.CounterRule.{Log, AreDifferent, numbers_in, opening, by_caller, in_region, store_in, Fits}
+use Rattle.step_count.specs.ViewSteps.{HasLicence, Lives, callers_alone, extended, learned, met, first_named, opened, regions_in, without_callers}
+use Rattle.step_count.specs.FirstViews.{name_in, opener}
+use Rattle.cell_store.specs.CallerViews.{head_of, rest_of, base_in, numbers_of, opened_by, opened_numbers, seen_of, IsCaller, IsNote, IsOpener, Heard, MadeNoMore, SawOpeningsAlone}
 use Rattle.cell_store.specs.SiteEnds.{took}
-use Rattle.cell_store.proofs.Lower.{nat_eq-refl, here, split, in_map, picked_has}
+use Rattle.cell_store.proofs.Lower.{nat_eq-refl, here, split, not_in, in_map, picked_has}
 use Rattle.cell_store.proofs.SeenViews.{own_in, own_seen}
 
 pub record Sub (v u : View) : Type 0 where
@@ -193,9 +195,76 @@ caller_absorbed name v l u w n c o is1 is2 le live =
           },
         )
 
+-- neither made an entry meanwhile
+made_no_more : (name : Named) (v u : View) → IsCaller name v → IsCaller name u → Sub v u → MadeNoMore (seen_of v) (seen_of u)
+made_no_more name v u cv cu sub h f q x le own at =
+    let w = own_in v.callers cv.first cv.others cv.callers x.caller own in
+    let saw = f.no_other q x le (is_own u.callers cu.first cu.others cu.callers x.caller w.0 (sub.callers x.caller w.0 w.1)) at in
+    own_sub v u sub cv.live cu.live x.caller w.0 w.1 q x refl saw.1
+
+pub absorbed_made : (name : Named) (v l u w : View) (n : ℕ) → IsCaller name v → IsCaller name l → u ≡ met v l → w ≡ learned u n → u.length ≤ n → Lives w → MadeNoMore (seen_of v) (seen_of w) × MadeNoMore (seen_of l) (seen_of w)
+absorbed_made name v l u w n c o is1 is2 le live =
+    let cw = (caller_absorbed name v l u w n c o is1 is2 le live).0 in
+    let later : Sub (met v l) w = subst (λ (x : View). Sub x w) is1 (subst (Sub u) (sym is2) (sub_learned u n le)) in (
+      made_no_more name v w c cw (sub_trans v (met v l) w (sub_met v l) later),
+      made_no_more name l w o cw (sub_trans l (met v l) w (sub_other name v l c.named o.named) later),
+    )
+
+-- and so by another name
+pub made_from : (old same new : Seen) → old ≡ same → MadeNoMore old new → MadeNoMore same new
+made_from old same new is m = subst (λ s. MadeNoMore s new) is m
+
 -- opening
-pub caller_opened : (name : Named) (w : View) (n : ℕ) → w ≡ opened (newcomer (Some name)) n → Lives w → IsCaller name w × HasSeenOpening (seen_of w)
-caller_opened name w n is live = subst (λ (x : View). Lives x → IsCaller name x × HasSeenOpening (seen_of x)) (sym is) (λ l. (
-  record { named = refl; free = refl; first = (n, placed n (opening n) ∷ []); others = []; callers = refl; live = l },
-  (n, (omega arith, here (placed n (opening n)) [])),
-)) live
+pub record HasOpened (name : Named) (w : View) : Type 0 where
+  pub caller : IsCaller name w
+  pub opening_seen : HasSeenOpening (seen_of w)
+  pub alone : SawOpeningsAlone (seen_of w)
+  pub base : (seen_of w).base ≡ store_in name
+  pub absorbed : (seen_of w).absorbed ≡ []
+
+pub caller_opened : (name : Named) (s w : View) (n : ℕ) → IsOpener name s → w ≡ callers_alone (opened s n) → Lives w → HasOpened name w
+caller_opened name s w n o is live = subst (λ (x : View). Lives x → HasOpened name x) (sym is) (λ l. record {
+  caller = record { named = o.named; free = refl; first = (n, placed n (opening n) ∷ []); others = []; callers = ap (λ (ls : List Log). (n, placed n (opening n) ∷ []) ∷ ls) o.nobody; live = l };
+  opening_seen = (n, (omega arith, here (placed n (opening n)) s.seen));
+  alone = λ q x saw. elim (split (placed n (opening n)) (placed q x) s.seen saw.1) [ inl same ↦ ap (λ (p : Placed). p.entry.step) (sym same) | inr was ↦ o.only (placed q x) was ];
+  base = ap base_in o.named;
+  absorbed = ap numbers_in o.nobody;
+}) live
+
+-- that by which it opened has its number behind those before
+pub still_opens : (name : Named) (s w : View) (n : ℕ) → IsOpener name s → w ≡ without_callers (opened s n) → IsOpener name w × (opened_numbers w ≡ opened_numbers s ++ n ∷ [])
+still_opens name s w n o is = subst (λ (x : View). IsOpener name x × (opened_numbers x ≡ opened_numbers s ++ n ∷ [])) (sym is) (
+  record {
+    named = o.named;
+    nobody = refl;
+    log = o.log ++ placed n (opening n) ∷ [];
+    licence = more;
+    only = λ p has. elim (split (placed n (opening n)) p s.seen has) [ inl same ↦ ap (λ (q : Placed). q.entry.step) (sym same) | inr was ↦ o.only p was ];
+  },
+  ap opened_by more ∙ map-append (λ (p : Placed). p.entry.caller) o.log (placed n (opening n) ∷ []) ∙ ap (λ (ls : List Log). opened_by ls ++ n ∷ []) (sym o.licence),
+)
+  where
+    more : extended (in_region (regions_in s.named)) (placed n (opening n)) s.licences ≡ (OPENINGS, o.log ++ placed n (opening n) ∷ []) ∷ []
+    more = ap (extended (in_region (regions_in s.named)) (placed n (opening n))) o.licence
+
+-- both, where one call made them
+pub record DidOpen (name : Named) (s s' w : View) : Type 0 where
+  pub has : HasOpened name w
+  pub opener_is : IsOpener name s'
+  pub numbers : opened_numbers s' ≡ opened_numbers s ++ (seen_of w).caller ∷ []
+
+pub did_open : (name : Named) (s s' w : View) (n : ℕ) → IsOpener name s → w ≡ callers_alone (opened s n) → s' ≡ without_callers (opened s n) → Lives w → DidOpen name s s' w
+did_open name s s' w n o w_is s_is live =
+    let t = still_opens name s s' n o s_is in
+    record { has = caller_opened name s w n o w_is live; opener_is = t.0; numbers = t.1 ∙ ap (λ (x : View). opened_numbers s ++ head_of x.callers ∷ []) (sym w_is) }
+
+-- it has the licence
+pub opener_log : (name : Named) (s : View) → (o : IsOpener name s) → Contains s.licences (OPENINGS, o.log)
+opener_log name s o = subst (λ (ls : List Log). Contains ls (OPENINGS, o.log)) (sym o.licence) (here (OPENINGS, o.log) [])
+
+pub opener_has : (name : Named) (s : View) → IsOpener name s → HasLicence OPENINGS s
+opener_has name s o = (o.log, opener_log name s o)
+
+-- before anyone opened
+pub opener_first : (name : Named) (number : ℕ) (v : View) → v ≡ opener (Some name) number 0 → IsOpener (name_in v.named) v × (opened_numbers v ≡ [])
+opener_first name number v is = subst (λ (x : View). IsOpener (name_in x.named) x × (opened_numbers x ≡ [])) (sym is) (record { named = refl; nobody = refl; log = []; licence = refl; only = λ p has. absurd (not_in p has) }, refl)

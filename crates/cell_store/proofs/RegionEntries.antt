@@ -1,6 +1,6 @@
 -- One step under a region's lock.
 use Rattle.std.proofs.Common.{◌≡◌, ◌≢◌, ◌⊎◌, inl, inr, ℕ, ◌+◌, ◌≤◌, max, Bool, true, false, cond, List, [], ◌∷◌, ◌++◌, append-nil, refl, sym, ap, ◌∙◌, subst, arith, IsTrue}
-use Rattle.std.specs.Prelude.{Some, None, Option, IsSomeAnd, Contains, ◌==◌}
+use Rattle.std.specs.Prelude.{Some, None, Option, IsSomeAnd, Contains, ◌==◌, ◌||◌, ◌&&◌, nat_eq}
 use Rattle.std.proofs.lemmas.List.Elements.{Contains-append_cases, Contains-append_left, Contains-append_right}
 use Rattle.cell_model.specs.declared.row.Row.{Row}
 use Rattle.cell_model.specs.declared.events.Step.{Step}
@@ -18,9 +18,10 @@ use Rattle.cell_parts.specs.StoreParts.{part, is_mine, StaysWithin, replayed}
 use Rattle.cell_parts.specs.StoreParts.{is_in}
 use Rattle.row_key.specs.declared.widths.Widths.{Widths}
 use Rattle.row_key.specs.Regions.{region_number}
+use Rattle.step_count.specs.declared.counter_rule.TheConstants.{OPENINGS}
 use Rattle.step_count.specs.declared.view.Named.{Named}
 use Rattle.step_count.specs.declared.view.View.{View}
-use Rattle.step_count.specs.CounterRule.{Log, numbers_in, store_in, by_caller, in_region, Fits}
+use Rattle.step_count.specs.CounterRule.{Log, numbers_in, store_in, by_caller, is_open, in_region, Fits}
 use Rattle.step_count.specs.ViewSteps.{Lives, MayAdd, HasLicence, regions_in, added, extended, met, first_named, without_licence, licence_alone, without, only}
 use Rattle.cell_store.specs.CallerViews.{head_of, rest_of, seen_of, IsCaller, Replays}
 use Rattle.cell_store.specs.StepOrders.{Covered}
@@ -125,7 +126,7 @@ module _ (name : Named) (number : ℕ) (content : Store) (covers : Row → Bool)
   module _ (mine : is_mine (is_in name.widths name.data_regions number) step ≡ true) (content_is : content ≡ replayed (part (is_in name.widths name.data_regions number) (store_in name)) log) (rows_are : covers ≡ is_in name.widths name.data_regions number)
       (old : Lives V) (le : max vlen llen + 1 ≤ place) (lives : Lives W) where
     licensed : W.licences ≡ (number, log ++ P ∷ []) ∷ []
-    licensed = ap (λ b. (number, log ++ cond b (P ∷ []) []) ∷ []) mine
+    licensed = ap (λ b. (number, log ++ cond (b || (is_open step && nat_eq number OPENINGS)) (P ∷ []) []) ∷ []) mine
 
     without_one : (t : List Placed) → without number ((number, t) ∷ []) ≡ []
     without_one t = ap (λ b. cond b [] ((number, t) ∷ [])) (same_number number)

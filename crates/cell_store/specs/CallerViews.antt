@@ -1,14 +1,18 @@
 -- What lies under a region's lock, and what a pass has seen.
-use Rattle.std.specs.Prelude.{◌≡◌, ℕ, ◌≤◌, Bool, false, Contains, List, [], ◌∷◌, Some, None}
+use Rattle.std.specs.Prelude.{◌≡◌, ℕ, ◌≤◌, Bool, false, Contains, List, [], ◌∷◌, map, Some, None}
 use Rattle.std.specs.declared.option.Option.{Option}
 use Rattle.row_key.specs.Made.{three}
 use Rattle.atomic_table.specs.Seated.{TableId}
 use Rattle.cell_model.specs.declared.row.Row.{Row}
+use Rattle.cell_model.specs.declared.events.Step.TheVariants.{Open}
+use Rattle.cell_model.specs.declared.events.Entry.{Entry}
 use Rattle.cell_model.specs.declared.events.Placed.{Placed}
+use Rattle.cell_model.specs.History.{History, entry_at}
 use Rattle.cell_model.specs.Store.{Store, no_cells}
-use Rattle.cell_model.specs.Seen.{Seen, Saw}
+use Rattle.cell_model.specs.Seen.{Seen, Saw, IsOwn, Fits}
 use Rattle.cell_parts.specs.StoreParts.{part, replayed}
 use Rattle.cell_parts.specs.StoreParts.{is_in}
+use Rattle.step_count.specs.declared.counter_rule.TheConstants.{OPENINGS}
 use Rattle.step_count.specs.declared.view.Named.{Named}
 use Rattle.step_count.specs.declared.view.View.{View}
 use Rattle.step_count.specs.CounterRule.{Log, store_in, numbers_in}
@@ -73,3 +77,27 @@ pub record Heard (v : View) (s : Seen) : Type 0 where
 pub record Tells (v : View) (s : Seen) : Type 0 where
   pub length : v.length ≡ s.length
   pub seen : v.seen ≡ s.entries
+
+-- the numbers of the callers that opened by this licence, in order
+abbrev pub opened_by : List Log → List ℕ
+opened_by [] = []
+opened_by (l ∷ ls) = map (λ (p : Placed). p.entry.caller) l.1
+
+abbrev pub opened_numbers : View → List ℕ
+opened_numbers v = opened_by v.licences
+
+-- that by which callers open: it has the licence of openings, with all of them, and has seen nothing else
+pub record IsOpener (name : Named) (v : View) : Type 0 where
+  pub named : v.named ≡ Some name
+  pub nobody : v.callers ≡ []
+  pub log : List Placed
+  pub licence : v.licences ≡ (OPENINGS, log) ∷ []
+  pub only : (p : Placed) → Contains v.seen p → p.entry.step ≡ Open
+
+-- openings are all that was seen
+abbrev pub SawOpeningsAlone : Seen → Type 0
+SawOpeningsAlone s = (place : ℕ) (e : Entry) → Saw s place e → e.step ≡ Open
+
+-- in each history that fits the later, the caller, and each that it absorbed, made no entry behind those that it had seen
+abbrev pub MadeNoMore : Seen → Seen → Type 0
+MadeNoMore old new = (h : History) → Fits new h → (place : ℕ) (e : Entry) → place ≤ new.length → IsOwn old e.caller → entry_at h place ≡ Some e → Saw old place e

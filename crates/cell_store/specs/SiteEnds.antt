@@ -1,14 +1,15 @@
 -- Regions whose licences a pass takes, and what is known at a site's end.
-use Rattle.std.specs.Prelude.{◌≡◌, ℕ, ◌+◌, min, List, [], ◌∷◌, ◌++◌, length}
-use Rattle.cell_model.specs.History.{History, base_of, store_after}
+use Rattle.std.specs.Prelude.{◌≡◌, ℕ, ◌+◌, min, List, [], ◌∷◌, ◌++◌, length, Contains, Some}
+use Rattle.cell_model.specs.declared.events.Entry.{Entry}
+use Rattle.cell_model.specs.History.{History, base_of, entry_at, store_after}
 use Rattle.cell_model.specs.Lawful.{IsLawful}
-use Rattle.cell_model.specs.Seen.{Seen, Fits}
+use Rattle.cell_model.specs.Seen.{Seen, Saw, IsOwn, Fits}
 use Rattle.cell_region.specs.declared.region.Region.{Region}
 use Rattle.cell_region.specs.DividedStore.{DividedStore}
 use Rattle.cell_region.specs.RegionLists.{cells_in, rows_of}
 use Rattle.step_count.specs.declared.view.Named.{Named}
 use Rattle.step_count.specs.declared.view.View.{View}
-use Rattle.step_count.specs.CounterRule.{region_count, store_in}
+use Rattle.step_count.specs.CounterRule.{opening, region_count, store_in}
 use Rattle.step_count.specs.ViewSteps.{met}
 use Rattle.cell_store.specs.CallerViews.{Replays}
 
@@ -32,11 +33,15 @@ pub record Closed (name : Named) (first last : ℕ) (old : View) (before : List 
   pub replays : AreReplays name (min first (region_count name)) regions licences
   pub count : min first (region_count name) + length regions ≡ min last (region_count name)
 
--- one lawful history over the named store fits what was seen, and the store of all regions is the store after it
-pub record EndsAt (name : Named) (s : Seen) (d : DividedStore) : Type 0 where
+-- One lawful history over the named store fits what was seen, and the store of all regions is the store after it. The caller, and each that it absorbed, opened in it
+-- and made no entry behind those that it had seen. These are all that opened, and each entry is of one of them.
+pub record EndsAt (name : Named) (opened : List ℕ) (s : Seen) (d : DividedStore) : Type 0 where
   pub history : History
   pub lawful : IsLawful history
   pub base_is : base_of history ≡ store_in name
   pub fits : Fits s history
+  pub own : (place : ℕ) (e : Entry) → IsOwn s e.caller → entry_at history place ≡ Some e → Saw s place e
+  pub mine : (caller : ℕ) → IsOwn s caller → (entry_at history caller ≡ Some (opening caller)) × Contains opened caller
+  pub callers : (place : ℕ) (e : Entry) → entry_at history place ≡ Some e → Contains opened e.caller
   pub regions_are : d.data_regions ≡ name.data_regions
   pub store_is : d.content ≡ store_after history

@@ -3,6 +3,7 @@
 
 mod five_locks;
 pub mod gate;
+pub mod openings;
 mod region_lock;
 mod reply_parts;
 pub mod site;
@@ -13,6 +14,7 @@ mod step_names;
 mod step_order;
 
 pub use gate::{Gate, NoGate};
+pub use openings::Openings;
 pub use site::Site;
 pub use site_parts::SiteParts;
 pub use site_pass::SitePass;

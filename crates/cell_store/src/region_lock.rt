@@ -99,7 +99,7 @@ impl<J: StepNames, const N: u32> Held<J, N> {
         (region, licence)
     }
 
-    // One step on the region, after the gate. Memory is taken before the licence, and nothing that is refused touches the counter.
+    // One step on the region, after its gate was called. Memory is taken before the licence, and nothing that is refused touches the counter.
     fn run<G: Gate, T: Wait>(
         &mut self,
         gate: &G,
@@ -108,11 +108,11 @@ impl<J: StepNames, const N: u32> Held<J, N> {
         pass: &mut Pass,
         order: &Order,
     ) -> Result<Reply, AllocError>
-        requires gate { G.lets_in gate.now N ≡ true }
         requires may { MayRun J.counter J.name N pass.old (step_of order.now) }
-        ensures { HasRun J.counter J.name (view_of_pass pass.old) (step_of order.now) result pass.new }
+        ensures gate { G.lets_in gate.now N ≡ true }
+        ensures run { HasRun J.counter J.name (view_of_pass pass.old) (step_of order.now) result pass.new }
     {
-        let _gate = gate;
+        gate.inside(N);
         let reply = apply(&mut self.region, alloc, order)?;
         let Some(licence) = self.licence.take() else {
             unreachable!()
@@ -206,7 +206,7 @@ impl<J: StepNames, const N: u32> RegionLock<J, N> {
         }
     }
 
-    /// One step on the region, under its lock. The gate is called before it.
+    /// One step on the region, under its lock. The gate is called under it too, before the step.
     pub(crate) fn run<G: Gate, T: Wait>(
         &self,
         gate: &G,
@@ -220,7 +220,6 @@ impl<J: StepNames, const N: u32> RegionLock<J, N> {
         ensures run { HasRun J.counter J.name (view_of_pass pass.old) (step_of order.now) result pass.new }
     {
         let mut guard = locked(&self.lock, rt);
-        gate.inside(N);
         let held = &mut *guard;
         held.run(gate, alloc, rt, pass, order)
     }

@@ -1,15 +1,16 @@
-//! The regions of a store behind their locks, and the counter of their steps.
-ghost use Rattle.std.specs.Prelude.{◌≡◌, ◌+◌, ◌<◌, ◌≤◌, true, [], IfOk, vec_len, vec_capacity};
+//! The regions of a store behind their locks.
+ghost use Rattle.std.specs.Prelude.{◌≡◌, ◌+◌, ◌++◌, ◌∷◌, ◌<◌, ◌≤◌, true, [], IfOk, OnErr, vec_len, vec_capacity};
 ghost use Rattle.cell_model.specs.Seen.{HasSeenOpening, IsPossible};
 ghost use Rattle.cell_parts.specs.StoreParts.{is_in};
 ghost use Rattle.step_count.specs.CounterRule.{region_count, store_in};
-ghost use Rattle.step_count.specs.Tokens.{counter_of_pass, counter_of_steps, name_of_steps, view_of_pass};
+ghost use Rattle.step_count.specs.Tokens.{counter_of_pass, view_of_pass};
 ghost use Rattle.cell_store.specs.StepOrders.{step_of};
-ghost use Rattle.cell_store.specs.CallerViews.{IsCaller, seen_of};
+ghost use Rattle.cell_store.specs.CallerViews.{IsCaller, SawOpeningsAlone, seen_of};
 ghost use Rattle.cell_store.specs.StepEntries.{HasRun, MayRun};
 ghost use Rattle.cell_store.specs.SiteEnds.{EndsAt};
 
 use crate::gate::Gate;
+use crate::openings::Openings;
 use crate::site_locks::SiteLocks;
 use crate::site_pass::SitePass;
 use crate::step_names::StepNames;
@@ -20,14 +21,13 @@ use row_key::{Table, Widths, region_of};
 use std::alloc::{AllocError, Global};
 use std::marker::Model;
 use std::sync::Wait;
-use step_count::{Pass, Steps};
+use step_count::Pass;
 
-/// The regions of a store, each behind its lock with its licence, and the counter of their steps. All callers of the store step on it.
+/// The regions of a store, each behind its lock with its licence. All callers of the store step on it.
 ///
 /// Contracts see it as its gate.
 #[derive(Drop)]
 pub struct Site<J: StepNames, G: Gate + Drop> {
-    steps: Steps,
     locks: SiteLocks<J>,
     widths: Widths,
     data_regions: u32,
@@ -39,28 +39,24 @@ pub struct Site<J: StepNames, G: Gate + Drop> {
 
 impl<J: StepNames, G: Gate + Drop> Model for Site<J, G> {
     ghost use Rattle.std.specs.Prelude.{◌≡◌, ◌+◌, ◌≤◌, [], vec_len, vec_capacity};
-    ghost use Rattle.step_count.specs.Tokens.{counter_of_steps, name_of_steps};
 
     ghost Value = { G };
 
     ghost view = { λ s. s.gate };
 
-    ghost invariant = { λ s. (counter_of_steps s.steps ≡ J.counter) × (name_of_steps s.steps ≡ J.name) × (s.data_regions ≡ J.name.data_regions) × (1 ≤ s.data_regions) × (s.data_regions ≤ 16) × (s.room.items ≡ []) × (vec_len s.room + 25 ≤ vec_capacity s.room) × (s.widths ≡ J.name.widths) };
+    ghost invariant = { λ s. (s.data_regions ≡ J.name.data_regions) × (1 ≤ s.data_regions) × (s.data_regions ≤ 16) × (s.room.items ≡ []) × (vec_len s.room + 25 ≤ vec_capacity s.room) × (s.widths ≡ J.name.widths) };
 }
 
 impl<J: StepNames, G: Gate + Drop> Site<J, G> {
     /// The site of these locks.
     pub(crate) fn over(
         alloc: Global,
-        steps: Steps,
         locks: SiteLocks<J>,
         widths: Widths,
         data_regions: u32,
         room: Vec<Region>,
         gate: G,
     ) -> Self
-        requires counter { counter_of_steps steps ≡ J.counter }
-        requires name { name_of_steps steps ≡ J.name }
         requires widths { widths ≡ J.name.widths }
         requires data_regions { data_regions ≡ J.name.data_regions }
         requires least { 1 ≤ data_regions }
@@ -69,7 +65,6 @@ impl<J: StepNames, G: Gate + Drop> Site<J, G> {
         requires room { vec_len room + 25 ≤ vec_capacity room }
     {
         Site {
-            steps,
             locks,
             widths,
             data_regions,
@@ -115,25 +110,33 @@ impl<J: StepNames, G: Gate + Drop> Site<J, G> {
         self.locks.run(&self.gate, alloc, rt, pass, region, order)
     }
 
-    /// A new caller, with a number of its own. It makes one entry, its opening, and fails only for want of memory.
-    pub fn open_pass<'a, T: Wait>(&'a self, rt: &'a T) -> Result<SitePass<'a, J, G, T>, AllocError>
+    /// A new caller, with a number of its own. One entry is made, its opening, and nobody else opens. It fails only for want of memory, and
+    /// then nobody opened.
+    pub fn open_pass<'a, T: Wait>(
+        &'a self,
+        rt: &'a T,
+        openings: &mut Openings<J>,
+    ) -> Result<SitePass<'a, J, G, T>, AllocError>
         ensures possible { IfOk result (λ p. IsPossible p) }
         ensures opening { IfOk result (λ p. HasSeenOpening p) }
+        ensures alone { IfOk result (λ p. SawOpeningsAlone p) }
         ensures base { IfOk result (λ p. p.base ≡ store_in J.name) }
         ensures absorbed { IfOk result (λ p. p.absorbed ≡ []) }
+        ensures one { IfOk result (λ p. openings.new ≡ openings.old ++ p.caller ∷ []) }
+        ensures none { OnErr result (openings.new ≡ openings.old) }
     {
-        let pass = Pass::open_on(rt, &self.steps)?;
+        let pass = Pass::open_on(rt, &mut openings.steps)?;
         Ok(SitePass::of(self, rt, pass))
     }
 
-    /// The store after the site's whole history, which fits what the pass has seen, for each caller that it is or absorbed.
-    pub fn end(self, pass: Pass) -> Regions
+    /// The store after the site's whole history, which fits what the pass has seen, for each caller that it is or absorbed. None of these made
+    /// an entry behind that, and each entry is of a caller that opened.
+    pub fn end(self, openings: Openings<J>, pass: Pass) -> Regions
         requires counter { counter_of_pass pass ≡ J.counter }
         requires caller { IsCaller J.name (view_of_pass pass) }
-        ensures { EndsAt J.name (seen_of (view_of_pass pass)) result }
+        ensures { EndsAt J.name openings (seen_of (view_of_pass pass)) result }
     {
         let Site {
-            steps: _,
             locks,
             widths: _,
             data_regions: _,
@@ -142,6 +145,7 @@ impl<J: StepNames, G: Gate + Drop> Site<J, G> {
             gate: _,
         } = self;
         let mut pass = pass;
+        pass.take(openings.close());
         let mut regions = room;
         locks.close(&mut pass, &mut regions);
         pass.learn();

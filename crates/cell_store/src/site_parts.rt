@@ -1,9 +1,10 @@
 //! A site whose step counter has no name yet.
-ghost use Rattle.std.specs.Prelude.{◌≡◌, IfOk};
+ghost use Rattle.std.specs.Prelude.{◌≡◌, [], IfOk};
 ghost use Rattle.cell_model.specs.Sound.{IsBase};
 ghost use Rattle.step_count.specs.FirstViews.{named};
 
 use crate::gate::Gate;
+use crate::openings::Openings;
 use crate::site::Site;
 use crate::site_locks::{MOST_REGIONS, SiteLocks};
 use crate::step_names::StepNames;
@@ -31,14 +32,15 @@ pub struct SiteParts<G: Gate + Drop> {
 
 impl<G: Gate + Drop> Model for SiteParts<G> {
     ghost use Rattle.std.specs.Prelude.{◌≡◌, ◌+◌, ◌≤◌, [], vec_len, vec_capacity};
-    ghost use Rattle.step_count.specs.Tokens.{counter_of_steps, name_of_steps};
+    ghost use Rattle.step_count.specs.Tokens.{counter_of_steps, name_of_steps, view_of_steps};
+    ghost use Rattle.cell_store.specs.CallerViews.{IsOpener, opened_numbers};
     ghost use Rattle.cell_store.specs.SiteStarts.{AreUnopened, Unnamed};
 
     ghost Value = { Unnamed };
 
     ghost view = { λ s. record { counter = counter_of_steps s.steps; name = name_of_steps s.steps } };
 
-    ghost invariant = { λ s. AreUnopened (counter_of_steps s.steps) (name_of_steps s.steps) 0 s.regions.items s.licences.items × (s.data_regions ≡ (name_of_steps s.steps).data_regions) × (1 ≤ s.data_regions) × (s.data_regions ≤ 16) × (s.room.items ≡ []) × (vec_len s.room + 25 ≤ vec_capacity s.room) × (s.widths ≡ (name_of_steps s.steps).widths) };
+    ghost invariant = { λ s. AreUnopened (counter_of_steps s.steps) (name_of_steps s.steps) 0 s.regions.items s.licences.items × (s.data_regions ≡ (name_of_steps s.steps).data_regions) × (1 ≤ s.data_regions) × (s.data_regions ≤ 16) × (s.room.items ≡ []) × (vec_len s.room + 25 ≤ vec_capacity s.room) × (s.widths ≡ (name_of_steps s.steps).widths) × IsOpener (name_of_steps s.steps) (view_of_steps s.steps) × (opened_numbers (view_of_steps s.steps) ≡ []) };
 }
 
 impl<G: Gate + Drop> SiteParts<G> {
@@ -73,10 +75,11 @@ impl<G: Gate + Drop> SiteParts<G> {
         })
     }
 
-    /// The site: it names the step counter, and takes no memory.
-    pub fn named<J: StepNames>(self) -> Site<J, G>
+    /// The site, of which no caller has opened yet, and that by which callers open: it names the step counter, and takes no memory.
+    pub fn named<J: StepNames>(self) -> (Site<J, G>, Openings<J>)
         requires counter { self.counter ≡ J.counter }
         requires name { self.name ≡ J.name }
+        ensures { result.1 ≡ [] }
     {
         let SiteParts {
             steps,
@@ -91,6 +94,7 @@ impl<G: Gate + Drop> SiteParts<G> {
         let mut regions = regions.into_iter();
         let mut licences = licences.into_iter();
         let locks = SiteLocks::open(alloc, data_regions, &mut regions, &mut licences);
-        Site::over(alloc, steps, locks, widths, data_regions, room, gate)
+        let site = Site::over(alloc, locks, widths, data_regions, room, gate);
+        (site, Openings::of(steps))
     }
 }

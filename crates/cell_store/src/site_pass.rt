@@ -7,7 +7,7 @@ ghost use Rattle.step_count.specs.CounterRule.{AreDifferent, region_count};
 ghost use Rattle.step_count.specs.Tokens.{counter_of_note, counter_of_pass, view_of_note, view_of_pass};
 ghost use Rattle.step_count.specs.ViewSteps.{Lives, learned, met};
 ghost use Rattle.cell_store.specs.StepOrders.{Answers, TakesMemory, step_of};
-ghost use Rattle.cell_store.specs.CallerViews.{Heard, IsCaller, IsNote, Tells, numbers_of, seen_of};
+ghost use Rattle.cell_store.specs.CallerViews.{Heard, IsCaller, IsNote, MadeNoMore, Tells, numbers_of, seen_of};
 ghost use Rattle.cell_store.specs.StepEntries.{InRange, WasLetIn};
 
 use crate::gate::Gate;
@@ -91,13 +91,16 @@ impl<'a, J: StepNames, G: Gate + Drop, T: Wait> SitePass<'a, J, G, T> {
         self.pass.learn();
     }
 
-    /// Takes another's place: what fits this caller afterwards fits both. It has the other's numbers too, and no two of them all are one.
+    /// Takes another's place: what fits this caller afterwards fits both. It has the other's numbers too, and no two of them all are one. Neither
+    /// made an entry meanwhile.
     pub fn absorb(&mut self, other: SitePass<'a, J, G, T>)
         ensures mine { Extends self.old self.new }
         ensures theirs { Extends other.entry self.new }
         ensures caller { self.new.caller ≡ self.old.caller }
         ensures numbers { numbers_of self.new ≡ numbers_of self.old ++ numbers_of other.entry }
         ensures different { AreDifferent (numbers_of self.new) }
+        ensures mine_made { MadeNoMore self.old self.new }
+        ensures theirs_made { MadeNoMore other.entry self.new }
         ensures possible { IsPossible self.new }
     {
         absorb_all(&mut self.pass, other.part());

@@ -1,20 +1,22 @@
 -- Connections that a worker serves one after the other.
-use Rattle.std.proofs.Common.{◌≡◌, ℕ, ◌+◌, ◌-◌, ◌^◌, ◌<◌, ◌≤◌, Bool, true, false, List, [], ◌∷◌, ◌++◌, length, refl, sym, subst, ap, ◌∙◌, length-append, arith}
+use Rattle.std.proofs.Common.{◌≡◌, inl, ℕ, ◌+◌, ◌-◌, ◌^◌, ◌<◌, ◌≤◌, Bool, true, false, List, [], ◌∷◌, ◌++◌, length, refl, sym, subst, ap, ◌∙◌, length-append, arith}
 use Rattle.std.specs.Prelude.{Option, None, Some, IsSome, min, filter, cond}
 use Rattle.std.proofs.lemmas.List.Elements.{filter-append}
 use Rattle.std.proofs.lemmas.Bool.{true≢false}
 use Rattle.std.specs.Io.KnownBytes.{Appends, IsAtEnd}
 use Rattle.tsd_io.specs.Causes.{Rose}
 use Rattle.tsd_doors.specs.Links.{AreFresh, IsNothing, Shut}
-use Rattle.cell_model.specs.History.{History}
+use Rattle.cell_model.specs.History.{History, entry_at}
 use Rattle.cell_model.specs.Lawful.{IsLawful}
-use Rattle.cell_model.specs.Seen.{Seen, Fits}
+use Rattle.cell_model.specs.declared.events.Entry.{Entry}
+use Rattle.cell_model.specs.Seen.{Seen, Fits, HasSeenOpening}
+use Rattle.cell_store.specs.CallerViews.{SawOpeningsAlone}
 use Rattle.point_put.specs.Admissions.{Admission}
 use Rattle.tsd_daemon.specs.declared.served.Served.{Served}
 use Rattle.tsd_daemon.specs.declared.served.Served.TheVariants as answer
 use Rattle.tsd_daemon.specs.ConnClocks.{Gave}
 use Rattle.tsd_daemon.specs.ServedConns.{ConnCauses, Fills, IsServed, Passes, Serves, ServesBytes}
-use Rattle.conn_workers.specs.ServedLinks.{AllTell, ClockFaultsWithin, HasEndCause, LinkServed, ServedInTurn, ServedLink, WorkerServed, clock_fault_count, is_clock_fault}
+use Rattle.conn_workers.specs.ServedLinks.{AllTell, ClockFaultsWithin, HasEndCause, LinkServed, MadeNone, OnlyServed, ServedLink, WorkerServed, clock_fault_count, is_clock_fault}
 use Rattle.conn_workers.specs.ServedLinks.ServedInTurn.{none_yet, then_served}
 
 -- ---- bytes and moments
@@ -91,8 +93,18 @@ within_more links link old new within later rose =
 -- ---- one more connection
 
 -- a worker that served no connection yet, and whose clock wasn't asked
-pub none_served : (T U : Type 0) (c : Admission) (first : Option (List ℕ)) (by : Admission) (s : Seen) (now : Option (List ℕ)) (faults : ℕ) → by ≡ c → now ≡ first → WorkerServed T U c first by s now faults []
-none_served T U c first by s now faults is same = record { same = is; served = λ h law fits. none_yet s.length; times = []; clock = same; clock_faults = omega arith }
+pub none_served : (T U : Type 0) (c : Admission) (first : Option (List ℕ)) (by : Admission) (s : Seen) (now : Option (List ℕ)) (faults : ℕ) → by ≡ c → now ≡ first → HasSeenOpening s → SawOpeningsAlone s → WorkerServed T U c first by s now faults []
+none_served T U c first by s now faults is same opened alone = record {
+  same = is;
+  served = λ h law fits. record {
+    opened = (opened.0, fits.seen opened.0 _ opened.1);
+    within = fits.long;
+    in_turn = none_yet s.length (λ place e le own at. alone place e (fits.no_other place e le (inl own) at));
+  };
+  times = [];
+  clock = same;
+  clock_faults = omega arith;
+}
 
 -- what is to be told of one more connection, as its serving tells it
 pub record OneServed (T U : Type 0) (c : Admission) (old : Seen) (now now' : Option (List ℕ)) (faults faults' : ℕ) (new : Seen) (link : ServedLink) : Type 0 where
@@ -111,7 +123,7 @@ pub one_more_link : (T U : Type 0) (c : Admission) (first : Option (List ℕ)) (
     → (links : List ServedLink) → WorkerServed T U c first by old now faults links → WorkerServed T U c first by new now' faults' (links ++ link ∷ [])
 one_more_link T U c first by now now' old new faults faults' link one links w = record {
   same = w.same;
-  served = λ h law fits. subst (λ (k : ℕ). ServedInTurn T U c first h k (links ++ link ∷ []) new.length) (sym one.serves.since.caller) (turn h law fits);
+  served = λ h law fits. subst (λ (k : ℕ). OnlyServed T U c first h k new.length (links ++ link ∷ [])) (sym one.serves.since.caller) (turn h law fits);
   times = w.times ++ one.times;
   clock = gave_more first now now' w.times one.times w.clock one.clock;
   clock_faults = within_more links link faults faults' w.clock_faults one.later one.rose;
@@ -129,8 +141,17 @@ one_more_link T U c first by now now' old new faults faults' link one links w = 
       cause = one.cause;
     }
 
-    turn : (h : History) → IsLawful h → Fits new h → ServedInTurn T U c first h old.caller (links ++ link ∷ []) new.length
-    turn h law fits = then_served link (w.served h law (one.serves.since.extends.fits h fits)) (omega arith) one.serves.since.extends.length (omega arith) (here h law fits)
+    none_between : (h : History) (n : ℕ) → MadeNone h old.caller n n
+    none_between h n place e above below own at = omega (arith, above, below)
+
+    turn : (h : History) → IsLawful h → Fits new h → OnlyServed T U c first h old.caller new.length (links ++ link ∷ [])
+    turn h law fits =
+        let before = w.served h law (one.serves.since.extends.fits h fits) in
+        record {
+          opened = before.opened;
+          within = fits.long;
+          in_turn = then_served link before.in_turn (omega arith) one.serves.since.extends.length (omega arith) (none_between h old.length) (none_between h new.length) (here h law fits);
+        }
 
 -- what the serving of a connection says, where it was fresh and its caller is never stopped
 pub one_served : {I O : Type 0} (taken left : I → Option (List ℕ)) (held : O → Option (List ℕ)) (c : Admission) (inlet inlet' : I) (outlet outlet' : O) (number number' reads reads' writes writes' : ℕ) (shut_number : ℕ)

@@ -1,9 +1,12 @@
 -- What one worker serves, connection by connection, as a fact of the store's history.
-use Rattle.std.specs.Prelude.{◌≡◌, ℕ, ◌^◌, ◌<◌, ◌≤◌, min, ◌-◌, Bool, true, false, ⊤, List, [], ◌∷◌, ◌++◌, length, filter, Option, None, Some, IsSome}
+use Rattle.std.specs.Prelude.{◌≡◌, ◌⊎◌, ℕ, ◌^◌, ◌<◌, ◌≤◌, min, ◌-◌, Bool, true, false, ⊤, List, [], ◌∷◌, ◌++◌, length, filter, Option, None, Some, IsSome}
 use Rattle.std.specs.Io.KnownBytes.{IsAtEnd}
 use Rattle.tsd_doors.specs.Links.{Shut}
-use Rattle.cell_model.specs.History.{History}
+use Rattle.cell_model.specs.declared.events.Step.TheVariants.{Open}
+use Rattle.cell_model.specs.declared.events.Entry.{Entry}
+use Rattle.cell_model.specs.History.{History, len, entry_at, Had}
 use Rattle.cell_model.specs.Seen.{Seen, InEach}
+use Rattle.step_count.specs.CounterRule.{opening}
 use Rattle.point_put.specs.Admissions.{Admission}
 use Rattle.tsd_daemon.specs.declared.served.Served.{Served}
 use Rattle.tsd_daemon.specs.declared.served.Served.TheVariants as answer
@@ -52,12 +55,32 @@ pub record LinkServed (inlets_tell outlets_tell : Type 0) (c : Admission) (momen
   pub served : IsServed c h caller n n2 input output times link.1
   pub cause : HasEndCause link.0 (length input) link.1
 
+-- at places above the first length up to the second the caller made no entry
+abbrev pub MadeNone : History → ℕ → ℕ → ℕ → Type 0
+MadeNone h caller from to = (place : ℕ) (e : Entry) → from < place → place ≤ to → e.caller ≡ caller → entry_at h place ≡ Some e → ⊥
+
+-- up to this length the caller made no entry but its opening
+abbrev pub MadeOpeningAlone : History → ℕ → ℕ → Type 0
+MadeOpeningAlone h caller last = (place : ℕ) (e : Entry) → place ≤ last → e.caller ≡ caller → entry_at h place ≡ Some e → e.step ≡ Open
+
 -- One caller of the history served these connections, one after the other: each from a length on that is at or above the one up to which it served the connection
--- before it, and the last of them up to no more than this one. So no two of them share a place of the history.
+-- before it, and the last of them up to no more than this one. So no two of them share a place of the history. Up to this length it made no entry but its opening and
+-- those within the lengths of a connection.
 pub data ServedInTurn (inlets_tell outlets_tell : Type 0) (c : Admission) (moments : Option (List ℕ)) (h : History) (caller : ℕ) : List ServedLink → ℕ → Type 0 where
-  none_yet : (last : ℕ) → ServedInTurn inlets_tell outlets_tell c moments h caller [] last
+  none_yet : (last : ℕ) → MadeOpeningAlone h caller last → ServedInTurn inlets_tell outlets_tell c moments h caller [] last
   then_served : {links : List ServedLink} {before n n2 last : ℕ} (link : ServedLink) → ServedInTurn inlets_tell outlets_tell c moments h caller links before → before ≤ n → n ≤ n2 → n2 ≤ last
-      → LinkServed inlets_tell outlets_tell c moments h caller n n2 link → ServedInTurn inlets_tell outlets_tell c moments h caller (links ++ link ∷ []) last
+      → MadeNone h caller before n → MadeNone h caller n2 last → LinkServed inlets_tell outlets_tell c moments h caller n n2 link → ServedInTurn inlets_tell outlets_tell c moments h caller (links ++ link ∷ []) last
+
+-- the place is within the lengths of one of the connections that were served so
+abbrev pub IsWithin : {inlets_tell outlets_tell : Type 0} {c : Admission} {moments : Option (List ℕ)} {h : History} {caller : ℕ} {links : List ServedLink} {last : ℕ} → ServedInTurn inlets_tell outlets_tell c moments h caller links last → ℕ → Type 0
+IsWithin (none_yet last alone) place = ⊥
+IsWithin (then_served {n = n} {n2 = n2} link earlier up1 up2 up3 none1 none2 served) place = IsWithin earlier place ⊎ ((n < place) × (place ≤ n2))
+
+-- One caller opened in the history, and up to this length, which is no more than the history's, it served these connections in turn and made no other entry.
+pub record OnlyServed (inlets_tell outlets_tell : Type 0) (c : Admission) (moments : Option (List ℕ)) (h : History) (caller last : ℕ) (links : List ServedLink) : Type 0 where
+  pub opened : Had h (opening caller)
+  pub within : last ≤ len h
+  pub in_turn : ServedInTurn inlets_tell outlets_tell c moments h caller links last
 
 -- how many of the connections ended because the clock failed
 abbrev pub is_clock_fault : Served → Bool
@@ -72,10 +95,10 @@ abbrev pub ClockFaultsWithin : List ServedLink → ℕ → Type 0
 ClockFaultsWithin links faults = min (clock_fault_count links) (2 ^ 64 - 1) ≤ faults
 
 -- What a worker promises of the connections that it served, where its caller has seen this, it gives ids by this admission, and its clock has these moments to give
--- and failed so often: it served them in turn, in each lawful history that fits.
+-- and failed so often: it served them in turn and made no other entry, in each lawful history that fits.
 pub record WorkerServed (inlets_tell outlets_tell : Type 0) (c : Admission) (first : Option (List ℕ)) (by : Admission) (s : Seen) (now : Option (List ℕ)) (faults : ℕ) (links : List ServedLink) : Type 0 where
   pub same : by ≡ c
-  pub served : InEach s (λ h. ServedInTurn inlets_tell outlets_tell c first h s.caller links s.length)
+  pub served : InEach s (λ h. OnlyServed inlets_tell outlets_tell c first h s.caller s.length links)
   pub times : List ℕ
   pub clock : Gave first times now
   pub clock_faults : ClockFaultsWithin links faults

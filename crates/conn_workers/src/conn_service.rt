@@ -1,5 +1,5 @@
 //! The connections of doors, served by workers over any rows.
-ghost use Rattle.std.specs.Prelude.{◌≡◌, ◌<◌, ◌≤◌, ◌+◌, [], All, length, map};
+ghost use Rattle.std.specs.Prelude.{◌≡◌, ◌<◌, ◌≤◌, ◌+◌, [], All, length, map, vec_len};
 ghost use Rattle.std.specs.List.{sum_by};
 ghost use Rattle.link_workers.specs.Accepting.{AsksHalt, HasReason, links_between};
 ghost use Rattle.link_workers.specs.Returns.{AccountsFor};
@@ -45,14 +45,15 @@ pub fn serve_rows<
     requires idle { All (λ worker. worker.ends.items ≡ []) workers.old.items }
     requires own_idle { own.old.ends.items ≡ [] }
     requires begun { All (λ worker. WorkerServed (AllTell D.Inlet.taken) (AllTell D.Outlet.held) J.admission J.moments
-        (admission worker.work.config worker.work.rule.now.patterns) (R.seen worker.work.names) (C.moments worker.work.clock) (C.faults worker.work.clock) []) workers.old.items }
+        (admission worker.work.config worker.work.rule.now.patterns) (R.seen worker.work.names.rows) (C.moments worker.work.clock) (C.faults worker.work.clock) []) workers.old.items }
     requires own_begun { WorkerServed (AllTell D.Inlet.taken) (AllTell D.Outlet.held) J.admission J.moments
-        (admission own.old.work.config own.old.work.rule.now.patterns) (R.seen own.old.work.names) (C.moments own.old.work.clock) (C.faults own.old.work.clock) [] }
+        (admission own.old.work.config own.old.work.rule.now.patterns) (R.seen own.old.work.names.rows) (C.moments own.old.work.clock) (C.faults own.old.work.clock) [] }
+    ensures len { vec_len workers.new ≡ vec_len workers.old }
     ensures served { All (λ worker. WorkerServed (AllTell D.Inlet.taken) (AllTell D.Outlet.held) J.admission J.moments
-        (admission worker.work.config worker.work.rule.now.patterns) (R.seen worker.work.names) (C.moments worker.work.clock) (C.faults worker.work.clock)
+        (admission worker.work.config worker.work.rule.now.patterns) (R.seen worker.work.names.rows) (C.moments worker.work.clock) (C.faults worker.work.clock)
         (map (λ one. (D.shown one.0, one.1)) worker.ends.items)) workers.new.items }
     ensures own_served { WorkerServed (AllTell D.Inlet.taken) (AllTell D.Outlet.held) J.admission J.moments
-        (admission own.new.work.config own.new.work.rule.now.patterns) (R.seen own.new.work.names) (C.moments own.new.work.clock) (C.faults own.new.work.clock)
+        (admission own.new.work.config own.new.work.rule.now.patterns) (R.seen own.new.work.names.rows) (C.moments own.new.work.clock) (C.faults own.new.work.clock)
         (map (λ one. (D.shown one.0, one.1)) own.new.ends.items) }
     ensures counted { AccountsFor result.end (D.counts doors.old) (D.counts doors.new)
         (sum_by (λ worker. length worker.ends.items) workers.new.items + length own.new.ends.items) }

@@ -73,7 +73,7 @@ impl<
     type End = Served;
 
     ghost served = { λ work links. WorkerServed (AllTell I.taken) (AllTell O.held) J.admission J.moments
-        (admission work.config work.rule.now.patterns) (R.seen work.names) (C.moments work.clock) (C.faults work.clock) links };
+        (admission work.config work.rule.now.patterns) (R.seen work.names.rows) (C.moments work.clock) (C.faults work.clock) links };
 
     fn serve(&mut self, inlet: &mut I, outlet: &mut O) -> Served {
         R::never_stopped();

@@ -1,11 +1,11 @@
 //! Workers that have served no connection yet.
-ghost use Rattle.std.specs.Prelude.{◌≡◌, ◌<◌, [], All, IfOk, length, vec_len};
+ghost use Rattle.std.specs.Prelude.{◌≡◌, ◌+◌, ◌<◌, [], All, IfOk, length, vec_len};
 ghost use Rattle.point_put.specs.Admissions.{admission};
 ghost use Rattle.conn_workers.specs.ServedLinks.{AllTell, WorkerServed};
 
 use crate::conn_terms::ConnTerms;
 use crate::conn_worker::ConnWorker;
-use cell_store::{Gate, Site, SitePass, StepNames};
+use cell_store::{Gate, Openings, Site, SitePass, StepNames};
 use compactor::queue::Queue;
 use crossbeam_channel::Sender;
 use link_workers::link_ends::LinkEnds;
@@ -32,6 +32,7 @@ pub fn make_worker<
     rt: &'a T,
     alloc: Global,
     site: &'a Site<J, G>,
+    openings: &mut Openings<J>,
     rule: &'a UidRule,
     config: &Config,
     clock: &C,
@@ -40,10 +41,11 @@ pub fn make_worker<
 ) -> Result<ConnWorker<'a, J, SitePass<'a, J, G, T>, C, D::Bell, ToCompactor<'a, T>>, AllocError>
     requires admission { admission config.now rule.now.patterns ≡ J.admission }
     requires moments { C.moments clock.now ≡ J.moments }
-    ensures { IfOk result (λ work. WorkerServed (AllTell D.Inlet.taken) (AllTell D.Outlet.held) J.admission J.moments
-        (admission work.config work.rule.now.patterns) work.names (C.moments work.clock) (C.faults work.clock) []) }
+    ensures begun { IfOk result (λ work. WorkerServed (AllTell D.Inlet.taken) (AllTell D.Outlet.held) J.admission J.moments
+        (admission work.config work.rule.now.patterns) work.names.rows (C.moments work.clock) (C.faults work.clock) []) }
+    ensures opened { IfOk result (λ _. length openings.new ≡ length openings.old + 1) }
 {
-    let pass = site.open_pass(rt)?;
+    let pass = site.open_pass(rt, openings)?;
     let Ok(names) = Uids::over(alloc, pass, KEPT_PAIRS) else {
         return Err(AllocError);
     };
@@ -73,6 +75,7 @@ pub fn make_workers<
     rt: &'a T,
     alloc: Global,
     site: &'a Site<J, G>,
+    openings: &mut Openings<J>,
     rule: &'a UidRule,
     config: &Config,
     clock: &C,
@@ -95,12 +98,15 @@ pub fn make_workers<
     ensures len { IfOk result (λ workers. vec_len workers ≡ count) }
     ensures idle { IfOk result (λ workers. All (λ worker. worker.ends.items ≡ []) workers.items) }
     ensures begun { IfOk result (λ workers. All (λ worker. WorkerServed (AllTell D.Inlet.taken) (AllTell D.Outlet.held) J.admission J.moments
-        (admission worker.work.config worker.work.rule.now.patterns) worker.work.names (C.moments worker.work.clock) (C.faults worker.work.clock) []) workers.items) }
+        (admission worker.work.config worker.work.rule.now.patterns) worker.work.names.rows (C.moments worker.work.clock) (C.faults worker.work.clock) []) workers.items) }
+    ensures opened { IfOk result (λ _. length openings.new ≡ length openings.old + count) }
 {
     let mut workers = Vec::with_capacity(alloc, count as usize)?;
     for number in 0..count {
         let rows_to = &rows_to[number as usize % rows_to.len()];
-        let work = make_worker(rt, alloc, site, rule, config, clock, doors, rows_to)?;
+        let work = make_worker(
+            rt, alloc, site, openings, rule, config, clock, doors, rows_to,
+        )?;
         workers.push(LinkEnds::make(alloc, work))?;
     }
     Ok(workers)

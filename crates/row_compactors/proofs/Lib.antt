@@ -1,0 +1,2 @@
+mod NothingNew
+mod TakenPlaces

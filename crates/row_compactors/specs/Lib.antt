@@ -1,1 +1,2 @@
 pub mod DueRows
+pub mod Upkeep

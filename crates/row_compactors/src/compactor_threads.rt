@@ -1,4 +1,5 @@
 //! Compaction workers on threads of their own, beside what else the caller does.
+ghost use Rattle.std.specs.Prelude.{◌≡◌, vec_len};
 ghost use Rattle.std.specs.Fork.{AcceptsEach};
 
 use crate::row_compactor::{RowCompactor, compact_rows};
@@ -17,7 +18,8 @@ pub fn compact_beside<
     A,
 >(rt: &T, compactors: &mut Vec<RowCompactor<R, C>>, serve: &mut E) -> A
     requires serves { E.pre serve.old }
-    ensures { E.step serve.old result serve.new }
+    ensures len { vec_len compactors.new ≡ vec_len compactors.old }
+    ensures serves { E.step serve.old result serve.new }
 {
     call_beside(
         rt,
@@ -36,7 +38,8 @@ fn call_beside<T: Threads + Sync, S: Send, F: Fn(usize, &mut S) + Sync, E: FnMut
 ) -> A
     requires accepts { AcceptsEach F.Fn compact.now compactors.old.items }
     requires serves { E.pre serve.old }
-    ensures { E.step serve.old result serve.new }
+    ensures len { vec_len compactors.new ≡ vec_len compactors.old }
+    ensures serves { E.step serve.old result serve.new }
 {
     let (_, served) = thread::join_mut(
         rt,
@@ -55,6 +58,7 @@ fn compact_each<T: Threads + Sync, S: Send, F: Fn(usize, &mut S) + Sync>(
     compact: &F,
 )
     requires { AcceptsEach F.Fn compact.now compactors.old.items }
+    ensures { vec_len compactors.new ≡ vec_len compactors.old }
 {
     let count = compactors.len().max(1);
     thread::for_each_mut(rt, compactors, count, compact);

@@ -4,3 +4,4 @@
 pub mod compactor_seats;
 pub mod compactor_threads;
 pub mod row_compactor;
+pub mod upkeep;

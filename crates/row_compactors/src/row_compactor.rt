@@ -2,9 +2,9 @@
 ghost use Rattle.std.specs.Prelude.{◌≡◌, []};
 ghost use Rattle.row_compactors.specs.DueRows.{due_before};
 
+use crate::upkeep::Upkeep;
 use cell_model::rows::Rows;
 use compactor::queue::Queue;
-use compactor::queue_drain::drain;
 use crossbeam_channel::{Receiver, Sender};
 use row_hours::{HOUR_MILLIS, base_of};
 use std::alloc::Global;
@@ -13,14 +13,11 @@ use std::sync::Wait;
 use tsd_base::times::LAST_TIME;
 use tsd_io::clock::Clock;
 
-/// How many rows are compacted at most when some came.
-const MOST_AT_ONCE: u32 = 1_000;
-
 /// A compaction worker: rows of one caller, and the rows of points that it compacts.
 #[derive(Drop)]
 pub struct RowCompactor<R: Rows + Drop, C: Clock + Drop> {
-    /// The rows.
-    pub(crate) rows: R,
+    /// The rows, whose caller only compacts.
+    pub(crate) rows: Upkeep<R>,
 
     /// Rows of points that came and are to be compacted.
     pub(crate) queue: Queue,
@@ -97,13 +94,7 @@ fn compact_due<R: Rows + Drop, C: Clock + Drop>(worker: &mut RowCompactor<R, C>)
         return;
     };
     let before = due_before(moment);
-    let _ = drain(
-        worker.alloc,
-        &mut worker.rows,
-        &mut worker.queue,
-        before,
-        MOST_AT_ONCE,
-    );
+    worker.rows.compact(worker.alloc, &mut worker.queue, before);
 }
 
 /// The second before which an hour begins whose rows are compacted at a moment, in milliseconds since 1970.

@@ -8,23 +8,25 @@ use Rattle.std.proofs.lemmas.List.Sums.{sum_by-cons, sum_by_push}
 use Rattle.std.proofs.lemmas.Grind.{flat_map-append}
 use mathlib.Core.List.{map-append, map-map}
 use lib.ListN.{length-map}
-use Rattle.list_lemmas.proofs.ListMembers.{here, there, not_in, pairs_in, pairs_tail, split}
-use Rattle.list_lemmas.proofs.ListParts.{pairs_front, pairs_push}
+use Rattle.list_lemmas.proofs.ListMembers.{here, there, in_map, not_in, pairs_in, pairs_tail, split}
+use Rattle.list_lemmas.proofs.ListParts.{length_push, pairs_front, pairs_push}
 use Rattle.tsd_io.specs.Causes.{Rose, joined}
 use Rattle.tsd_doors.specs.Links.{Counts, Shut}
 use Rattle.link_workers.specs.declared.accept_loop.AcceptEnd.{AcceptEnd}
 use Rattle.link_workers.specs.declared.accept_loop.AcceptEnd.TheVariants as accept_end
 use Rattle.link_workers.specs.Accepting.{HasReason, IsNoneLeft, links_between, lost_by}
 use Rattle.link_workers.specs.Returns.{AccountsFor, AllEnd, many_returned}
-use Rattle.cell_model.specs.Seen.{Seen}
+use Rattle.cell_model.specs.declared.events.Entry.{Entry}
+use Rattle.cell_model.specs.History.{History, entry_at}
+use Rattle.cell_model.specs.Seen.{Seen, Fits, InEach, IsOwn}
 use Rattle.cell_model.specs.Deeds.{Extends}
 use Rattle.step_count.specs.CounterRule.{AreDifferent}
 use Rattle.step_count.proofs.CallerLemmas.{none_different, one_different, different_among}
-use Rattle.cell_store.specs.CallerViews.{numbers_of}
+use Rattle.cell_store.specs.CallerViews.{MadeNoMore, numbers_of}
 use Rattle.point_put.specs.Admissions.{Admission}
 use Rattle.tsd_daemon.specs.declared.served.Served.{Served}
-use Rattle.conn_workers.specs.ServedLinks.{ServedInTurn, ServedLink, WorkerServed, clock_fault_count, is_clock_fault}
-use Rattle.site_workers.specs.GatheredLinks.{CallerLinks, Gathered, GivenBack, SiteCounts, TakenBack, callers_of, links_of}
+use Rattle.conn_workers.specs.ServedLinks.{OnlyServed, ServedLink, WorkerServed, clock_fault_count, is_clock_fault}
+use Rattle.site_workers.specs.GatheredLinks.{CallerLinks, Gathered, GivenBack, SiteCounts, TakenBack, callers_of, links_of, returned_by}
 
 -- a list that is told, and then more
 ends_more : (a b c : Option (List Shut)) (xs ys : List Shut) → AllEnd a b xs → AllEnd b c ys → AllEnd a c (xs ++ ys)
@@ -41,8 +43,8 @@ count_joined xs ys =
     ap length (filter-append test xs ys) ∙ length-append (filter test xs) (filter test ys)
 
 -- one caller more
-links_more : (callers : List CallerLinks) (k : CallerLinks) → links_of (callers ++ k ∷ []) ≡ links_of callers ++ k.links
-links_more callers k = flat_map-append (λ (k : CallerLinks). k.links) callers (k ∷ []) ∙ ap (λ l. links_of callers ++ l) (append-nil k.links)
+links_more : (callers : List CallerLinks) (k : CallerLinks) → links_of (callers ++ k ∷ []) ≡ links_of callers ++ returned_by k
+links_more callers k = flat_map-append returned_by callers (k ∷ []) ∙ ap (λ l. links_of callers ++ l) (append-nil (returned_by k))
 
 -- a caller has none of these numbers, and they with its own are among those
 pub record IsNew (numbers all : List ℕ) (caller : ℕ) : Type 0 where
@@ -73,46 +75,85 @@ own_new own s same different = record {
 }
 
 -- nothing was given back yet
-pub none_gathered : (T U : Type 0) (c : Admission) (moments : Option (List ℕ)) (s : Seen) (numbers : List ℕ) (back : Option (List Shut)) (faults : ℕ) (ends : List Served) → ends ≡ [] → Gathered T U c moments s numbers back back faults faults ends
+pub none_gathered : (T U : Type 0) (c : Admission) (moments : Option (List ℕ)) (s : Seen) (numbers : List ℕ) (back : Option (List Shut)) (faults : ℕ) (ends : List Served) → ends ≡ [] → Gathered T U c moments s numbers 0 back back faults faults ends
 none_gathered T U c moments s numbers back faults ends none = record {
   callers = [];
+  count_is = refl;
   different = none_different;
   among = λ number has. absurd (not_in number has);
-  served = λ h law fits. All-nil (λ (k : CallerLinks). ServedInTurn T U c moments h k.caller k.links k.last);
+  served = λ h law fits. All-nil (λ (k : CallerLinks). OnlyServed T U c moments h k.caller k.last k.links);
+  none_behind = λ k has. absurd (not_in k has);
   given = record { doors = none_end back; ends_are = none; clock_faults = omega arith };
 }
 
+-- none made an entry behind what one had seen, nor behind what is seen later
+behind_later : (s s' : Seen) (caller last : ℕ) → Extends s s' → MadeNoMore s s' → IsOwn s caller → ((h : History) → Fits s h → (place : ℕ) (e : Entry) → place ≤ s.length → e.caller ≡ caller → entry_at h place ≡ Some e → place ≤ last)
+    → (h : History) → Fits s' h → (place : ℕ) (e : Entry) → place ≤ s'.length → e.caller ≡ caller → entry_at h place ≡ Some e → place ≤ last
+behind_later s s' caller last later made mine before h fits place e le own at =
+    let saw = made h fits place e le (subst (IsOwn s) (sym own) mine) at in
+    before h (later.fits h fits) place e saw.0 own at
+
 -- more was seen, and the clock's count rose
-pub gathered_later : (T U : Type 0) (c : Admission) (moments : Option (List ℕ)) (s s' : Seen) (numbers numbers' : List ℕ) (back back' : Option (List Shut)) (faults n n' : ℕ) (ends : List Served)
-    → ((number : ℕ) → Contains numbers number → Contains numbers' number) → Extends s s' → n ≤ n' → Gathered T U c moments s numbers back back' faults n ends → Gathered T U c moments s' numbers' back back' faults n' ends
-gathered_later T U c moments s s' numbers numbers' back back' faults n n' ends more_numbers later le g = record {
+pub gathered_later : (T U : Type 0) (c : Admission) (moments : Option (List ℕ)) (s s' : Seen) (numbers numbers' : List ℕ) (count : ℕ) (back back' : Option (List Shut)) (faults n n' : ℕ) (ends : List Served)
+    → ((number : ℕ) → Contains numbers number → Contains numbers' number) → ((number : ℕ) → Contains numbers number → IsOwn s number) → Extends s s' → MadeNoMore s s' → n ≤ n' → Gathered T U c moments s numbers count back back' faults n ends
+    → Gathered T U c moments s' numbers' count back back' faults n' ends
+gathered_later T U c moments s s' numbers numbers' count back back' faults n n' ends more_numbers own_are later made le g = record {
   callers = g.callers;
+  count_is = g.count_is;
   different = g.different;
   among = λ number has. more_numbers number (g.among number has);
   served = λ h law fits. g.served h law (later.fits h fits);
+  none_behind = λ k has. behind_later s s' k.caller k.last later made (own_are k.caller (g.among k.caller (in_map (λ (k : CallerLinks). k.caller) g.callers k has))) (g.none_behind k has);
   given = record { doors = g.given.doors; ends_are = g.given.ends_are; clock_faults = more g.given.clock_faults };
 }
   where
     more : min (faults + clock_fault_count (links_of g.callers)) (2 ^ 64 - 1) ≤ n → min (faults + clock_fault_count (links_of g.callers)) (2 ^ 64 - 1) ≤ n'
     more few = omega (arith, few, le)
 
--- the connections that a worker served were given back
-pub gathered_more : {K : Type 0} (shown : K → Shut) (T U : Type 0) (c : Admission) (moments : Option (List ℕ)) (by : Admission) (s s' w : Seen) (numbers numbers' : List ℕ) (now : Option (List ℕ)) (back b b' : Option (List Shut)) (faults n n' twin : ℕ)
-    (ends ends' : List Served) (served : List (K × Served)) → IsNew numbers numbers' w.caller → Extends s s' → Extends w s' → n' ≡ joined n twin → WorkerServed T U c moments by w now twin (map (λ one. (shown one.0, one.1)) served)
-    → AllEnd b b' (map (λ one. shown one.0) served) → ends' ≡ ends ++ map (λ one. one.1) served → Gathered T U c moments s numbers back b faults n ends → Gathered T U c moments s' numbers' back b' faults n' ends'
-gathered_more {K = K} shown T U c moments by s s' w numbers numbers' now back b b' faults n n' twin ends ends' served new mine theirs rose ws backs are g = record {
+-- one caller more, whatever was given back
+caller_more : (T U : Type 0) (c : Admission) (moments : Option (List ℕ)) (s s' : Seen) (numbers numbers' : List ℕ) (count : ℕ) (one : CallerLinks) (back b b' : Option (List Shut)) (faults n n' : ℕ) (ends ends' : List Served)
+    → IsNew numbers numbers' one.caller → ((number : ℕ) → Contains numbers number → IsOwn s number) → Extends s s' → MadeNoMore s s' → InEach s' (λ h. OnlyServed T U c moments h one.caller one.last one.links)
+    → ((h : History) → Fits s' h → (place : ℕ) (e : Entry) → place ≤ s'.length → e.caller ≡ one.caller → entry_at h place ≡ Some e → place ≤ one.last) → (g : Gathered T U c moments s numbers count back b faults n ends)
+    → GivenBack back b' faults n' ends' (links_of g.callers ++ returned_by one) → Gathered T U c moments s' numbers' (count + 1) back b' faults n' ends'
+caller_more T U c moments s s' numbers numbers' count one back b b' faults n n' ends ends' new own_are later made served behind g given = record {
   callers = g.callers ++ one ∷ [];
-  different = subst AreDifferent (sym numbers_are) (different_among numbers (w.caller ∷ []) (callers_of g.callers) (w.caller ∷ []) new.different g.different (one_different w.caller) g.among (λ number has. has));
+  count_is = length_push g.callers one ∙ ap (λ k. k + 1) g.count_is;
+  different = subst AreDifferent (sym numbers_are) (different_among numbers (one.caller ∷ []) (callers_of g.callers) (one.caller ∷ []) new.different g.different (one_different one.caller) g.among (λ number has. has));
   among = λ number has. new.among number (more_in number (subst (λ (l : List ℕ). Contains l number) numbers_are has));
-  served = λ h law fits. All-push (λ (k : CallerLinks). ServedInTurn T U c moments h k.caller k.links k.last) g.callers one (g.served h law (mine.fits h fits)) (ws.served h law (theirs.fits h fits));
-  given = subst (GivenBack back b' faults n' ends') (sym (links_more g.callers one)) (record {
-    doors = subst (AllEnd back b') (ap (λ l. map (λ (l : ServedLink). l.0) (links_of g.callers) ++ l) (sym (map-map (λ (l : ServedLink). l.0) pair served)) ∙ sym (map-append (λ (l : ServedLink). l.0) (links_of g.callers) links))
-        (ends_more back b b' _ _ g.given.doors backs);
-    ends_are = are ∙ ap (λ l. l ++ map (λ (o : K × Served). o.1) served) g.given.ends_are ∙ ap (λ l. map (λ (l : ServedLink). l.1) (links_of g.callers) ++ l) (sym (map-map (λ (l : ServedLink). l.1) pair served))
-        ∙ sym (map-append (λ (l : ServedLink). l.1) (links_of g.callers) links);
-    clock_faults = counts (clock_fault_count (links_of g.callers ++ links)) (clock_fault_count (links_of g.callers)) (clock_fault_count links) (count_joined (links_of g.callers) links) g.given.clock_faults ws.clock_faults;
-  });
+  served = λ h law fits. All-push (λ (k : CallerLinks). OnlyServed T U c moments h k.caller k.last k.links) g.callers one (g.served h law (later.fits h fits)) (served h law fits);
+  none_behind = λ k has. ⊎_elim
+      (λ i. behind_later s s' k.caller k.last later made (own_are k.caller (g.among k.caller (in_map (λ (k : CallerLinks). k.caller) g.callers k i))) (g.none_behind k i))
+      (λ i. ⊎_elim
+      (λ (is : one ≡ k). subst (λ (k : CallerLinks). (h : History) → Fits s' h → (place : ℕ) (e : Entry) → place ≤ s'.length → e.caller ≡ k.caller → entry_at h place ≡ Some e → place ≤ k.last) is behind)
+      (λ none. absurd (not_in k none))
+      (split one k [] i))
+      (Contains-append_cases g.callers (one ∷ []) k has);
+  given = subst (GivenBack back b' faults n' ends') (sym (links_more g.callers one)) given;
 }
+  where
+    numbers_are : callers_of (g.callers ++ one ∷ []) ≡ callers_of g.callers ++ one.caller ∷ []
+    numbers_are = map-append (λ (k : CallerLinks). k.caller) g.callers (one ∷ [])
+
+    more_in : (number : ℕ) → Contains (callers_of g.callers ++ one.caller ∷ []) number → Contains (numbers ++ one.caller ∷ []) number
+    more_in number has = ⊎_elim (λ i. Contains-append_left numbers (one.caller ∷ []) number (g.among number i)) (λ i. Contains-append_right numbers (one.caller ∷ []) number i) (Contains-append_cases (callers_of g.callers) (one.caller ∷ []) number has)
+
+-- what a worker made ends at what it had seen
+worker_behind : (w s' : Seen) → MadeNoMore w s' → (h : History) → Fits s' h → (place : ℕ) (e : Entry) → place ≤ s'.length → e.caller ≡ w.caller → entry_at h place ≡ Some e → place ≤ w.length
+worker_behind w s' made h fits place e le own at = (made h fits place e le (inl own) at).0
+
+-- the connections that a worker served were given back
+gathered_more : {K : Type 0} (shown : K → Shut) (T U : Type 0) (c : Admission) (moments : Option (List ℕ)) (by : Admission) (s s' w : Seen) (numbers numbers' : List ℕ) (count : ℕ) (now : Option (List ℕ)) (back b b' : Option (List Shut)) (faults n n' twin : ℕ)
+    (ends ends' : List Served) (served : List (K × Served)) → IsNew numbers numbers' w.caller → ((number : ℕ) → Contains numbers number → IsOwn s number) → Extends s s' → MadeNoMore s s' → Extends w s' → MadeNoMore w s' → n' ≡ joined n twin
+    → WorkerServed T U c moments by w now twin (map (λ one. (shown one.0, one.1)) served)
+    → AllEnd b b' (map (λ one. shown one.0) served) → ends' ≡ ends ++ map (λ one. one.1) served → Gathered T U c moments s numbers count back b faults n ends → Gathered T U c moments s' numbers' (count + 1) back b' faults n' ends'
+gathered_more {K = K} shown T U c moments by s s' w numbers numbers' count now back b b' faults n n' twin ends ends' served new own_are mine made theirs theirs_made rose ws backs are g =
+    caller_more T U c moments s s' numbers numbers' count (record { caller = w.caller; last = w.length; links = links; returned = true }) back b b' faults n n' ends ends' new own_are mine made (λ h law fits. ws.served h law (theirs.fits h fits)) (worker_behind w s' theirs_made) g (record {
+      doors = subst (AllEnd back b') (ap (λ l. map (λ (l : ServedLink). l.0) (links_of g.callers) ++ l) (sym (map-map (λ (l : ServedLink). l.0) pair served)) ∙ sym (map-append (λ (l : ServedLink). l.0) (links_of g.callers) links))
+          (ends_more back b b' _ _ g.given.doors backs);
+      ends_are = are ∙ ap (λ l. l ++ map (λ (o : K × Served). o.1) served) g.given.ends_are ∙ ap (λ l. map (λ (l : ServedLink). l.1) (links_of g.callers) ++ l) (sym (map-map (λ (l : ServedLink). l.1) pair served))
+          ∙ sym (map-append (λ (l : ServedLink). l.1) (links_of g.callers) links);
+      clock_faults = counts (clock_fault_count (links_of g.callers ++ links)) (clock_fault_count (links_of g.callers)) (clock_fault_count links) (count_joined (links_of g.callers) links) g.given.clock_faults ws.clock_faults;
+    })
   where
     pair : K × Served → ServedLink
     pair one = (shown one.0, one.1)
@@ -120,28 +161,71 @@ gathered_more {K = K} shown T U c moments by s s' w numbers numbers' now back b 
     links : List ServedLink
     links = map pair served
 
-    one : CallerLinks
-    one = record { caller = w.caller; last = w.length; links = links }
-
-    numbers_are : callers_of (g.callers ++ one ∷ []) ≡ callers_of g.callers ++ w.caller ∷ []
-    numbers_are = map-append (λ (k : CallerLinks). k.caller) g.callers (one ∷ [])
-
-    more_in : (number : ℕ) → Contains (callers_of g.callers ++ w.caller ∷ []) number → Contains (numbers ++ w.caller ∷ []) number
-    more_in number has = ⊎_elim (λ i. Contains-append_left numbers (w.caller ∷ []) number (g.among number i)) (λ i. Contains-append_right numbers (w.caller ∷ []) number i) (Contains-append_cases (callers_of g.callers) (w.caller ∷ []) number has)
-
     counts : (all k j : ℕ) → all ≡ k + j → min (faults + k) (2 ^ 64 - 1) ≤ n → min j (2 ^ 64 - 1) ≤ twin → min (faults + all) (2 ^ 64 - 1) ≤ n'
     counts all k j is few within = omega (arith, is, few, within, rose)
 
+-- for want of memory none of them was, and yet they were served
+gathered_lost : {K : Type 0} (shown : K → Shut) (T U : Type 0) (c : Admission) (moments : Option (List ℕ)) (by : Admission) (s s' w : Seen) (numbers numbers' : List ℕ) (count : ℕ) (now : Option (List ℕ)) (back b : Option (List Shut)) (faults n n' twin : ℕ)
+    (ends : List Served) (served : List (K × Served)) → IsNew numbers numbers' w.caller → ((number : ℕ) → Contains numbers number → IsOwn s number) → Extends s s' → MadeNoMore s s' → Extends w s' → MadeNoMore w s' → n ≤ n'
+    → WorkerServed T U c moments by w now twin (map (λ one. (shown one.0, one.1)) served) → Gathered T U c moments s numbers count back b faults n ends → Gathered T U c moments s' numbers' (count + 1) back b faults n' ends
+gathered_lost {K = K} shown T U c moments by s s' w numbers numbers' count now back b faults n n' twin ends served new own_are mine made theirs theirs_made later ws g =
+    caller_more T U c moments s s' numbers numbers' count (record { caller = w.caller; last = w.length; links = map (λ (one : K × Served). (shown one.0, one.1)) served; returned = false }) back b b faults n n' ends ends new own_are mine made
+    (λ h law fits. ws.served h law (theirs.fits h fits)) (worker_behind w s' theirs_made) g
+    (subst (GivenBack back b faults n' ends) (sym (append-nil (links_of g.callers))) (record { doors = g.given.doors; ends_are = g.given.ends_are; clock_faults = more g.given.clock_faults }))
+  where
+    more : min (faults + clock_fault_count (links_of g.callers)) (2 ^ 64 - 1) ≤ n → min (faults + clock_fault_count (links_of g.callers)) (2 ^ 64 - 1) ≤ n'
+    more few = omega (arith, few, later)
+
 -- a worker's connections were given back, or for want of memory none of them was
-pub gathered_either : {K X E : Type 0} (Q : Type 0) (shown : K → Shut) (T U : Type 0) (c : Admission) (moments : Option (List ℕ)) (by : Admission) (s s' w : Seen) (numbers numbers' : List ℕ) (now : Option (List ℕ)) (back b b' : Option (List Shut)) (faults n n' twin : ℕ)
-    (ends ends' : List Served) (served : List (K × Served)) (r : Result X E) → IsNew numbers numbers' w.caller → Extends s s' → Extends w s' → n' ≡ joined n twin → n ≤ n' → WorkerServed T U c moments by w now twin (map (λ one. (shown one.0, one.1)) served)
-    → IfOk r (λ _. AllEnd b b' (map (λ one. shown one.0) served)) → IfOk r (λ _. ends' ≡ ends ++ map (λ one. one.1) served) → OnErr r ((b' ≡ b) × Q × (ends' ≡ ends)) → Gathered T U c moments s numbers back b faults n ends → Gathered T U c moments s' numbers' back b' faults n' ends'
-gathered_either Q shown T U c moments by s s' w numbers numbers' now back b b' faults n n' twin ends ends' served (Ok x) new mine theirs rose later ws backs are none g = gathered_more shown T U c moments by s s' w numbers numbers' now back b b' faults n n' twin ends ends' served new mine theirs rose ws backs are g
-gathered_either Q shown T U c moments by s s' w numbers numbers' now back b b' faults n n' twin ends ends' served (Err e) new mine theirs rose later ws backs are none g =
-    subst (λ (o : Option (List Shut)). Gathered T U c moments s' numbers' back o faults n' ends') (sym none.0) (subst (Gathered T U c moments s' numbers' back b faults n') (sym none.2)
-    (gathered_later T U c moments s s' numbers numbers' back b faults n n' ends (λ number has. new.among number (Contains-append_left numbers (w.caller ∷ []) number has)) mine later g))
+pub gathered_either : {K X E : Type 0} (Q : Type 0) (shown : K → Shut) (T U : Type 0) (c : Admission) (moments : Option (List ℕ)) (by : Admission) (s s' w : Seen) (numbers numbers' : List ℕ) (count : ℕ) (now : Option (List ℕ)) (back b b' : Option (List Shut)) (faults n n' twin : ℕ)
+    (ends ends' : List Served) (served : List (K × Served)) (r : Result X E) → IsNew numbers numbers' w.caller → ((number : ℕ) → Contains numbers number → IsOwn s number) → Extends s s' → MadeNoMore s s' → Extends w s' → MadeNoMore w s' → n' ≡ joined n twin → n ≤ n'
+    → WorkerServed T U c moments by w now twin (map (λ one. (shown one.0, one.1)) served)
+    → IfOk r (λ _. AllEnd b b' (map (λ one. shown one.0) served)) → IfOk r (λ _. ends' ≡ ends ++ map (λ one. one.1) served) → OnErr r ((b' ≡ b) × Q × (ends' ≡ ends)) → Gathered T U c moments s numbers count back b faults n ends
+    → Gathered T U c moments s' numbers' (count + 1) back b' faults n' ends'
+gathered_either Q shown T U c moments by s s' w numbers numbers' count now back b b' faults n n' twin ends ends' served (Ok x) new own_are mine made theirs theirs_made rose later ws backs are none g =
+    gathered_more shown T U c moments by s s' w numbers numbers' count now back b b' faults n n' twin ends ends' served new own_are mine made theirs theirs_made rose ws backs are g
+gathered_either Q shown T U c moments by s s' w numbers numbers' count now back b b' faults n n' twin ends ends' served (Err e) new own_are mine made theirs theirs_made rose later ws backs are none g =
+    subst (λ (o : Option (List Shut)). Gathered T U c moments s' numbers' (count + 1) back o faults n' ends') (sym none.0) (subst (Gathered T U c moments s' numbers' (count + 1) back b faults n') (sym none.2)
+    (gathered_lost shown T U c moments by s s' w numbers numbers' count now back b faults n n' twin ends served new own_are mine made theirs theirs_made later ws g))
+
+-- nobody made an entry between what was seen and the same
+pub made_same : (s : Seen) → MadeNoMore s s
+made_same s h fits place e le own at = fits.no_other place e le own at
+
+pub made_more : (s t u : Seen) → Extends t u → MadeNoMore s t → MadeNoMore t u → ((number : ℕ) → IsOwn s number → IsOwn t number) → MadeNoMore s u
+made_more s t u later first then_ own_are h fits place e le own at =
+    let saw = then_ h fits place e le (own_are e.caller own) at in
+    first h (later.fits h fits) place e saw.0 own at
+
+-- callers that were absorbed are the caller's own
+pub absorbed_own : (s : Seen) (number : ℕ) → Contains s.absorbed number → IsOwn s number
+absorbed_own s number has = inr has
+
+-- who absorbed another has its own numbers still
+pub own_stays : (s s' w : Seen) → numbers_of s' ≡ numbers_of s ++ numbers_of w → (number : ℕ) → IsOwn s number → IsOwn s' number
+own_stays s s' w are number own = in_numbers s' number (subst (λ (l : List ℕ). Contains l number) (sym are) (Contains-append_left (numbers_of s) (numbers_of w) number (among_numbers s number own)))
+  where
+    among_numbers : (s : Seen) (number : ℕ) → IsOwn s number → Contains (numbers_of s) number
+    among_numbers s number (inl is) = subst (Contains (numbers_of s)) (sym is) (here s.caller s.absorbed)
+    among_numbers s number (inr i) = there s.caller number s.absorbed i
+
+    in_numbers : (s : Seen) (number : ℕ) → Contains (numbers_of s) number → IsOwn s number
+    in_numbers s number has = ⊎_elim (λ (is : s.caller ≡ number). inl (sym is)) (λ i. inr i) (split s.caller number s.absorbed has)
 
 -- ---- counts
+
+-- how many callers there are
+pub none_more : (count : ℕ) → count ≡ count + 0
+none_more count = omega arith
+
+pub from_none : (n : ℕ) → 0 + n + 1 ≡ n + 1
+from_none n = omega arith
+
+pub one_more_caller : {X : Type 0} (count : ℕ) (xs : List X) (x : X) → count + length xs + 1 ≡ count + length (xs ++ x ∷ [])
+one_more_caller count xs x = let one = length_push xs x in omega (arith, one)
+
+pub callers_counted : (old first now count workers : ℕ) → workers ≡ count → first ≡ old + 1 → now ≡ first + count → now ≡ old + (workers + 1)
+callers_counted old first now count workers same one more = omega (arith, same, one, more)
 
 -- none was to be given back
 pub none_taken : (ends : ℕ) (counts : Counts) → TakenBack true 0 ends ends counts counts

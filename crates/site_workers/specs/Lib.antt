@@ -1,1 +1,2 @@
 pub mod GatheredLinks
+pub mod ServedSites

@@ -1,15 +1,15 @@
 //! The connections of the doors, served by workers over one site.
-ghost use Rattle.std.specs.Prelude.{◌≡◌, ◌⊎◌, ◌≤◌, ◌+◌, true, [], All, IfOk, OnErr, length, map, vec_len};
+ghost use Rattle.std.specs.Prelude.{◌≡◌, ◌⊎◌, ℕ, ◌≤◌, ◌+◌, true, [], All, IfOk, OnErr, length, map, vec_len};
 ghost use Rattle.std.specs.List.{sum_by};
 ghost use Rattle.step_count.specs.Tokens.{counter_of_pass, view_of_pass};
 ghost use Rattle.cell_store.specs.CallerViews.{IsCaller, numbers_of, seen_of};
-ghost use Rattle.link_workers.specs.Accepting.{AsksHalt, HasReason};
 ghost use Rattle.point_put.specs.Admissions.{admission};
 ghost use Rattle.conn_workers.specs.ServedLinks.{AllTell, WorkerServed};
-ghost use Rattle.site_workers.specs.GatheredLinks.{Gathered, SiteCounts, TakenBack};
+ghost use Rattle.site_workers.specs.GatheredLinks.{Gathered, TakenBack};
+ghost use Rattle.site_workers.specs.ServedSites.{SiteLeft};
 
 use crate::worker_return::take_all_back;
-use cell_store::{Gate, Site, SitePass, StepNames};
+use cell_store::{Gate, Openings, Site, SitePass, StepNames};
 use compactor::queue::Queue;
 use conn_workers::conn_service::serve_rows;
 use conn_workers::conn_terms::ConnTerms;
@@ -65,6 +65,7 @@ pub fn serve_connections<
     alloc: Global,
     workers_each: u32,
     site: &Site<J, G>,
+    openings: &mut Openings<J>,
     rule: &UidRule,
     config: &Config,
     clock: &mut C,
@@ -77,13 +78,10 @@ pub fn serve_connections<
     requires most_workers { workers_each ≤ 16 }
     requires admission { admission config.now rule.now.patterns ≡ J.admission }
     requires moments { C.moments clock.old ≡ J.moments }
-    ensures counter { IfOk result (λ s. counter_of_pass s.pass ≡ J.counter) }
-    ensures caller { IfOk result (λ s. IsCaller J.name (view_of_pass s.pass)) }
-    ensures gathered { IfOk result (λ s. Gathered (AllTell D.Inlet.taken) (AllTell D.Outlet.held) J.admission J.moments (seen_of (view_of_pass s.pass)) (numbers_of (seen_of (view_of_pass s.pass)))
-        (D.back doors.old) (D.back doors.new) (C.faults clock.old) (C.faults clock.new) s.ends.items) }
-    ensures counts { IfOk result (λ s. SiteCounts s.end s.links (length s.ends.items) (D.counts doors.old) (D.counts doors.new)) }
-    ensures reason { IfOk result (λ s. HasReason s.end (D.waiting doors.old) (D.waiting doors.new) (H.stops halt.old) (H.stops halt.new) (D.faults doors.old) (D.faults doors.new)) }
-    ensures asked { IfOk result (λ s. AsksHalt H.answers s.end (D.counts doors.old) (D.counts doors.new) halt.old halt.new) }
+    ensures left { IfOk result (λ s. SiteLeft J.counter J.name D.counts D.waiting D.faults H.stops H.answers doors.old doors.new halt.old halt.new s) }
+    ensures gathered { IfOk result (λ s. (count : ℕ) × (length openings.new ≡ length openings.old + count)
+        × Gathered (AllTell D.Inlet.taken) (AllTell D.Outlet.held) J.admission J.moments (seen_of (view_of_pass s.pass)) (numbers_of (seen_of (view_of_pass s.pass)))
+        count (D.back doors.old) (D.back doors.new) (C.faults clock.old) (C.faults clock.new) s.ends.items) }
     ensures stops_later { H.stops halt.old ≤ H.stops halt.new }
     ensures clock_later { C.faults clock.old ≤ C.faults clock.new }
     ensures doors_later { D.faults doors.old ≤ D.faults doors.new }
@@ -93,10 +91,22 @@ pub fn serve_connections<
     ensures halt { OnErr result (halt.new ≡ halt.old) }
 {
     let rows_to = replace(rows_to, Vec::new(alloc));
-    let work = make_worker(rt, alloc, site, rule, config, clock, doors, &rows_to[0])?;
+    let work = make_worker(
+        rt,
+        alloc,
+        site,
+        openings,
+        rule,
+        config,
+        clock,
+        doors,
+        &rows_to[0],
+    )?;
     let mut own = LinkEnds::make(alloc, work);
     let count = rows_to.len() as u32 * workers_each;
-    let mut workers = make_workers(rt, alloc, site, rule, config, clock, doors, &rows_to, count)?;
+    let mut workers = make_workers(
+        rt, alloc, site, openings, rule, config, clock, doors, &rows_to, count,
+    )?;
     let accepted = serve_rows::<J, SitePass<'_, J, G, T>, ToCompactor<'_, T>, T, C, H, D>(
         rt,
         alloc,
@@ -151,16 +161,16 @@ fn gather<'a, J: StepNames + ConnTerms, G: Gate + Drop, T: Wait, C: Clock + Drop
     >,
 ) -> HandedBack
     requires served { All (λ worker. WorkerServed (AllTell D.Inlet.taken) (AllTell D.Outlet.held) J.admission J.moments
-        (admission worker.work.config worker.work.rule.now.patterns) worker.work.names (C.moments worker.work.clock) (C.faults worker.work.clock)
+        (admission worker.work.config worker.work.rule.now.patterns) worker.work.names.rows (C.moments worker.work.clock) (C.faults worker.work.clock)
         (map (λ one. (D.shown one.0, one.1)) worker.ends.items)) workers.items }
     requires own_served { WorkerServed (AllTell D.Inlet.taken) (AllTell D.Outlet.held) J.admission J.moments
-        (admission own.work.config own.work.rule.now.patterns) own.work.names (C.moments own.work.clock) (C.faults own.work.clock)
+        (admission own.work.config own.work.rule.now.patterns) own.work.names.rows (C.moments own.work.clock) (C.faults own.work.clock)
         (map (λ one. (D.shown one.0, one.1)) own.ends.items) }
     requires few { sum_by (λ worker. length worker.ends.items) workers.items + length own.ends.items ≤ (D.counts doors.old).out }
     ensures counter { counter_of_pass result.pass ≡ J.counter }
     ensures caller { IsCaller J.name (view_of_pass result.pass) }
     ensures gathered { Gathered (AllTell D.Inlet.taken) (AllTell D.Outlet.held) J.admission J.moments (seen_of (view_of_pass result.pass)) (numbers_of (seen_of (view_of_pass result.pass)))
-        (D.back doors.old) (D.back doors.new) (C.faults clock.old) (C.faults clock.new) result.ends.items }
+        (length workers.entry.items + 1) (D.back doors.old) (D.back doors.new) (C.faults clock.old) (C.faults clock.new) result.ends.items }
     ensures returned { TakenBack result.all (sum_by (λ worker. length worker.ends.items) workers.entry.items + length own.entry.ends.items) 0 (length result.ends.items)
         (D.counts doors.old) (D.counts doors.new) }
     ensures clock_later { C.faults clock.old ≤ C.faults clock.new }

@@ -1,11 +1,12 @@
 //! What workers hand back when they have ended.
-ghost use Rattle.std.specs.Prelude.{◌≡◌, ◌≤◌, ◌++◌, ℕ, All, List, Option, length, map};
+ghost use Rattle.std.specs.Prelude.{◌≡◌, ◌≤◌, ◌+◌, ◌++◌, ℕ, All, List, Option, length, map};
 ghost use Rattle.std.specs.List.{sum_by};
 ghost use Rattle.tsd_io.specs.Causes.{joined};
 ghost use Rattle.tsd_doors.specs.Links.{Shut};
 ghost use Rattle.cell_model.specs.Deeds.{Extends};
+ghost use Rattle.cell_model.specs.Seen.{IsOwn};
 ghost use Rattle.step_count.specs.CounterRule.{AreDifferent};
-ghost use Rattle.cell_store.specs.CallerViews.{numbers_of};
+ghost use Rattle.cell_store.specs.CallerViews.{MadeNoMore, numbers_of};
 ghost use Rattle.point_put.specs.Admissions.{admission};
 ghost use Rattle.conn_workers.specs.ServedLinks.{AllTell, WorkerServed};
 ghost use Rattle.site_workers.specs.GatheredLinks.{Gathered, TakenBack};
@@ -23,7 +24,7 @@ use tsd_io::clock::Clock;
 
 /// Takes a worker's place and its clock back, gives its connections back to the doors and adds their ends to those of the workers before it.
 ///
-/// False says that there was no memory for their ends. Then none of its connections was given back.
+/// False says that there was no memory for their ends. Then none of its connections was given back, and yet they were served.
 pub(crate) fn take_back<
     'a,
     J: StepNames + ConnTerms,
@@ -43,13 +44,15 @@ pub(crate) fn take_back<
     >,
 ) -> bool
     requires served { WorkerServed (AllTell D.Inlet.taken) (AllTell D.Outlet.held) J.admission J.moments
-        (admission worker.work.config worker.work.rule.now.patterns) worker.work.names (C.moments worker.work.clock) (C.faults worker.work.clock)
+        (admission worker.work.config worker.work.rule.now.patterns) worker.work.names.rows (C.moments worker.work.clock) (C.faults worker.work.clock)
         (map (λ one. (D.shown one.0, one.1)) worker.ends.items) }
     requires few { length worker.ends.items ≤ (D.counts doors.old).out }
-    ensures gathered { (back : Option (List Shut)) (faults : ℕ)
-        → Gathered (AllTell D.Inlet.taken) (AllTell D.Outlet.held) J.admission J.moments own.old own.old.absorbed back (D.back doors.old) faults (C.faults clock.old) ends.old.items
-        → Gathered (AllTell D.Inlet.taken) (AllTell D.Outlet.held) J.admission J.moments own.new own.new.absorbed back (D.back doors.new) faults (C.faults clock.new) ends.new.items }
+    ensures gathered { (count : ℕ) (back : Option (List Shut)) (faults : ℕ)
+        → Gathered (AllTell D.Inlet.taken) (AllTell D.Outlet.held) J.admission J.moments own.old own.old.absorbed count back (D.back doors.old) faults (C.faults clock.old) ends.old.items
+        → Gathered (AllTell D.Inlet.taken) (AllTell D.Outlet.held) J.admission J.moments own.new own.new.absorbed (count + 1) back (D.back doors.new) faults (C.faults clock.new) ends.new.items }
     ensures later { Extends own.old own.new }
+    ensures made { MadeNoMore own.old own.new }
+    ensures stays { (number : ℕ) → IsOwn own.old number → IsOwn own.new number }
     ensures caller { own.new.caller ≡ own.old.caller }
     ensures returned { TakenBack result (length worker.entry.ends.items) (length ends.old.items) (length ends.new.items) (D.counts doors.old) (D.counts doors.new) }
     ensures faults { D.faults doors.new ≡ D.faults doors.old }
@@ -84,13 +87,15 @@ pub(crate) fn take_all_back<
     >,
 ) -> bool
     requires served { All (λ worker. WorkerServed (AllTell D.Inlet.taken) (AllTell D.Outlet.held) J.admission J.moments
-        (admission worker.work.config worker.work.rule.now.patterns) worker.work.names (C.moments worker.work.clock) (C.faults worker.work.clock)
+        (admission worker.work.config worker.work.rule.now.patterns) worker.work.names.rows (C.moments worker.work.clock) (C.faults worker.work.clock)
         (map (λ one. (D.shown one.0, one.1)) worker.ends.items)) workers.items }
     requires few { sum_by (λ worker. length worker.ends.items) workers.items ≤ (D.counts doors.old).out }
-    ensures gathered { (back : Option (List Shut)) (faults : ℕ)
-        → Gathered (AllTell D.Inlet.taken) (AllTell D.Outlet.held) J.admission J.moments own.old own.old.absorbed back (D.back doors.old) faults (C.faults clock.old) ends.old.items
-        → Gathered (AllTell D.Inlet.taken) (AllTell D.Outlet.held) J.admission J.moments own.new own.new.absorbed back (D.back doors.new) faults (C.faults clock.new) ends.new.items }
+    ensures gathered { (count : ℕ) (back : Option (List Shut)) (faults : ℕ)
+        → Gathered (AllTell D.Inlet.taken) (AllTell D.Outlet.held) J.admission J.moments own.old own.old.absorbed count back (D.back doors.old) faults (C.faults clock.old) ends.old.items
+        → Gathered (AllTell D.Inlet.taken) (AllTell D.Outlet.held) J.admission J.moments own.new own.new.absorbed (count + length workers.entry.items) back (D.back doors.new) faults (C.faults clock.new) ends.new.items }
     ensures later { Extends own.old own.new }
+    ensures made { MadeNoMore own.old own.new }
+    ensures stays { (number : ℕ) → IsOwn own.old number → IsOwn own.new number }
     ensures caller { own.new.caller ≡ own.old.caller }
     ensures returned { TakenBack result (sum_by (λ worker. length worker.ends.items) workers.entry.items) (length ends.old.items) (length ends.new.items) (D.counts doors.old) (D.counts doors.new) }
     ensures faults { D.faults doors.new ≡ D.faults doors.old }
@@ -119,9 +124,11 @@ fn absorb_worker<
     work: ConnWorker<'a, J, SitePass<'a, J, G, T>, C, B, ToCompactor<'a, T>>,
 )
     ensures mine { Extends own.old own.new }
-    ensures theirs { Extends work.entry.names own.new }
+    ensures theirs { Extends work.entry.names.rows own.new }
+    ensures mine_made { MadeNoMore own.old own.new }
+    ensures theirs_made { MadeNoMore work.entry.names.rows own.new }
     ensures caller { own.new.caller ≡ own.old.caller }
-    ensures numbers { numbers_of own.new ≡ numbers_of own.old ++ numbers_of work.entry.names }
+    ensures numbers { numbers_of own.new ≡ numbers_of own.old ++ numbers_of work.entry.names.rows }
     ensures different { AreDifferent (numbers_of own.new) }
     ensures moments { C.moments clock.new ≡ C.moments clock.old }
     ensures faults { C.faults clock.new ≡ joined (C.faults clock.old) (C.faults work.entry.clock) }

@@ -1,8 +1,9 @@
 -- A turn of the loops on the word: what the pass has is as before, but for the length.
-use Rattle.std.proofs.Common.{◌≡◌, ℕ, ◌+◌, ◌≤◌, sym, ap, ◌∙◌, subst, arith}
+use Rattle.std.proofs.Common.{◌≡◌, ℕ, ◌+◌, ◌≤◌, [], sym, ap, ◌∙◌, subst, arith}
+use Rattle.list_lemmas.proofs.ListMembers.{not_in}
 use Rattle.cell_model.specs.declared.events.Entry.{Entry}
 use Rattle.step_count.specs.declared.view.View.{View}
-use Rattle.step_count.specs.ViewSteps.{newcomer, learned, added, opened, MayAdd}
+use Rattle.step_count.specs.ViewSteps.{Seated, Lives, learned, added, opened, callers_alone, MayAdd, HasLicence}
 use Rattle.step_count.proofs.FittingHistories.{fits_shorter}
 
 -- the view is as before, but that a greater length may have been learnt
@@ -35,5 +36,21 @@ may_later v u e was m = subst (λ (x : View). MayAdd x e) (sym was.0) (record {
 pub added_as : (v u w : View) (n old : ℕ) (e : Entry) → HasWaited v u → w ≡ added u (n + 1) e → n ≡ old → w ≡ added v (old + 1) e
 added_as v u w n old e was is hit = is ∙ ap (λ (x : View). added x (n + 1) e) was.0 ∙ ap (λ m. added v (m + 1) e) hit
 
-pub opened_as : (v u w : View) (n : ℕ) → HasWaited v u → w ≡ opened u (n + 1) → v ≡ newcomer v.named → w ≡ opened (newcomer v.named) (n + 1)
-opened_as v u w n was is new = is ∙ ap (λ (x : View). opened x (n + 1)) was.0 ∙ ap (λ (x : View). opened x (n + 1)) new
+pub opened_as : (v u w : View) (n : ℕ) → HasWaited v u → w ≡ opened u (n + 1) → w ≡ opened v (n + 1)
+opened_as v u w n was is = is ∙ ap (λ (x : View). opened x (n + 1)) was.0
+
+-- a licence that the view had it has still
+pub licence_later : (number : ℕ) (v u : View) → HasWaited v u → HasLicence number v → HasLicence number u
+licence_later number v u was has = subst (HasLicence number) (sym was.0) has
+
+-- callers that left live as those did of whom they were
+pub lives_departed : (v : View) (m : Seated) → m ≡ (callers_alone v, []) → Lives v → Lives m.0
+lives_departed v m is l = subst Lives (sym (ap (λ (x : Seated). x.0) is)) (record {
+  name = l.name;
+  history = l.history;
+  over = l.over;
+  fits = record { named = l.fits.named; long = l.fits.long; seen = l.fits.seen; callers = l.fits.callers; regions = λ r log a. absurd (not_in (r, log) a) };
+  within = l.within;
+  whole = l.whole;
+  once = l.once;
+})

@@ -1,6 +1,6 @@
 -- What histories that fit a view have in common, and what one more entry leaves of them.
 use Rattle.std.proofs.Common.{◌≡◌, ◌⊎◌, inl, inr, ℕ, ◌+◌, ◌<◌, ◌≤◌, Bool, true, false, cond, List, [], ◌∷◌, ◌++◌, append-nil, refl, sym, ap, ◌∙◌, subst, ⊎_elim, arith, nat_eq}
-use Rattle.std.specs.Prelude.{Some, Contains, if◌then◌else◌}
+use Rattle.std.specs.Prelude.{Some, Contains, if◌then◌else◌, ◌||◌, ◌&&◌}
 use Rattle.std.proofs.lemmas.List.Elements.{Contains-append_cases, Contains-append_left, Contains-append_right}
 use Rattle.list_lemmas.proofs.BoolTests.{not_Some, nat_eq_is}
 use Rattle.list_lemmas.proofs.ListMembers.{here, there, split, not_in}
@@ -8,7 +8,10 @@ use Rattle.cell_model.specs.declared.events.Step.{Step}
 use Rattle.cell_model.specs.declared.events.Step.TheVariants.{Open, Read, NextRow, Bump, Claim, PutPoint, AppendPoint, PutMerged, DropCells}
 use Rattle.cell_model.specs.declared.events.Entry.{Entry}
 use Rattle.cell_model.specs.declared.events.Placed.{Placed}
-use Rattle.cell_model.specs.Machine.{reply_of}
+use Rattle.cell_model.specs.declared.events.Reply.{Reply}
+use Rattle.cell_model.specs.declared.row.Row.{Row}
+use Rattle.cell_model.specs.Store.{Store}
+use Rattle.cell_model.specs.Machine.{after, reply_of}
 use Rattle.cell_model.specs.History.{History, len, entry_at, store_after, Had}
 use Rattle.cell_model.specs.History.History.{Base, Then}
 use Rattle.cell_model.specs.Lawful.{IsLawful, MayStep, HasOpened}
@@ -16,9 +19,10 @@ use Rattle.cell_model.specs.Deeds.{placed}
 use Rattle.cell_laws.proofs.CallerLemmas.{entry_at-last, entry_at-more}
 use Rattle.cell_parts.specs.StoreParts.{is_in, part, is_mine, picked, replayed}
 use Rattle.cell_parts.proofs.CallerLemmas.{history_apart, reply-part}
+use Rattle.step_count.specs.declared.counter_rule.TheConstants.{OPENINGS}
 use Rattle.step_count.specs.declared.view.Named.{Named}
 use Rattle.step_count.specs.declared.view.View.{View}
-use Rattle.step_count.specs.CounterRule.{store_in, opening, by_caller, in_region, IsOver, IsLog, Fits, Within}
+use Rattle.step_count.specs.CounterRule.{store_in, opening, is_open, by_caller, in_region, IsOver, IsLog, Fits, Within}
 use Rattle.step_count.specs.ViewSteps.{learned, regions_in, added, MayAdd}
 use Rattle.step_count.proofs.LogLists.{extended_back}
 
@@ -159,8 +163,73 @@ both_regions D j k (AppendPoint point row piece) a b = sym (nat_eq_is _ _ a) ∙
 both_regions D j k (PutMerged row qual value) a b = sym (nat_eq_is _ _ a) ∙ nat_eq_is _ _ b
 both_regions D j k (DropCells row which) a b = sym (nat_eq_is _ _ a) ∙ nat_eq_is _ _ b
 
-pub other_region : (D : Named) (j k : ℕ) (e : Entry) → in_region D k e ≡ true → (j ≡ k → ⊥) → in_region D j e ≡ false
-other_region D j k e mine apart = bool_false (in_region D j e) (λ a. apart (both_regions D j k e.step a mine))
+-- nor is it an opening
+not_open : (mine : Row → Bool) (step : Step) → is_mine mine step ≡ true → is_open step ≡ true → ⊥
+not_open mine Open a b = absurd (cc)
+not_open mine (Read row) a b = absurd (cc)
+not_open mine (NextRow table from to) a b = absurd (cc)
+not_open mine (Bump kind) a b = absurd (cc)
+not_open mine (Claim row qual value) a b = absurd (cc)
+not_open mine (PutPoint point row qual value) a b = absurd (cc)
+not_open mine (AppendPoint point row piece) a b = absurd (cc)
+not_open mine (PutMerged row qual value) a b = absurd (cc)
+not_open mine (DropCells row which) a b = absurd (cc)
+
+one_of : (a b c : Bool) → (a || (b && c)) ≡ true → (a ≡ true) ⊎ (b ≡ true)
+one_of true b c is = inl refl
+one_of false true c is = inr refl
+one_of false false c is = absurd (cc)
+
+pub other_region : (D : Named) (j k : ℕ) (e : Entry) → is_mine (is_in D.widths D.data_regions k) e.step ≡ true → (j ≡ k → ⊥) → in_region D j e ≡ false
+other_region D j k e mine apart = bool_false (in_region D j e) (λ a. ⊎_elim
+    (λ same. apart (both_regions D j k e.step same mine))
+    (λ opens. not_open (is_in D.widths D.data_regions k) e.step mine opens)
+    (one_of (is_mine (is_in D.widths D.data_regions j) e.step) (is_open e.step) (nat_eq j OPENINGS) a))
+
+-- what a licence has of openings changes no store, so its entries make of a store what those make that look at the region
+replayed_both : (s : Store) (xs ys : List Placed) → replayed s (xs ++ ys) ≡ replayed (replayed s xs) ys
+replayed_both s [] ys = refl
+replayed_both s (x ∷ xs) ys = replayed_both (after s x.place x.entry.step) xs ys
+
+or_false : (b : Bool) → (b || false) ≡ b
+or_false true = refl
+or_false false = refl
+
+opening_alike : (s : Store) (p : Placed) (b : Bool) → p.entry.step ≡ Open → replayed s (cond b (p ∷ []) []) ≡ s
+opening_alike s p true is = ap (after s p.place) is
+opening_alike s p false is = refl
+
+entry_alike : (n : Named) (number : ℕ) (s : Store) (place caller : ℕ) (step : Step) (reply : Reply)
+    → replayed s (cond (in_region n number (record { caller = caller; step = step; reply = reply })) (placed place (record { caller = caller; step = step; reply = reply }) ∷ []) [])
+    ≡ replayed s (cond (is_mine (is_in n.widths n.data_regions number) step) (placed place (record { caller = caller; step = step; reply = reply }) ∷ []) [])
+entry_alike n number s place caller Open reply = opening_alike s (placed place (record { caller = caller; step = Open; reply = reply })) (nat_eq number OPENINGS) refl
+entry_alike n number s place caller (Read row) reply = ap (λ b. replayed s (cond b (placed place (record { caller = caller; step = Read row; reply = reply }) ∷ []) [])) (or_false _)
+entry_alike n number s place caller (NextRow table from to) reply = ap (λ b. replayed s (cond b (placed place (record { caller = caller; step = NextRow table from to; reply = reply }) ∷ []) [])) (or_false _)
+entry_alike n number s place caller (Bump kind) reply = ap (λ b. replayed s (cond b (placed place (record { caller = caller; step = Bump kind; reply = reply }) ∷ []) [])) (or_false _)
+entry_alike n number s place caller (Claim row qual value) reply = ap (λ b. replayed s (cond b (placed place (record { caller = caller; step = Claim row qual value; reply = reply }) ∷ []) [])) (or_false _)
+entry_alike n number s place caller (PutPoint point row qual value) reply = ap (λ b. replayed s (cond b (placed place (record { caller = caller; step = PutPoint point row qual value; reply = reply }) ∷ []) [])) (or_false _)
+entry_alike n number s place caller (AppendPoint point row piece) reply = ap (λ b. replayed s (cond b (placed place (record { caller = caller; step = AppendPoint point row piece; reply = reply }) ∷ []) [])) (or_false _)
+entry_alike n number s place caller (PutMerged row qual value) reply = ap (λ b. replayed s (cond b (placed place (record { caller = caller; step = PutMerged row qual value; reply = reply }) ∷ []) [])) (or_false _)
+entry_alike n number s place caller (DropCells row which) reply = ap (λ b. replayed s (cond b (placed place (record { caller = caller; step = DropCells row which; reply = reply }) ∷ []) [])) (or_false _)
+
+replayed_alike : (n : Named) (number : ℕ) (s : Store) (h : History) → replayed s (picked (in_region n number) h) ≡ replayed s (picked (λ e. is_mine (is_in n.widths n.data_regions number) e.step) h)
+replayed_alike n number s (Base base) = refl
+replayed_alike n number s (Then h e) =
+    let mine = λ (x : Entry). is_mine (is_in n.widths n.data_regions number) x.step in
+    replayed_both s (picked (in_region n number) h) (cond (in_region n number e) (placed (len h + 1) e ∷ []) [])
+    ∙ ap (λ t. replayed t (cond (in_region n number e) (placed (len h + 1) e ∷ []) [])) (replayed_alike n number s h)
+    ∙ entry_alike n number (replayed s (picked mine h)) (len h + 1) e.caller e.step e.reply
+    ∙ sym (replayed_both s (picked mine h) (cond (mine e) (placed (len h + 1) e ∷ []) []))
+
+-- a region's part of the store is the replay of what its licence has
+pub region_after : (n : Named) (number : ℕ) (h : History) (log : List Placed) → IsOver n h → picked (in_region n number) h ≡ log
+    → part (is_in n.widths n.data_regions number) (store_after h) ≡ replayed (part (is_in n.widths n.data_regions number) (store_in n)) log
+region_after n number h log over is =
+    let mine = is_in n.widths n.data_regions number in
+    history_apart mine h
+    ∙ ap (λ s. replayed (part mine s) (picked (λ e. is_mine mine e.step) h)) over.base
+    ∙ sym (replayed_alike n number (part mine (store_in n)) h)
+    ∙ ap (replayed (part mine (store_in n))) is
 
 -- what may be added is allowed, and its reply is the machine's
 has_opened : (h : History) (caller : ℕ) (step : Step) → Had h (opening caller) → HasOpened h caller step
@@ -178,11 +247,10 @@ pub may_lawful : (n : Named) (h : History) (v : View) (e : Entry) → IsOver n h
 may_lawful n h v e over f may =
     let name : may.name ≡ n = f.named may.name may.named in
     let D = may.name in
-    let mine = λ (x : Entry). in_region D may.region x in
     let over' : IsOver may.name h = subst (λ m. IsOver m h) (sym name) over in
     let f' : Fits may.name h v = subst (λ m. Fits m h v) (sym name) f in
     let content : part (is_in D.widths D.data_regions may.region) (store_after h) ≡ replayed (part (is_in D.widths D.data_regions may.region) (store_in may.name)) may.log =
-    history_apart (is_in D.widths D.data_regions may.region) h ∙ (λ i. replayed (part (is_in D.widths D.data_regions may.region) (over'.base i)) (f'.regions may.region may.log may.licence i)) in
+    region_after D may.region h may.log over' (f'.regions may.region may.log may.licence) in
     record {
       base = over.base;
       lawful = (

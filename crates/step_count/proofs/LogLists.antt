@@ -108,7 +108,7 @@ in_unused k (suc m) c le lt = dite (ℕ_discrete c k)
 same_number : (k : ℕ) → (k == k) ≡ true
 same_number k = grind (arith)
 
-other_number : (j k : ℕ) → k < j → (j == k) ≡ false
+pub other_number : (j k : ℕ) → k < j → (j == k) ≡ false
 other_number j k lt = at (j == k) refl
   where
     at : (b : Bool) → (j == k) ≡ b → b ≡ false

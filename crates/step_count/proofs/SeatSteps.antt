@@ -1,4 +1,4 @@
--- The steps on seats keep the rule: a newcomer, a note, a licence that leaves, and two that come together.
+-- The steps on seats keep the rule: a note, a licence or callers that leave, and two that come together.
 use Rattle.std.proofs.Common.{◌≡◌, ◌≢◌, ◌⊎◌, inl, inr, ℕ, zero, suc, List, [], ◌∷◌, ◌++◌, length, set, refl, sym, ap, ◌∙◌, subst, ⊎_elim, arith}
 use Rattle.std.specs.Prelude.{Some, None, Contains}
 use Rattle.std.specs.declared.option.Option.{Option}
@@ -7,7 +7,7 @@ use mathlib.Core.Option.{some, some-injective, some-ne-none}
 use mathlib.Core.Logic.{dite}
 use native.Mathlib.Decide.{ℕ_discrete}
 use lib.ListN.{get_elem?}
-use Rattle.atomic_table.specs.Table.{step, Enters, Splits, Joins}
+use Rattle.atomic_table.specs.Table.{Splits, Joins}
 use Rattle.atomic_table.proofs.Lists.{at_set, at_snoc, at_longer, at_last, set_again, set_here, set_else}
 use Rattle.list_lemmas.proofs.BoolTests.{same_Some}
 use Rattle.list_lemmas.proofs.ListMembers.{not_in}
@@ -16,7 +16,7 @@ use Rattle.cell_model.specs.Deeds.{placed}
 use Rattle.step_count.specs.declared.view.Named.{Named}
 use Rattle.step_count.specs.declared.view.View.{View}
 use Rattle.step_count.specs.CounterRule.{Log, Fits, Within, HasEachOnce, Holder, IsHeld, NoTwoHold, IsKnown, licences_in, callers_in, Kept}
-use Rattle.step_count.specs.ViewSteps.{Seated, blank, newcomer, Sits, noted, first_named, met, only, without_licence, licence_alone, HasLicence}
+use Rattle.step_count.specs.ViewSteps.{Seated, blank, noted, first_named, met, only, without_licence, licence_alone, without_callers, callers_alone, HasLicence}
 use Rattle.step_count.proofs.LogLists.{in_without, in_only, to_without, to_only}
 use Rattle.step_count.proofs.CallerNumbers.{none_different, different_both}
 use Rattle.step_count.proofs.Holders.{CounterState, held_set, one_set, still_held, longer_held, within_list}
@@ -40,20 +40,6 @@ sitting n s r w mine within once off off' = record {
     old : (f : View → List Log) → ((c : ℕ) (log : List Placed) → Contains (f w) (c, log) → ⊥) → (c i : ℕ) → Holder f (s.views ++ w ∷ []) c i → Holder f s.views c i
     old f off c i h = ⊎_elim (λ t. record { view = h.view; log = h.log; at = t; has = h.has }) (λ t. absurd (off c h.log (subst (λ u. Contains (f u) (c, h.log)) (sym t) h.has))) (at_snoc s.views w h.view i h.at)
 
--- a newcomer
-pub sits : (n : Named) (slots : ℕ) (me : Seated) → me.0.named ≡ Some n → Enters (Kept n) slots 0 (λ k w. Sits (step slots 0 0 0 mathlib.Core.Option.none) me k (w, []))
-sits n slots me named s r _ _ = (
-  newcomer me.0.named,
-  sitting n s r (newcomer me.0.named) (record {
-    named = λ b e. same_Some b n (sym e ∙ named);
-    long = omega arith;
-    seen = λ p c. absurd (not_in p c);
-    callers = λ c log a. absurd (not_in (c, log) a);
-    regions = λ c log a. absurd (not_in (c, log) a);
-  }) (λ p c. absurd (not_in p c)) none_different (λ c log a. not_in (c, log) a) (λ c log a. not_in (c, log) a),
-  refl,
-)
-
 -- a note
 pub notes : (n : Named) (id : ℕ) (v : View) → Splits (Kept n) id v v (noted v)
 notes n id v s r at =
@@ -66,6 +52,78 @@ notes n id v s r at =
       callers = λ c log a. absurd (not_in (c, log) a);
       regions = λ c log a. absurd (not_in (c, log) a);
     }) (r.within id v at) none_different (λ c log a. not_in (c, log) a) (λ c log a. not_in (c, log) a))
+
+-- a place of the longer list is the new seat's or an old one
+place_in : (xs : List View) (y a : View) (i : ℕ) → get_elem? (xs ++ y ∷ []) i ≡ some a → (get_elem? xs i ≡ some a) ⊎ ((i ≡ length xs) × (y ≡ a))
+place_in [] y a zero e = inr (refl, some-injective y a e)
+place_in [] y a (suc i) e = absurd (some-ne-none a (sym e))
+place_in (x ∷ xs) y a zero e = inl e
+place_in (x ∷ xs) y a (suc i) e = ⊎_elim (λ t. inl t) (λ t. inr (ap suc t.0, t.1)) (place_in xs y a i e)
+
+-- callers leave
+pub departs : (n : Named) (id : ℕ) (v : View) → Splits (Kept n) id v (without_callers v) (callers_alone v)
+departs n id v s k at = record {
+  history = k.history;
+  word = k.word;
+  over = k.over;
+  fits = λ j u e. ⊎_elim
+      (λ t. ⊎_elim (λ (p : (j ≡ id) × (without_callers v ≡ u)). subst (Fits n k.history) p.1 left) (λ p. k.fits j u p.1) (at_set s.views id j (without_callers v) u t))
+      (λ t. subst (Fits n k.history) t right)
+      (at_snoc (set s.views id (without_callers v)) (callers_alone v) u j e);
+  within = λ j u e. ⊎_elim
+      (λ t. ⊎_elim (λ (p : (j ≡ id) × (without_callers v ≡ u)). subst Within p.1 (k.within id v at)) (λ p. k.within j u p.1) (at_set s.views id j (without_callers v) u t))
+      (λ t. subst Within t (k.within id v at))
+      (at_snoc (set s.views id (without_callers v)) (callers_alone v) u j e);
+  licences = λ q lt. longer_held licences_in (set s.views id (without_callers v)) (callers_alone v) q (still_held licences_in s.views id v (without_callers v) at q (λ log a. (log, a)) (k.licences q lt));
+  one_licence = λ c i j hi hj. one_set licences_in s.views id v (without_callers v) at (λ c log a. (log, a)) k.one_licence c i j (old c i hi) (old c j hj);
+  one_caller = one;
+  once = λ j u e. ⊎_elim
+      (λ t. ⊎_elim (λ (p : (j ≡ id) × (without_callers v ≡ u)). subst HasEachOnce p.1 none_different) (λ p. k.once j u p.1) (at_set s.views id j (without_callers v) u t))
+      (λ t. subst HasEachOnce t (k.once id v at))
+      (at_snoc (set s.views id (without_callers v)) (callers_alone v) u j e);
+  known = λ place one_le le. again place (k.known place one_le le);
+}
+  where
+    f : Fits n k.history v
+    f = k.fits id v at
+
+    left : Fits n k.history (without_callers v)
+    left = record { named = f.named; long = f.long; seen = f.seen; callers = λ c log a. absurd (not_in (c, log) a); regions = f.regions }
+
+    right : Fits n k.history (callers_alone v)
+    right = record { named = f.named; long = f.long; seen = f.seen; callers = f.callers; regions = λ c log a. absurd (not_in (c, log) a) }
+
+    at_id : get_elem? (set s.views id (without_callers v)) id ≡ some (without_callers v)
+    at_id = set_here s.views id (without_callers v) (within_list s.views id v at)
+
+    again : (place : ℕ) → IsKnown s.views place → IsKnown (set s.views id (without_callers v) ++ callers_alone v ∷ []) place
+    again place t = dite (ℕ_discrete t.seat id)
+        (λ same. record {
+          seat = id;
+          view = without_callers v;
+          entry = t.entry;
+          at = at_longer (set s.views id (without_callers v)) (callers_alone v ∷ []) id (without_callers v) at_id;
+          has = subst (λ (u : View). Contains u.seen (placed place t.entry)) (some-injective t.view v (sym t.at ∙ ap (get_elem? s.views) same ∙ at)) t.has;
+        })
+        (λ apart. record { seat = t.seat; view = t.view; entry = t.entry; at = at_longer (set s.views id (without_callers v)) (callers_alone v ∷ []) t.seat t.view (set_else s.views id t.seat (without_callers v) apart ∙ t.at); has = t.has })
+
+    old : (c i : ℕ) → Holder licences_in (set s.views id (without_callers v) ++ callers_alone v ∷ []) c i → Holder licences_in (set s.views id (without_callers v)) c i
+    old c i h = ⊎_elim (λ t. record { view = h.view; log = h.log; at = t; has = h.has }) (λ t. absurd (not_in (c, h.log) (subst (λ (u : View). Contains u.licences (c, h.log)) (sym t) h.has))) (at_snoc (set s.views id (without_callers v)) (callers_alone v) h.view i h.at)
+
+    holds_now : (c i : ℕ) → Holder callers_in (set s.views id (without_callers v) ++ callers_alone v ∷ []) c i → ((i ≡ length (set s.views id (without_callers v))) × Holder callers_in s.views c id) ⊎ ((i ≢ id) × Holder callers_in s.views c i)
+    holds_now c i h = ⊎_elim
+        (λ t. ⊎_elim
+        (λ (p : (i ≡ id) × (without_callers v ≡ h.view)). absurd (not_in (c, h.log) (subst (λ (u : View). Contains u.callers (c, h.log)) (sym p.1) h.has)))
+        (λ (p : (i ≢ id) × (get_elem? s.views i ≡ some h.view)). inr (p.0, record { view = h.view; log = h.log; at = p.1; has = h.has }))
+        (at_set s.views id i (without_callers v) h.view t))
+        (λ t. inl (t.0, record { view = v; log = h.log; at = at; has = subst (λ (u : View). Contains u.callers (c, h.log)) (sym t.1) h.has }))
+        (place_in (set s.views id (without_callers v)) (callers_alone v) h.view i h.at)
+
+    one : NoTwoHold callers_in (set s.views id (without_callers v) ++ callers_alone v ∷ [])
+    one c i j hi hj = ⊎_elim
+        (λ a. ⊎_elim (λ b. a.0 ∙ sym b.0) (λ b. absurd (b.0 (k.one_caller c j id b.1 a.1))) (holds_now c j hj))
+        (λ a. ⊎_elim (λ b. absurd (a.0 (k.one_caller c i id a.1 b.1))) (λ b. k.one_caller c i j a.1 b.1) (holds_now c j hj))
+        (holds_now c i hi)
 
 -- a licence leaves
 pub gives : (n : Named) (id : ℕ) (v : View) (r : ℕ) → HasLicence r v → Splits (Kept n) id v (without_licence r v) (licence_alone r v)
@@ -130,13 +188,6 @@ gives n id v r has s k at = record {
 
     old : (c i : ℕ) → Holder callers_in (set s.views id (without_licence r v) ++ licence_alone r v ∷ []) c i → Holder callers_in (set s.views id (without_licence r v)) c i
     old c i h = ⊎_elim (λ t. record { view = h.view; log = h.log; at = t; has = h.has }) (λ t. absurd (not_in (c, h.log) (subst (λ (u : View). Contains u.callers (c, h.log)) (sym t) h.has))) (at_snoc (set s.views id (without_licence r v)) (licence_alone r v) h.view i h.at)
-
-    -- a place of the longer list is the new seat's or an old one
-    place_in : (xs : List View) (y a : View) (i : ℕ) → get_elem? (xs ++ y ∷ []) i ≡ some a → (get_elem? xs i ≡ some a) ⊎ ((i ≡ length xs) × (y ≡ a))
-    place_in [] y a zero e = inr (refl, some-injective y a e)
-    place_in [] y a (suc i) e = absurd (some-ne-none a (sym e))
-    place_in (x ∷ xs) y a zero e = inl e
-    place_in (x ∷ xs) y a (suc i) e = ⊎_elim (λ t. inl t) (λ t. inr (ap suc t.0, t.1)) (place_in xs y a i e)
 
     holds_now : (c i : ℕ) → Holder licences_in (set s.views id (without_licence r v) ++ licence_alone r v ∷ []) c i → ((i ≡ length (set s.views id (without_licence r v))) × (c ≡ r)) ⊎ ((c ≢ r) × Holder licences_in s.views c i)
     holds_now c i h = ⊎_elim

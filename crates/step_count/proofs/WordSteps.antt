@@ -15,16 +15,17 @@ use Rattle.cell_model.specs.declared.events.Placed.{Placed}
 use Rattle.cell_model.specs.History.{History, len, entry_at}
 use Rattle.cell_model.specs.History.History.{Then}
 use Rattle.cell_model.specs.Deeds.{placed}
+use Rattle.cell_parts.specs.StoreParts.{is_in, is_mine, picked}
 use Rattle.cell_laws.proofs.CallerLemmas.{bounded, entry_at-last, entry_at-more}
-use Rattle.step_count.specs.declared.counter_rule.TheConstants.{COUNT}
+use Rattle.step_count.specs.declared.counter_rule.TheConstants.{COUNT, OPENINGS}
 use Rattle.step_count.specs.declared.view.Named.{Named}
 use Rattle.step_count.specs.declared.view.View.{View}
 use Rattle.step_count.specs.CounterRule.{Log, opening, by_caller, in_region, IsOver, IsLog, Fits, Within, HasEachOnce, AreDifferent, Holder, NoTwoHold, IsKnown, licences_in, callers_in, words_of, Kept}
-use Rattle.step_count.specs.ViewSteps.{Seated, learned, regions_in, added, opened, Lives, MayAdd, Learns, Adds, Opens}
-use Rattle.step_count.proofs.LogLists.{extended_less, extended_more, numbers_extended}
+use Rattle.step_count.specs.ViewSteps.{Seated, learned, regions_in, added, opened, Lives, MayAdd, HasLicence, Learns, Adds, Opens}
+use Rattle.step_count.proofs.LogLists.{extended_back, extended_less, extended_more, numbers_extended}
 use Rattle.step_count.proofs.CallerNumbers.{different_more}
 use Rattle.step_count.proofs.FittingHistories.{bool_false, picked_same, none_yet, fits_learned, fits_others, fits_added, within_added, other_region, may_lawful}
-use Rattle.step_count.proofs.CounterTurns.{HasWaited, may_later}
+use Rattle.step_count.proofs.CounterTurns.{HasWaited, may_later, licence_later}
 use Rattle.step_count.proofs.Holders.{CounterState, held_set, one_set, still_held, within_list}
 
 -- the rule after one view has changed, over a history that may be longer
@@ -96,7 +97,7 @@ adds_kept n s r id v e at may k is c =
     let f = r.fits id v at in
     let name : may.name ≡ n = f.named may.name may.named in
     let v_named : v.named ≡ Some n = may.named ∙ ap Some name in
-    let mine : in_region n may.region e ≡ true = subst (λ (m : Named). in_region m may.region e ≡ true) name may.mine in
+    let mine : is_mine (is_in n.widths n.data_regions may.region) e.step ≡ true = subst (λ (m : Named). is_mine (is_in m.widths m.data_regions may.region) e.step ≡ true) name may.mine in
     moved n s r id v w at (Then r.history e) (may_lawful n r.history v e r.over f may)
     (λ j u apart is_u. fits_others n r.history e u
     (λ c log a. bool_false (by_caller c e) (λ t. apart (r.one_caller c j id (record { view = u; log = log; at = is_u; has = a })
@@ -167,15 +168,20 @@ opening_fits : (n : Named) (h : History) (v : View) → IsOver n h → Fits n h 
 opening_fits n h v over f =
     let e = opening (len h + 1) in
     let p = placed (len h + 1) e in
-    let g = fits_others n h e v (λ c log has. caller_apart c log has) (λ r log has. refl) f in
     record {
       named = f.named;
       long = omega arith;
       seen = λ q c. at q (split p q v.seen c);
       callers = λ c log has. own c log (split (len h + 1, p ∷ []) (c, log) v.callers has);
-      regions = g.regions;
+      regions = λ r log has. licence r log (extended_back (in_region (regions_in v.named)) p v.licences r log has);
     }
   where
+    -- the licence of openings has it too, the others have what they had
+    licence : (r : ℕ) (log : List Placed)
+        → (log0 : List Placed) × Contains v.licences (r, log0) × (log ≡ log0 ++ cond (in_region (regions_in v.named) r (opening (len h + 1))) (placed (len h + 1) (opening (len h + 1)) ∷ []) [])
+        → picked (in_region n r) (Then h (opening (len h + 1))) ≡ log
+    licence r log b = ap (λ xs. xs ++ cond (nat_eq r OPENINGS) (placed (len h + 1) (opening (len h + 1)) ∷ []) []) (f.regions r b.0 b.1) ∙ sym b.2
+
     caller_apart : (c : ℕ) (log : List Placed) → Contains v.callers (c, log) → by_caller c (opening (len h + 1)) ≡ false
     caller_apart c log has = bool_false (nat_eq (len h + 1) c) (λ t. let same = nat_eq_is (len h + 1) c t in let low = bounded h c (opening c) (f.callers c log has).opened in omega (arith, same, low))
 
@@ -205,23 +211,24 @@ caller_within n s r c j u is_u log a = bounded r.history c (opening c) ((r.fits 
 once_opened : (n : Named) (s : CounterState) (r : Kept n s) (id : ℕ) (v : View) → get_elem? s.views id ≡ some v → (k : ℕ) → k ≡ len r.history → HasEachOnce (opened v (k + 1))
 once_opened n s r id v at k is = different_more (k + 1) v.callers (λ log a. let low = caller_within n s r (k + 1) id v at log a in omega (arith, low, is)) (r.once id v at)
 
-opens_kept : (n : Named) (s : CounterState) (r : Kept n s) (id : ℕ) (v : View) → get_elem? s.views id ≡ some v
+opens_kept : (n : Named) (s : CounterState) (r : Kept n s) (id : ℕ) (v : View) → get_elem? s.views id ≡ some v → HasLicence OPENINGS v
     → (k : ℕ) → k ≡ len r.history → (c : List (ℕ × Unit {0})) → Kept n (stepped s COUNT (k + 1) id c (opened v (k + 1)) keeps)
-opens_kept n s r id v at k is c =
+opens_kept n s r id v at has k is c =
     let w = opened v (k + 1) in
     let f = r.fits id v at in
     moved n s r id v w at (Then r.history (opening (len r.history + 1))) (opening_over n r.history r.over)
     (λ j u apart is_u. fits_others n r.history (opening (len r.history + 1)) u
     (λ c log a. bool_false (nat_eq (len r.history + 1) c) (λ t. let same = nat_eq_is (len r.history + 1) c t in let l = caller_within n s r c j u is_u log a in omega (arith, same, l)))
-    (λ m log a. refl)
+    (λ m log a. bool_false (nat_eq m OPENINGS) (λ t. apart (r.one_licence m j id (record { view = u; log = log; at = is_u; has = a })
+    (record { view = v; log = has.0; at = at; has = subst (λ q. Contains v.licences (q, has.0)) (sym (nat_eq_is m OPENINGS t)) has.1 }))))
     (r.fits j u is_u))
     (subst (λ m. Fits n (Then r.history (opening (len r.history + 1))) (opened v (m + 1))) (sym is) (opening_fits n r.history v r.over f))
     (λ p has. elim (split (placed (k + 1) (opening (k + 1))) p v.seen has) [
       | inl same ↦ let here_is : k + 1 ≡ p.place = ap (λ (x : Placed). x.place) same in omega (arith, here_is)
       | inr was ↦ let a = r.within id v at p was in let l = f.long in omega (arith, a, l, is)
     ])
-    (λ q log a. (log, a))
-    (one_set licences_in s.views id v w at (λ c log a. (log, a)) r.one_licence)
+    (extended_more (in_region (regions_in v.named)) (placed (k + 1) (opening (k + 1))) v.licences)
+    (one_set licences_in s.views id v w at (extended_less (in_region (regions_in v.named)) (placed (k + 1) (opening (k + 1))) v.licences) r.one_licence)
     fresh
     (once_opened n s r id v at k is)
     (λ p was. there (placed (k + 1) (opening (k + 1))) p v.seen was)
@@ -254,8 +261,8 @@ opens_kept n s r id v at k is c =
         (held_set callers_in s.views id (opened v (k + 1)) c j hj))
         (held_set callers_in s.views id (opened v (k + 1)) c i hi)
 
-pub opens : (n : Named) (slots id : ℕ) (me : Seated) (old : ℕ) → Allows (Kept n) slots id me COUNT (λ k. either (eqb k old) (old + 1) k) (Opens (step slots COUNT old (old + 1) mathlib.Core.Option.none) me)
-opens n slots id me old s r _ at _ =
+opens : (n : Named) (slots id : ℕ) (me : Seated) (old : ℕ) → HasLicence OPENINGS me.0 → Allows (Kept n) slots id me COUNT (λ k. either (eqb k old) (old + 1) k) (Opens (step slots COUNT old (old + 1) mathlib.Core.Option.none) me)
+opens n slots id me old has s r _ at _ =
     let k : ℕ = slice_index s.words COUNT in
     let f = r.fits id me.0 at in
     let is : k ≡ len r.history = word_is n s r in
@@ -266,7 +273,7 @@ opens n slots id me old s r _ at _ =
       keeps,
       tt,
       subst (λ m. Kept n (stepped s COUNT m id me.1 (opened me.0 (k + 1)) keeps)) (sym (ap (λ b. either b (old + 1) k) (eq-eqb k old hit)))
-          (subst (λ m. Kept n (stepped s COUNT (m + 1) id me.1 (opened me.0 (k + 1)) keeps)) hit (opens_kept n s r id me.0 at k is me.1)),
+          (subst (λ m. Kept n (stepped s COUNT (m + 1) id me.1 (opened me.0 (k + 1)) keeps)) hit (opens_kept n s r id me.0 at has k is me.1)),
       (
         le,
         record {
@@ -292,3 +299,7 @@ opens n slots id me old s r _ at _ =
       subst (λ m. Kept n (stepped s COUNT m id me.1 (learned me.0 k) keeps)) (sym (ap (λ b. either b (old + 1) k) (ne_eqb k old miss))) (learns_kept n s r id me.0 at k is me.1),
       (le, learned_lives n s r id me.0 at k is, (λ hit. absurd (miss hit)), λ _. refl),
     ))
+
+pub opens_later : (n : Named) (slots id : ℕ) (me : Seated) (v : View) (old : ℕ) → HasWaited v me.0 → HasLicence OPENINGS v
+    → Allows (Kept n) slots id me COUNT (λ k. either (eqb k old) (old + 1) k) (Opens (step slots COUNT old (old + 1) mathlib.Core.Option.none) me)
+opens_later n slots id me v old was has = opens n slots id me old (licence_later OPENINGS v me.0 was has)

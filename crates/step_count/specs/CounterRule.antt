@@ -1,10 +1,11 @@
 -- What a history has of a view, and the rule of the counter: one history, which all views tell together.
-use Rattle.std.specs.Prelude.{◌≡◌, ◌≢◌, ℕ, ◌+◌, ◌-◌, ◌<◌, ◌≤◌, Bool, nat_eq, List, ◌∷◌, ◌++◌, map, replicate, AllPairs, Contains, Some}
+use Rattle.std.specs.Prelude.{◌≡◌, ◌≢◌, ℕ, ◌+◌, ◌-◌, ◌<◌, ◌≤◌, Bool, true, false, ◌||◌, ◌&&◌, nat_eq, List, ◌∷◌, ◌++◌, map, replicate, AllPairs, Contains, Some}
 use Rattle.std.specs.FinMap.{from_entries}
 use mathlib.Core.Option.{some}
 use lib.ListN.{get_elem?}
 use Rattle.atomic_table.specs.Table.{State}
 use Rattle.row_key.specs.declared.regions.TheConstants.{NAME_REGIONS}
+use Rattle.cell_model.specs.declared.events.Step.{Step}
 use Rattle.cell_model.specs.declared.events.Step.TheVariants.{Open}
 use Rattle.cell_model.specs.declared.events.Reply.TheVariants.{Opened}
 use Rattle.cell_model.specs.declared.events.Entry.{Entry}
@@ -13,7 +14,7 @@ use Rattle.cell_model.specs.Store.{Store}
 use Rattle.cell_model.specs.History.{History, base_of, len, entry_at}
 use Rattle.cell_model.specs.Lawful.{IsLawful}
 use Rattle.cell_parts.specs.StoreParts.{is_mine, is_in, picked}
-use Rattle.step_count.specs.declared.counter_rule.TheConstants.{COUNT, WORDS}
+use Rattle.step_count.specs.declared.counter_rule.TheConstants.{COUNT, OPENINGS, WORDS}
 use Rattle.step_count.specs.declared.view.Named.{Named}
 use Rattle.step_count.specs.declared.view.View.{View}
 
@@ -36,9 +37,14 @@ opening caller = record { caller = caller; step = Open; reply = Opened caller }
 abbrev pub by_caller : ℕ → Entry → Bool
 by_caller caller e = nat_eq e.caller caller
 
--- the entry looks at the region, where there are so many data regions
+-- the step is an opening
+abbrev pub is_open : Step → Bool
+is_open Open = true
+is_open other = false
+
+-- the entry is made by this licence: it looks at the region, where there are so many data regions, or it is an opening and this is the licence of openings
 abbrev pub in_region : Named → ℕ → Entry → Bool
-in_region n region e = is_mine (is_in n.widths n.data_regions region) e.step
+in_region n number e = is_mine (is_in n.widths n.data_regions number) e.step || (is_open e.step && nat_eq number OPENINGS)
 
 -- a lawful history over the named store
 pub record IsOver (n : Named) (h : History) : Type 0 where
@@ -52,7 +58,7 @@ pub record IsLog (h : History) (seen : List Placed) (caller : ℕ) (log : List P
   pub each : (p : Placed) → Contains log p → Contains seen p
 
 -- The history may be the store's, by all that the view tells: it is over no other store than the view names, is at least as long as was seen,
--- has each seen entry at its place, of each caller of the view has the view's entries and no other, and of each region whose licence the view has too.
+-- has each seen entry at its place, of each caller of the view has the view's entries and no other, and by each licence that the view has those that the view has.
 pub record Fits (n : Named) (h : History) (v : View) : Type 0 where
   pub named : (m : Named) → v.named ≡ Some m → m ≡ n
   pub long : v.length ≤ len h
@@ -123,7 +129,7 @@ pub record Kept (n : Named) (s : State (Unit {0}) View) : Type 0 where
   pub within : InEachView s.views Within
   -- It begins with the named store, and is lawful: each entry's caller has opened before.
   pub over : IsOver n history
-  -- The licence of each region is in exactly one view, which has all entries of that region.
+  -- The licence of each region is in exactly one view, which has all entries of that region. That of openings is in one view at most, which has all openings.
   pub licences : (region : ℕ) → region < region_count n → IsHeld licences_in s.views region
   pub one_licence : NoTwoHold licences_in s.views
   -- Each caller's number is the place of its opening, and is in no other view than the one that has all its entries, and there once.

@@ -4,6 +4,7 @@ use Rattle.std.specs.declared.option.Option.{Option}
 use Rattle.row_key.specs.Made.{three}
 use Rattle.atomic_table.specs.declared.shared.Seat.{Seat}
 use Rattle.cell_model.specs.Store.{Store, entries}
+use Rattle.step_count.specs.declared.counter_rule.TheConstants.{OPENINGS}
 use Rattle.step_count.specs.declared.view.Named.{Named}
 use Rattle.step_count.specs.declared.view.View.{View}
 use Rattle.step_count.specs.CounterRule.{Log, region_count}
@@ -29,9 +30,13 @@ unused number (suc count) = (number, []) ∷ unused (number + 1) count
 abbrev pub holding : Option Named → ℕ → ℕ → View
 holding name number count = record { named = name; length = 0; seen = []; callers = []; licences = unused number count }
 
--- the first seat has the licence of every region
+-- a seat that has them and the licence of openings, and has seen nothing; without them it is that by which callers are opened
+abbrev pub opener : Option Named → ℕ → ℕ → View
+opener name number count = record { named = name; length = 0; seen = []; callers = []; licences = (OPENINGS, []) ∷ unused number count }
+
+-- the first seat has the licence of openings and that of every region
 abbrev pub first_of : Named → View
-first_of n = holding (Some n) 0 (region_count n)
+first_of n = opener (Some n) 0 (region_count n)
 
 abbrev pub first_view : Seat (Unit {0}) (Option Named) → View
 first_view origin = first_of (name_of origin)

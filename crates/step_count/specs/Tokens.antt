@@ -1,5 +1,4 @@
 -- What a counter, a pass, a licence and a note are seen as: of which counter they are, and what they know.
-use Rattle.std.specs.Arc.{arc_value}
 use Rattle.atomic_table.specs.Seated.{TableId}
 use Rattle.step_count.specs.declared.view.Named.{Named}
 use Rattle.step_count.specs.declared.view.View.{View}
@@ -7,11 +6,11 @@ use Rattle.step_count.specs.declared.steps.Steps.{Steps}
 use Rattle.step_count.specs.declared.steps.Pass.{Pass}
 use Rattle.step_count.specs.declared.steps.Licence.{Licence}
 use Rattle.step_count.specs.declared.steps.Note.{Note}
-use Rattle.step_count.specs.FirstViews.{name_of}
+use Rattle.step_count.specs.FirstViews.{name_in}
 
 -- which counter it is; tokens that are used together are of one
 abbrev pub counter_of_steps : Steps → TableId
-counter_of_steps steps = (arc_value steps.counter).shared.table_id
+counter_of_steps steps = steps.opener.seat.table_id
 
 abbrev pub counter_of_pass : Pass → TableId
 counter_of_pass pass = pass.seat.table_id
@@ -24,9 +23,12 @@ counter_of_note note = note.seat.table_id
 
 -- the store with which its history begins
 abbrev pub name_of_steps : Steps → Named
-name_of_steps steps = name_of (arc_value steps.counter).shared.key
+name_of_steps steps = name_in steps.opener.seat.me.0.named
 
 -- what each knows
+abbrev pub view_of_steps : Steps → View
+view_of_steps steps = steps.opener.seat.me.0
+
 abbrev pub view_of_pass : Pass → View
 view_of_pass pass = pass.seat.me.0
 

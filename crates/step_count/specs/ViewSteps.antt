@@ -9,17 +9,14 @@ use Rattle.cell_model.specs.Machine.{reply_of}
 use Rattle.cell_model.specs.History.{History, len}
 use Rattle.cell_model.specs.Lawful.{MayStep}
 use Rattle.cell_model.specs.Deeds.{placed}
-use Rattle.cell_parts.specs.StoreParts.{is_in, part, StaysWithin, replayed}
+use Rattle.cell_parts.specs.StoreParts.{is_in, is_mine, part, StaysWithin, replayed}
 use Rattle.step_count.specs.declared.view.Named.{Named}
 use Rattle.step_count.specs.declared.view.View.{View}
 use Rattle.step_count.specs.CounterRule.{Log, store_in, opening, by_caller, in_region, IsOver, Fits, Within, HasEachOnce}
 
--- a seat that is spent, and that of a newcomer, who is told the store
+-- a seat that is spent
 abbrev pub blank : View
 blank = record { named = None; length = 0; seen = []; callers = []; licences = [] }
-
-abbrev pub newcomer : Option Named → View
-newcomer name = record { named = name; length = 0; seen = []; callers = []; licences = [] }
 
 -- the history's length was learnt
 abbrev pub learned : View → ℕ → View
@@ -45,14 +42,14 @@ added v place e = record {
   licences = extended (in_region (regions_in v.named)) (placed place e) v.licences;
 }
 
--- the caller opened at this place, which is its number
+-- a caller opened at this place, which is its number
 abbrev pub opened : View → ℕ → View
 opened v place = record {
   named = v.named;
   length = place;
   seen = placed place (opening place) ∷ v.seen;
   callers = (place, placed place (opening place) ∷ []) ∷ v.callers;
-  licences = v.licences;
+  licences = extended (in_region (regions_in v.named)) (placed place (opening place)) v.licences;
 }
 
 -- what a note has: what was seen, no caller, no licence
@@ -89,6 +86,13 @@ without_licence region v = record { named = v.named; length = v.length; seen = v
 abbrev pub licence_alone : ℕ → View → View
 licence_alone region v = record { named = v.named; length = v.length; seen = v.seen; callers = []; licences = only region v.licences }
 
+-- the callers left, and what they are: both have seen the same
+abbrev pub without_callers : View → View
+without_callers v = record { named = v.named; length = v.length; seen = v.seen; callers = []; licences = v.licences }
+
+abbrev pub callers_alone : View → View
+callers_alone v = record { named = v.named; length = v.length; seen = v.seen; callers = v.callers; licences = [] }
+
 -- the view has the region's licence
 abbrev pub HasLicence : ℕ → View → Type 0
 HasLicence region v = (log : List Placed) × Contains v.licences (region, log)
@@ -113,7 +117,7 @@ pub record MayAdd (v : View) (e : Entry) : Type 0 where
   pub region : ℕ
   pub log : List Placed
   pub licence : Contains v.licences (region, log)
-  pub mine : in_region name region e ≡ true
+  pub mine : is_mine (is_in name.widths name.data_regions region) e.step ≡ true
   pub stays : StaysWithin (is_in name.widths name.data_regions region) e.step
   pub reply : (place : ℕ) → e.reply ≡ reply_of (replayed (part (is_in name.widths name.data_regions region) (store_in name)) log) place e.step
   pub may : (h : History) → IsOver name h → Fits name h v → MayStep h e.caller e.step
@@ -134,7 +138,3 @@ Adds e st m found m' = (m.0.length ≤ found) × Lives m'.0 × (found ≡ st.fir
 -- opening where the word was as expected, and else learning the length
 abbrev pub Opens : Step (Unit {0}) → Seated → ℕ → Seated → Type 0
 Opens st m found m' = (m.0.length ≤ found) × Lives m'.0 × (found ≡ st.first → m' ≡ (opened m.0 (found + 1), m.1)) × (found ≢ st.first → m' ≡ (learned m.0 found, m.1))
-
--- a newcomer is told the store of the first seat
-abbrev pub Sits : Step (Unit {0}) → Seated → ℕ → Seated → Type 0
-Sits st m found m' = m' ≡ (newcomer m.0.named, [])

@@ -32,6 +32,9 @@ impl Entry for Brand {
     ghost entry = { opening 0 };
 }
 
+/// The number of the licence of openings: it is behind those of all regions that a store can have.
+pub const OPENINGS: u32 = 25;
+
 /// By it a call names a region.
 pub(crate) trait Chosen {
     ghost use Rattle.std.specs.Prelude.{ℕ};
@@ -102,22 +105,13 @@ impl<E: Entry> Play<(), View> for Add<E> {
     ghost then = { Adds E.entry };
 }
 
-/// A caller opens, or the length is learnt.
+/// A caller opens, by the licence of openings, or the length is learnt.
 pub(crate) struct Open;
 
 impl Play<(), View> for Open {
     ghost use Rattle.step_count.specs.ViewSteps.{Opens};
 
     ghost then = { Opens };
-}
-
-/// A newcomer is seated.
-pub(crate) struct Sit;
-
-impl Play<(), View> for Sit {
-    ghost use Rattle.step_count.specs.ViewSteps.{Sits};
-
-    ghost then = { Sits };
 }
 
 /// What was seen is copied.
@@ -142,6 +136,17 @@ impl<N: Chosen> Split<View> for Leaves<N> {
     ghost left = { without_licence N.region };
 
     ghost right = { licence_alone N.region };
+}
+
+/// The callers leave, with what was seen.
+pub(crate) struct Departs;
+
+impl Split<View> for Departs {
+    ghost use Rattle.step_count.specs.ViewSteps.{without_callers, callers_alone};
+
+    ghost left = { without_callers };
+
+    ghost right = { callers_alone };
 }
 
 /// What two seats know comes together in the first.

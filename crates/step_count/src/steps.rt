@@ -1,15 +1,15 @@
 //! The counter of a store's entries, and the tokens of those who share it.
-ghost use Rattle.std.specs.Prelude.{◌≡◌, ℕ, ◌+◌, ◌-◌, ◌<◌, ◌≤◌, [], Some, IfOk, All, map};
+ghost use Rattle.std.specs.Prelude.{◌≡◌, ℕ, ◌+◌, ◌-◌, ◌<◌, ◌≤◌, [], Some, IfOk, OnErr, All, map};
 ghost use Rattle.std.specs.Arc.{arc_value};
 ghost use Rattle.row_key.specs.declared.regions.TheConstants.{NAME_REGIONS, MOST_DATA_REGIONS};
-ghost use Rattle.step_count.specs.declared.counter_rule.TheConstants.{WORDS};
+ghost use Rattle.step_count.specs.declared.counter_rule.TheConstants.{OPENINGS, WORDS};
 ghost use Rattle.cell_model.specs.Sound.{IsBase};
-ghost use Rattle.step_count.specs.FirstViews.{holding, named, unused_licences};
-ghost use Rattle.step_count.specs.ViewSteps.{HasLicence, Lives, MayAdd, added, learned, licence_alone, met, newcomer, noted, opened, without_licence};
+ghost use Rattle.step_count.specs.FirstViews.{named, opener, unused_licences};
+ghost use Rattle.step_count.specs.ViewSteps.{HasLicence, Lives, MayAdd, added, callers_alone, learned, licence_alone, met, noted, opened, without_callers, without_licence};
 
 use crate::counter_rule::{
-    Add, Base, Both, COUNT, Chosen, Copied, Counter, Entry, Learn, Leaves, Names, NoRule, Open,
-    Sit, TokenSeat, WORDS,
+    Add, Base, Both, COUNT, Chosen, Copied, Counter, Departs, Entry, Learn, Leaves, Names, NoRule,
+    Open, TokenSeat, WORDS,
 };
 use crate::view::Named;
 use atomic_table::Table;
@@ -17,11 +17,12 @@ use std::alloc::{AllocError, Global};
 use std::marker::Brand;
 use std::sync::{Arc, Wait};
 
-/// The counter. Its word is the length of the store's history, and stays where it is at 2^64 - 1.
+/// The counter, by which callers are opened. Its word is the length of the store's history, and stays where it is at 2^64 - 1.
+///
+/// It has the licence of openings, so it has all callers that opened.
 #[derive(Drop)]
 pub struct Steps {
-    counter: Arc<Counter, Global>,
-    ghost words: { (arc_value counter).shared.table_id.words ≡ WORDS },
+    opener: Pass,
 }
 
 /// A caller's token: with it the caller learns the history's length and makes its entries.
@@ -53,29 +54,27 @@ pub struct Note {
 }
 
 impl Steps {
-    ghost use Rattle.step_count.specs.Tokens.{counter_of_steps, counter_of_pass, counter_of_licence, name_of_steps, view_of_pass, view_of_licence};
+    ghost use Rattle.step_count.specs.Tokens.{counter_of_steps, counter_of_pass, counter_of_licence, view_of_steps, view_of_pass, view_of_licence};
 
     /// A counter over the store that `B` names, and the licences of its regions, in order. It fails only for want of memory.
     pub fn make<B: Base>(alloc: Global, regions: u32) -> Result<(Steps, Vec<Licence>), AllocError>
         requires base { IsBase B.store }
         requires least { NAME_REGIONS < regions }
         requires most { regions ≤ NAME_REGIONS + MOST_DATA_REGIONS }
-        ensures name { IfOk result (λ made. name_of_steps made.0 ≡ named B.store (regions - NAME_REGIONS)) }
         ensures counter { IfOk result (λ made. All (λ licence. counter_of_licence licence ≡ counter_of_steps made.0) made.1.items) }
+        ensures opener { IfOk result (λ made. view_of_steps made.0 ≡ opener (Some (named B.store (regions - NAME_REGIONS))) regions 0) }
         ensures views { IfOk result (λ made. map view_of_licence made.1.items ≡ unused_licences (Some (named B.store (regions - NAME_REGIONS))) 0 regions) }
     {
-        let (steps, mut first) = Steps::begin::<B>(alloc, regions)?;
-        let licences = first.give_all(alloc, regions)?;
-        Ok((steps, licences))
+        let mut opener = Steps::begin::<B>(alloc, regions)?;
+        let licences = opener.give_all(alloc, regions)?;
+        Ok((Steps { opener }, licences))
     }
 
-    // The counter, and the first seat, which has every licence.
-    fn begin<B: Base>(alloc: Global, regions: u32) -> Result<(Steps, Pass), AllocError>
+    // The first seat of the counter, which has every licence.
+    fn begin<B: Base>(alloc: Global, regions: u32) -> Result<Pass, AllocError>
         requires base { IsBase B.store }
         requires least { NAME_REGIONS < regions }
-        ensures name { IfOk result (λ made. name_of_steps made.0 ≡ named B.store (regions - NAME_REGIONS)) }
-        ensures counter { IfOk result (λ made. counter_of_pass made.1 ≡ counter_of_steps made.0) }
-        ensures view { IfOk result (λ made. view_of_pass made.1 ≡ holding (Some (named B.store (regions - NAME_REGIONS))) 0 regions) }
+        ensures { IfOk result (λ pass. view_of_pass pass ≡ opener (Some (named B.store (regions - NAME_REGIONS))) 0 regions) }
     {
         let (naming, mut origin) = Table::<(), Option<Named>, (), NoRule, Global>::of_words(
             alloc,
@@ -87,46 +86,57 @@ impl Steps {
             .store::<Names<B>>(&mut origin, 0, u64::from(regions));
         let (counter, seat) = Counter::of_words(alloc, &[0; WORDS], &origin)?;
         let counter = Arc::new(alloc, counter)?;
-        let steps = Steps {
-            counter: Arc::try_clone(&counter)?,
-        };
-        Ok((
-            steps,
-            Pass {
-                counter,
-                seat,
-                last: 0,
-            },
-        ))
+        Ok(Pass {
+            counter,
+            seat,
+            last: 0,
+        })
+    }
+
+    /// The licence of openings, with all that were made: no caller opens any more.
+    pub fn close(self) -> Licence
+        ensures counter { counter_of_licence result ≡ counter_of_steps self }
+        ensures view { view_of_licence result ≡ view_of_steps self }
+    {
+        let Steps { opener } = self;
+        let Pass {
+            counter: _,
+            seat,
+            last,
+        } = opener;
+        Licence { seat, last }
     }
 }
 
 impl Pass {
-    ghost use Rattle.step_count.specs.Tokens.{counter_of_steps, counter_of_pass, counter_of_licence, counter_of_note, name_of_steps, view_of_pass, view_of_licence, view_of_note};
+    ghost use Rattle.step_count.specs.Tokens.{counter_of_steps, counter_of_pass, counter_of_licence, counter_of_note, view_of_steps, view_of_pass, view_of_licence, view_of_note};
 
-    /// A new caller. It makes one entry, its opening, whose place is the caller's number, and nobody else's. It fails only for want of
-    /// memory, and doesn't return where the word stays.
-    pub fn open_on<T: Wait>(rt: &T, steps: &Steps) -> Result<Pass, AllocError>
-        ensures counter { IfOk result (λ pass. counter_of_pass pass ≡ counter_of_steps steps.now) }
-        ensures view { IfOk result (λ pass. (number : ℕ) × (view_of_pass pass ≡ opened (newcomer (Some (name_of_steps steps.now))) number)) }
+    /// A new caller. One entry is made, its opening, whose place is the caller's number, and nobody else's. It fails only for want of
+    /// memory, and then nobody opened. It doesn't return where the word stays.
+    pub fn open_on<T: Wait>(rt: &T, steps: &mut Steps) -> Result<Pass, AllocError>
+        requires { HasLicence OPENINGS (view_of_steps steps.old) }
+        ensures steps_counter { counter_of_steps steps.new ≡ counter_of_steps steps.old }
+        ensures counter { IfOk result (λ pass. counter_of_pass pass ≡ counter_of_steps steps.old) }
+        ensures opened { IfOk result (λ pass. (number : ℕ) × (view_of_pass pass ≡ callers_alone (opened (view_of_steps steps.old) number))
+            × (view_of_steps steps.new ≡ without_callers (opened (view_of_steps steps.old) number))) }
         ensures live { IfOk result (λ pass. Lives (view_of_pass pass)) }
+        ensures err { OnErr result (view_of_steps steps.new ≡ view_of_steps steps.old) }
     {
-        let counter = Arc::try_clone(&steps.counter)?;
-        let (_found, seat) = counter.shared.load_new_seat::<Sit>(0);
-        let mut pass = Pass {
+        let counter = Arc::try_clone(&steps.opener.counter)?;
+        steps.opener.open(rt);
+        let seat = steps.opener.depart();
+        Ok(Pass {
             counter,
             seat,
             last: 0,
-        };
-        pass.open(rt);
-        Ok(pass)
+        })
     }
 
-    // The opening entry.
+    // The opening entry of a caller.
     fn open<T: Wait>(&mut self, rt: &T)
-        requires { view_of_pass self.old ≡ newcomer (view_of_pass self.old).named }
+        requires { HasLicence OPENINGS (view_of_pass self.old) }
         ensures counter { counter_of_pass self.new ≡ counter_of_pass self.old }
-        ensures view { (number : ℕ) × (view_of_pass self.new ≡ opened (newcomer (view_of_pass self.old).named) number) }
+        ensures view { (number : ℕ) × (view_of_pass self.new ≡ opened (view_of_pass self.old) number) }
         ensures live { Lives (view_of_pass self.new) }
     {
         let mut seen = self.learn();
@@ -145,6 +155,16 @@ impl Pass {
             }
         }
         unreachable!()
+    }
+
+    // The callers of this seat, for a seat of their own.
+    fn depart(&mut self) -> TokenSeat
+        ensures counter { counter_of_pass self.new ≡ counter_of_pass self.old }
+        ensures view { view_of_pass self.new ≡ without_callers (view_of_pass self.old) }
+        ensures seat_counter { result.table_id ≡ counter_of_pass self.old }
+        ensures seat_view { result.me ≡ (callers_alone (view_of_pass self.old), []) }
+    {
+        self.counter.shared.split_seat::<Departs>(&mut self.seat)
     }
 
     /// The history's length at this moment. What the pass has then learnt tells too that no two of the callers that it is are one.
@@ -232,9 +252,12 @@ impl Pass {
         }
     }
 
-    // The licences of the first seat, in order.
+    // The licences of regions of the first seat, in order. It keeps that of openings.
     fn give_all(&mut self, alloc: Global, regions: u32) -> Result<Vec<Licence>, AllocError>
-        requires { view_of_pass self.old ≡ holding (view_of_pass self.old).named 0 regions }
+        requires view { view_of_pass self.old ≡ opener (view_of_pass self.old).named 0 regions }
+        requires most { regions ≤ OPENINGS }
+        ensures self_counter { counter_of_pass self.new ≡ counter_of_pass self.old }
+        ensures left { IfOk result (λ licences. view_of_pass self.new ≡ opener (view_of_pass self.old).named regions 0) }
         ensures counter { IfOk result (λ licences. All (λ licence. counter_of_licence licence ≡ counter_of_pass self.old) licences.items) }
         ensures views { IfOk result (λ licences. map view_of_licence licences.items ≡ unused_licences (view_of_pass self.old).named 0 regions) }
     {

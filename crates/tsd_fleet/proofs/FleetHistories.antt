@@ -1,38 +1,115 @@
 -- The one history that a fleet's connections were served in.
-use Rattle.std.proofs.Common.{◌≡◌, ℕ, List, [], arith}
-use Rattle.std.specs.Prelude.{Option}
-use Rattle.std.proofs.lemmas.List.Elements.{All-nil}
+use Rattle.std.proofs.Common.{◌≡◌, ◌≢◌, ◌⊎◌, inl, inr, ⊎_elim, ℕ, suc, ◌+◌, ◌<◌, ◌≤◌, true, false, Bool, List, [], ◌∷◌, ◌++◌, length, refl, sym, ap, ◌∙◌, subst, length-append, rules, arith}
+use Rattle.std.specs.Prelude.{AllPairs, Contains, Option, None, Some, map, nat_le}
+use Rattle.std.proofs.lemmas.Bool.{true≢false}
+use Rattle.std.proofs.lemmas.List.Elements.{All-nil, Contains-append_cases, Contains-append_left, Contains-append_right}
+use lib.ListN.{length-map}
+use Rattle.list_lemmas.proofs.ListMembers.{all_in, here, there, in_map, map_in, not_in, pairs_in, pairs_tail, split}
 use Rattle.tsd_doors.specs.Links.{Shut}
 use Rattle.cell_model.specs.Store.{Store}
-use Rattle.cell_model.specs.History.{History, base_of, store_after}
+use Rattle.cell_model.specs.declared.events.Entry.{Entry}
+use Rattle.cell_model.specs.History.{History, base_of, entry_at, store_after}
+use Rattle.cell_model.specs.History.History.{Base}
 use Rattle.cell_model.specs.Lawful.{IsLawful}
-use Rattle.cell_model.specs.Seen.{Seen, Fits}
-use Rattle.step_count.proofs.CallerLemmas.{none_different}
+use Rattle.cell_model.specs.Seen.{Seen, Saw, IsOwn, Fits}
+use Rattle.step_count.specs.CounterRule.{AreDifferent, opening}
+use Rattle.step_count.proofs.CallerLemmas.{none_different, different_among}
+use Rattle.cell_store.specs.CallerViews.{numbers_of}
 use Rattle.point_put.specs.Admissions.{Admission}
 use Rattle.tsd_daemon.specs.declared.served.Served.{Served}
-use Rattle.conn_workers.specs.ServedLinks.{ServedInTurn}
-use Rattle.site_workers.specs.GatheredLinks.{CallerLinks, Gathered}
-use Rattle.site_workers.proofs.CallerLemmas.{none_end}
-use Rattle.tsd_fleet.specs.FleetStands.{FleetStands}
+use Rattle.row_compactors.specs.Upkeep.{TakesPlaces, brings_new}
+use Rattle.conn_workers.specs.ServedLinks.{IsWithin, OnlyServed, ServedInTurn, ServedLink}
+use Rattle.conn_workers.specs.ServedLinks.ServedInTurn.{none_yet, then_served}
+use Rattle.site_workers.specs.GatheredLinks.{CallerLinks, Gathered, callers_of}
+use Rattle.site_workers.proofs.CallerLemmas.{gathered_later, none_end}
+use Rattle.tsd_fleet.specs.FleetStands.{FleetStands, MadeServing, SiteWorked}
 
--- no connection was served in a history that is over the base
-pub none_back : (T U : Type 0) (c : Admission) (moments : Option (List ℕ)) (h : History) (base : Store) (back : Option (List Shut)) (faults : ℕ) (ends : List Served) → IsLawful h → base_of h ≡ base → base ≡ store_after h → ends ≡ []
-    → FleetStands T U c moments base base back back faults faults ends
-none_back T U c moments h base back faults ends law base_is store_is none = record {
-  history = h;
+-- ---- all that opened
+
+-- a list without one of its elements
+record Without (x : ℕ) (all : List ℕ) : Type 0 where
+  rest : List ℕ
+  fewer : length all ≡ suc (length rest)
+  same_or : (y : ℕ) → Contains all y → (x ≡ y) ⊎ Contains rest y
+
+without_one : (x : ℕ) (all : List ℕ) → Contains all x → Without x all
+without_one x [] has = absurd (not_in x has)
+without_one x (y ∷ ys) has = at (split y x ys has) (without_one x ys)
+  where
+    at : (y ≡ x) ⊎ Contains ys x → (Contains ys x → Without x ys) → Without x (y ∷ ys)
+    at (inl same) go = record { rest = ys; fewer = refl; same_or = λ z i. ⊎_elim (λ (is : y ≡ z). inl (sym same ∙ is)) (λ j. inr j) (split y z ys i) }
+    at (inr i) go = let w = go i in record {
+      rest = y ∷ w.rest;
+      fewer = ap suc w.fewer;
+      same_or = λ z j. ⊎_elim
+          (λ (is : y ≡ z). inr (subst (Contains (y ∷ w.rest)) is (here y w.rest)))
+          (λ k. ⊎_elim (λ (same : x ≡ z). inl same) (λ m. inr (there y z w.rest m)) (w.same_or z k))
+          (split y z ys j);
+    }
+
+-- some that differ are all, where they are as many
+all_listed : (some_of all : List ℕ) → AreDifferent some_of → ((x : ℕ) → Contains some_of x → Contains all x) → length all ≡ length some_of → (x : ℕ) → Contains all x → Contains some_of x
+all_listed [] [] apart within same x has = has
+all_listed [] (y ∷ ys) apart within same x has = absurd (omega (arith, same))
+all_listed (y ∷ ys) all apart within same x has =
+    let w = without_one y all (within y (here y ys)) in
+    let fewer = w.fewer in
+    at w.rest (w.same_or x has) (all_listed ys w.rest (pairs_tail (λ a b. a ≢ b) y ys apart)
+    (λ z i. ⊎_elim (λ (is : y ≡ z). absurd (pairs_in (λ a b. a ≢ b) y z ys apart i is)) (λ j. j) (w.same_or z (within z (there y z ys i))))
+    (omega (arith, same, fewer)) x)
+  where
+    at : (rest : List ℕ) → (y ≡ x) ⊎ Contains rest x → (Contains rest x → Contains ys x) → Contains (y ∷ ys) x
+    at rest (inl is) go = subst (Contains (y ∷ ys)) is (here y ys)
+    at rest (inr i) go = there y x ys (go i)
+
+-- ---- what serves
+
+within_or_behind : (n m : ℕ) → (n ≤ m) ⊎ (m < n)
+within_or_behind n m = at (nat_le n m) refl
+  where
+    at : (b : Bool) → nat_le n m ≡ b → (n ≤ m) ⊎ (m < n)
+    at true t = inl (search (rules, t))
+    at false t = inr (search (rules, t))
+
+-- an entry that brings something new is within the lengths of a connection
+serves_one : {T U : Type 0} {c : Admission} {moments : Option (List ℕ)} {h : History} {caller : ℕ} {links : List ServedLink} {last : ℕ} (turns : ServedInTurn T U c moments h caller links last) (place : ℕ) (e : Entry) → place ≤ last → e.caller ≡ caller
+    → entry_at h place ≡ Some e → brings_new e.step ≡ true → IsWithin turns place
+serves_one (none_yet last alone) place e le own at new = absurd (true≢false (sym new ∙ ap brings_new (alone place e le own at)))
+serves_one (then_served {before = before} {n = n} {n2 = n2} link earlier up1 up2 up3 none1 none2 served) place e le own at new = ⊎_elim
+    (λ low. inl (serves_one earlier place e low own at new))
+    (λ above. ⊎_elim
+    (λ low. absurd (none1 place e above low own at))
+    (λ above_n. ⊎_elim (λ low. inr (above_n, low)) (λ above_n2. absurd (none2 place e above_n2 le own at)) (within_or_behind place n2))
+    (within_or_behind place n))
+    (within_or_behind place before)
+
+-- ---- the history
+
+own_number : (s : Seen) (number : ℕ) → Contains (numbers_of s) number → IsOwn s number
+own_number s number has = ⊎_elim (λ (is : s.caller ≡ number). inl (sym is)) (λ i. inr i) (split s.caller number s.absorbed has)
+
+-- no connection was served in a history without an entry
+pub none_back : (T U : Type 0) (c : Admission) (moments : Option (List ℕ)) (base : Store) (back : Option (List Shut)) (faults : ℕ) (ends : List Served) → IsLawful (Base base) → ends ≡ [] → FleetStands T U c moments base base back back faults faults ends
+none_back T U c moments base back faults ends law none = record {
+  history = Base base;
   lawful = law;
-  base_is = base_is;
-  store_is = store_is;
+  base_is = refl;
+  store_is = refl;
   callers = [];
   different = none_different;
-  served = All-nil (λ (k : CallerLinks). ServedInTurn T U c moments h k.caller k.links k.last);
+  served = All-nil (λ (k : CallerLinks). OnlyServed T U c moments (Base base) k.caller k.last k.links);
   given = record { doors = none_end back; ends_are = none; clock_faults = omega arith };
+  nothing_else = λ place e at new. absurd (no_entry e at);
 }
+  where
+    no_entry : (e : Entry) → None ≡ Some e → ⊥
+    no_entry e is = cc
 
 -- the site's own history is one that fits
-pub stands : (T U : Type 0) (c : Admission) (moments : Option (List ℕ)) (s : Seen) (numbers : List ℕ) (base store : Store) (back back' : Option (List Shut)) (faults faults' : ℕ) (ends : List Served) (h : History) → IsLawful h → Fits s h → base_of h ≡ base → store ≡ store_after h
-    → Gathered T U c moments s numbers back back' faults faults' ends → FleetStands T U c moments base store back back' faults faults' ends
-stands T U c moments s numbers base store back back' faults faults' ends h law fits base_is store_is g = record {
+pub stands : (T U : Type 0) (c : Admission) (moments : Option (List ℕ)) (opened : List ℕ) (s : Seen) (base store : Store) (back back' : Option (List Shut)) (faults faults' : ℕ) (ends : List Served) (h : History) → IsLawful h → Fits s h → base_of h ≡ base → store ≡ store_after h
+    → ((place : ℕ) (e : Entry) → IsOwn s e.caller → entry_at h place ≡ Some e → Saw s place e) → ((caller : ℕ) → IsOwn s caller → (entry_at h caller ≡ Some (opening caller)) × Contains opened caller)
+    → ((place : ℕ) (e : Entry) → entry_at h place ≡ Some e → Contains opened e.caller) → SiteWorked T U c moments opened s back back' faults faults' ends → FleetStands T U c moments base store back back' faults faults' ends
+stands T U c moments opened s base store back back' faults faults' ends h law fits base_is store_is own mine listed w = record {
   history = h;
   lawful = law;
   base_is = base_is;
@@ -41,4 +118,50 @@ stands T U c moments s numbers base store back back' faults faults' ends h law f
   different = g.different;
   served = g.served h law fits;
   given = g.given;
+  nothing_else = λ place e at new. ⊎_elim
+      (λ i. serving place e at new (map_in (λ (k : CallerLinks). k.caller) g.callers e.caller i))
+      (λ i. absurd (true≢false (sym new ∙ w.nothing_new e.caller i h law fits place e (own place e (own_number s e.caller (w.among e.caller i)) at).0 refl at)))
+      (Contains-append_cases (callers_of g.callers) w.others e.caller (all_listed (callers_of g.callers ++ w.others) opened w.different within count e.caller (listed place e at)));
 }
+  where
+    g : Gathered T U c moments s (numbers_of s) w.count back back' faults faults' ends
+    g = w.gathered
+
+    within : (number : ℕ) → Contains (callers_of g.callers ++ w.others) number → Contains opened number
+    within number has = (mine number (own_number s number (⊎_elim (λ i. g.among number i) (λ i. w.among number i) (Contains-append_cases (callers_of g.callers) w.others number has)))).1
+
+    count : length opened ≡ length (callers_of g.callers ++ w.others)
+    count = w.all ∙ sym (length-append (callers_of g.callers) w.others ∙ ap (λ n. n + length w.others) (length-map g.callers (λ (k : CallerLinks). k.caller) ∙ g.count_is))
+
+    serving : (place : ℕ) (e : Entry) → entry_at h place ≡ Some e → brings_new e.step ≡ true → (k : CallerLinks) × Contains g.callers k × (k.caller ≡ e.caller) → MadeServing T U c moments h g.callers place e
+    serving place e at new k =
+        let low = (own place e (own_number s e.caller (g.among e.caller (subst (Contains (callers_of g.callers)) k.2 (in_map (λ (k : CallerLinks). k.caller) g.callers k.0 k.1)))) at).0 in
+        let turns = (all_in (λ (k : CallerLinks). OnlyServed T U c moments h k.caller k.last k.links) k.0 g.callers (g.served h law fits) k.1).in_turn in
+        (k.0, k.1, sym k.2, (turns, serves_one turns place e (g.none_behind k.0 k.1 h fits place e low (sym k.2) at) (sym k.2) at new))
+
+-- what was gathered, and then the places of those taken that only compacted
+pub worked : (T U : Type 0) (c : Admission) (moments : Option (List ℕ)) (opened : List ℕ) (s s' : Seen) (count others : ℕ) (back back' : Option (List Shut)) (faults n n' : ℕ) (ends : List Served) → length opened ≡ count + others → AreDifferent (numbers_of s') → n ≤ n'
+    → Gathered T U c moments s (numbers_of s) count back back' faults n ends → TakesPlaces s others s' → SiteWorked T U c moments opened s' back back' faults n' ends
+worked T U c moments opened s s' count others back back' faults n n' ends all apart later g t = record {
+  count = count;
+  gathered = record {
+    callers = still.callers;
+    count_is = still.count_is;
+    different = still.different;
+    among = λ number has. subst (λ (l : List ℕ). Contains l number) (sym t.numbers) (first number (still.among number has));
+    served = still.served;
+    none_behind = still.none_behind;
+    given = still.given;
+  };
+  others = t.callers;
+  all = all ∙ ap (λ m. count + m) (sym t.count_is);
+  different = different_among (numbers_of s) t.behind (callers_of still.callers) t.callers (subst AreDifferent t.numbers apart) still.different t.different still.among t.among;
+  among = λ number has. subst (λ (l : List ℕ). Contains l number) (sym t.numbers) (Contains-append_right (numbers_of s) t.behind number (t.among number has));
+  nothing_new = t.nothing_new;
+}
+  where
+    still : Gathered T U c moments s' (numbers_of s) count back back' faults n' ends
+    still = gathered_later T U c moments s s' (numbers_of s) (numbers_of s) count back back' faults n n' ends (λ number has. has) (own_number s) t.later t.made later g
+
+    first : (number : ℕ) → Contains (numbers_of s) number → Contains (numbers_of s ++ t.behind) number
+    first number has = Contains-append_left (numbers_of s) t.behind number has

@@ -24,7 +24,6 @@ use Rattle.cell_model.specs.Store.{Store, no_cells, row_cmp}
 use lib.ListN.{length-map}
 use Rattle.cell_model.specs.Machine.{counter_of, counter_row, kind_qual}
 use Rattle.cell_model.specs.Counts.{point_entries, point_rows}
-use Rattle.cell_model.specs.History.History.{Base}
 use Rattle.cell_model.specs.Seen.{Seen}
 use Rattle.cell_region.specs.DividedStore.{DividedStore}
 use Rattle.step_count.specs.declared.view.Named.{Named}
@@ -35,8 +34,8 @@ use Rattle.point_put.specs.Admissions.{Admission}
 use Rattle.tsd_daemon.specs.declared.served.Served.{Served}
 use Rattle.tsd_fleet.specs.declared.fleet_end.FleetEnd.{FleetEnd}
 use Rattle.tsd_fleet.specs.declared.fleet_end.FleetEnd.TheVariants as end
-use Rattle.site_workers.specs.GatheredLinks.{Gathered, SiteCounts}
-use Rattle.tsd_fleet.specs.FleetStands.{FleetStands}
+use Rattle.site_workers.specs.GatheredLinks.{SiteCounts}
+use Rattle.tsd_fleet.specs.FleetStands.{FleetStands, SiteWorked}
 use Rattle.tsd_fleet.specs.FleetServes.{BeginsToListen, BindsAsked, CountsLinks, FleetAsks, FleetServes, HasFleetReason, HasListened, IsListenFault, IsTally, Listens, is_die, listening_line}
 use Rattle.tsd_fleet.proofs.FleetHistories.{none_back, stands}
 
@@ -222,11 +221,11 @@ empty_tally tally ids rows cells = record {
 }
 
 -- the site's history is one in which all was served
-pub fleet_serves : (T U : Type 0) (c : Admission) (moments : Option (List ℕ)) (s : Seen) (numbers : List ℕ) (name given : Named) (d : DividedStore) (back back' : Option (List Shut)) (faults faults' : ℕ) (ends : List Served) (tally : Tally)
-    → given ≡ name → EndsAt name s d → Gathered T U c moments s numbers back back' faults faults' ends → IsTally d.content tally → FleetServes T U c moments (store_in given) back back' faults faults' ends tally
-fleet_serves T U c moments s numbers name given d back back' faults faults' ends tally same e g t = record {
+pub fleet_serves : (T U : Type 0) (c : Admission) (moments : Option (List ℕ)) (opened : List ℕ) (s : Seen) (name given : Named) (d : DividedStore) (back back' : Option (List Shut)) (faults faults' : ℕ) (ends : List Served) (tally : Tally)
+    → given ≡ name → EndsAt name opened s d → SiteWorked T U c moments opened s back back' faults faults' ends → IsTally d.content tally → FleetServes T U c moments (store_in given) back back' faults faults' ends tally
+fleet_serves T U c moments opened s name given d back back' faults faults' ends tally same e w t = record {
   store = d.content;
-  stands = stands T U c moments s numbers (store_in given) d.content back back' faults faults' ends e.history e.lawful e.fits (e.base_is ∙ sym (ap store_in same)) e.store_is g;
+  stands = stands T U c moments opened s (store_in given) d.content back back' faults faults' ends e.history e.lawful e.fits (e.base_is ∙ sym (ap store_in same)) e.store_is e.own e.mine e.callers w;
   tally_is = t;
 }
 
@@ -247,6 +246,6 @@ pub fleet_none : (T U : Type 0) (c : Admission) (moments : Option (List ℕ)) (b
 fleet_none T U c moments back back' faults faults' ends tally same still none t = record {
   store = no_cells three;
   stands = subst (λ (o : Option (List Shut)). FleetStands T U c moments (no_cells three) (no_cells three) back o faults faults' ends) (sym same) (subst (λ (n : ℕ). FleetStands T U c moments (no_cells three) (no_cells three) back back faults n ends) (sym still)
-      (none_back T U c moments (Base (no_cells three)) (no_cells three) back faults ends (empty_base three) refl refl none));
+      (none_back T U c moments (no_cells three) back faults ends (empty_base three) none));
   tally_is = t;
 }

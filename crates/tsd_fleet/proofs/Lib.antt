@@ -1,2 +1,3 @@
 mod FleetHistories
+mod SiteWorks
 mod FleetLines

@@ -291,9 +291,20 @@ fn serve_parts<
     ensures clock { OnErr result (clock.new ≡ clock.old) }
     ensures halt { OnErr result (halt.new ≡ halt.old) }
 {
-    let site = parts.named::<J>();
-    let served = serve_site(rt, alloc, fleet, &site, rule, config, clock, halt, doors)?;
-    let regions = site.end(served.pass);
+    let (site, mut openings) = parts.named::<J>();
+    let served = serve_site(
+        rt,
+        alloc,
+        fleet,
+        &site,
+        &mut openings,
+        rule,
+        config,
+        clock,
+        halt,
+        doors,
+    )?;
+    let regions = site.end(openings, served.pass);
     Ok(StoreServed {
         end: fleet_end(served.end, &served.ends),
         links: served.links,

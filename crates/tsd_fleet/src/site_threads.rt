@@ -1,17 +1,18 @@
 //! The connections of the doors, served over one site while rows of their points are compacted on other threads.
-ghost use Rattle.std.specs.Prelude.{◌≡◌, ◌≤◌, IfOk, OnErr, length, vec_len};
-ghost use Rattle.step_count.specs.Tokens.{counter_of_pass, view_of_pass};
-ghost use Rattle.cell_store.specs.CallerViews.{IsCaller, numbers_of, seen_of};
-ghost use Rattle.link_workers.specs.Accepting.{AsksHalt, HasReason};
+ghost use Rattle.std.specs.Prelude.{◌≡◌, ℕ, ◌≤◌, ◌+◌, [], IfOk, OnErr, length, vec_len};
+ghost use Rattle.step_count.specs.Tokens.{view_of_pass};
+ghost use Rattle.cell_store.specs.CallerViews.{numbers_of, seen_of};
 ghost use Rattle.point_put.specs.Admissions.{admission};
 ghost use Rattle.conn_workers.specs.ServedLinks.{AllTell};
-ghost use Rattle.site_workers.specs.GatheredLinks.{Gathered, SiteCounts};
+ghost use Rattle.site_workers.specs.GatheredLinks.{Gathered};
+ghost use Rattle.site_workers.specs.ServedSites.{SiteLeft};
+ghost use Rattle.tsd_fleet.specs.FleetStands.{SiteWorked};
 
 use crate::fleet::Fleet;
-use cell_store::{Gate, Site, StepNames};
+use cell_store::{Gate, Openings, Site, SitePass, StepNames};
 use conn_workers::conn_terms::ConnTerms;
 use point_put::Config;
-use row_compactors::compactor_seats::{CompactorSeats, make_compactors, rejoin_clocks};
+use row_compactors::compactor_seats::{CompactorSeats, make_compactors, take_compactors_back};
 use row_compactors::compactor_threads::compact_beside;
 use site_workers::site_service::{SiteServed, serve_connections};
 use std::alloc::{AllocError, Global};
@@ -39,24 +40,22 @@ pub(crate) fn serve_site<
     alloc: Global,
     fleet: &Fleet,
     site: &Site<J, G>,
+    openings: &mut Openings<J>,
     rule: &UidRule,
     config: &Config,
     clock: &mut C,
     halt: &mut H,
     doors: &mut D,
 ) -> Result<SiteServed, AllocError>
+    requires nobody { openings.old ≡ [] }
     requires daemons { 1 ≤ fleet.now.daemons }
     requires most_daemons { fleet.now.daemons ≤ 8 }
     requires most_workers { fleet.now.workers ≤ 16 }
     requires admission { admission config.now rule.now.patterns ≡ J.admission }
     requires moments { C.moments clock.old ≡ J.moments }
-    ensures counter { IfOk result (λ s. counter_of_pass s.pass ≡ J.counter) }
-    ensures caller { IfOk result (λ s. IsCaller J.name (view_of_pass s.pass)) }
-    ensures gathered { IfOk result (λ s. Gathered (AllTell D.Inlet.taken) (AllTell D.Outlet.held) J.admission J.moments (seen_of (view_of_pass s.pass)) (numbers_of (seen_of (view_of_pass s.pass)))
+    ensures left { IfOk result (λ s. SiteLeft J.counter J.name D.counts D.waiting D.faults H.stops H.answers doors.old doors.new halt.old halt.new s) }
+    ensures worked { IfOk result (λ s. SiteWorked (AllTell D.Inlet.taken) (AllTell D.Outlet.held) J.admission J.moments openings.new (seen_of (view_of_pass s.pass))
         (D.back doors.old) (D.back doors.new) (C.faults clock.old) (C.faults clock.new) s.ends.items) }
-    ensures counts { IfOk result (λ s. SiteCounts s.end s.links (length s.ends.items) (D.counts doors.old) (D.counts doors.new)) }
-    ensures reason { IfOk result (λ s. HasReason s.end (D.waiting doors.old) (D.waiting doors.new) (H.stops halt.old) (H.stops halt.new) (D.faults doors.old) (D.faults doors.new)) }
-    ensures asked { IfOk result (λ s. AsksHalt H.answers s.end (D.counts doors.old) (D.counts doors.new) halt.old halt.new) }
     ensures stops_later { H.stops halt.old ≤ H.stops halt.new }
     ensures clock_later { C.faults clock.old ≤ C.faults clock.new }
     ensures doors_later { D.faults doors.old ≤ D.faults doors.new }
@@ -68,6 +67,7 @@ pub(crate) fn serve_site<
         rt,
         alloc,
         site,
+        openings,
         clock,
         fleet.daemons,
     )?;
@@ -78,13 +78,10 @@ pub(crate) fn serve_site<
         &mut || -> Result<SiteServed, AllocError>
             requires { (1 ≤ vec_len rows_to) × (vec_len rows_to ≤ 8) × (fleet.now.workers ≤ 16)
                 × (admission config.now rule.now.patterns ≡ J.admission) × (C.moments clock.now ≡ J.moments) }
-            ensures counter { IfOk result (λ s. counter_of_pass s.pass ≡ J.counter) }
-            ensures caller { IfOk result (λ s. IsCaller J.name (view_of_pass s.pass)) }
-            ensures gathered { IfOk result (λ s. Gathered (AllTell D.Inlet.taken) (AllTell D.Outlet.held) J.admission J.moments (seen_of (view_of_pass s.pass)) (numbers_of (seen_of (view_of_pass s.pass)))
-                (D.back doors.entry.now) (D.back doors.exit.now) (C.faults clock.entry.now) (C.faults clock.exit.now) s.ends.items) }
-            ensures counts { IfOk result (λ s. SiteCounts s.end s.links (length s.ends.items) (D.counts doors.entry.now) (D.counts doors.exit.now)) }
-            ensures reason { IfOk result (λ s. HasReason s.end (D.waiting doors.entry.now) (D.waiting doors.exit.now) (H.stops halt.entry.now) (H.stops halt.exit.now) (D.faults doors.entry.now) (D.faults doors.exit.now)) }
-            ensures asked { IfOk result (λ s. AsksHalt H.answers s.end (D.counts doors.entry.now) (D.counts doors.exit.now) halt.entry.now halt.exit.now) }
+            ensures left { IfOk result (λ s. SiteLeft J.counter J.name D.counts D.waiting D.faults H.stops H.answers doors.entry.now doors.exit.now halt.entry.now halt.exit.now s) }
+            ensures gathered { IfOk result (λ s. (count : ℕ) × (length openings.exit.now ≡ length openings.entry.now + count)
+                × Gathered (AllTell D.Inlet.taken) (AllTell D.Outlet.held) J.admission J.moments (seen_of (view_of_pass s.pass)) (numbers_of (seen_of (view_of_pass s.pass)))
+                count (D.back doors.entry.now) (D.back doors.exit.now) (C.faults clock.entry.now) (C.faults clock.exit.now) s.ends.items) }
             ensures stops_later { H.stops halt.entry.now ≤ H.stops halt.exit.now }
             ensures clock_later { C.faults clock.entry.now ≤ C.faults clock.exit.now }
             ensures doors_later { D.faults doors.entry.now ≤ D.faults doors.exit.now }
@@ -97,6 +94,7 @@ pub(crate) fn serve_site<
                 alloc,
                 fleet.workers,
                 site,
+                openings,
                 rule,
                 config,
                 clock,
@@ -106,6 +104,18 @@ pub(crate) fn serve_site<
             )
         },
     )?;
-    rejoin_clocks(clock, compactors);
-    Ok(served)
+    let SiteServed {
+        pass,
+        links,
+        end,
+        ends,
+    } = served;
+    let mut own = SitePass::of(site, rt, pass);
+    take_compactors_back(&mut own, clock, compactors);
+    Ok(SiteServed {
+        pass: own.part(),
+        links,
+        end,
+        ends,
+    })
 }

@@ -1,8 +1,10 @@
-use Rattle.std.proofs.Common.{◌≡◌, ◌≤◌, ℕ, All, List, ◌++◌, Option, length, map}
+use Rattle.std.proofs.Common.{◌≡◌, ◌≤◌, ◌+◌, ℕ, All, List, ◌++◌, Option, length, map}
 use Rattle.std.specs.List.{sum_by}
 use Rattle.std.specs.Vec.Iter.{into_iter_items, into_iter_len}
 use Rattle.tsd_doors.specs.Links.{Shut}
+use Rattle.cell_model.specs.Seen.{IsOwn}
 use Rattle.cell_model.specs.Deeds.{Extends}
+use Rattle.cell_store.specs.CallerViews.{MadeNoMore}
 use Rattle.point_put.specs.Admissions.{admission}
 use Rattle.conn_workers.specs.ServedLinks.{AllTell, WorkerServed}
 use Rattle.site_workers.specs.GatheredLinks.{Gathered, TakenBack}
@@ -14,14 +16,16 @@ invariant-loop-worker g l = record {
   len : into_iter_len l.worker-iterator ≡ length (into_iter_items l.worker-iterator);
   served : All
       (λ worker.
-      WorkerServed (AllTell g.D.Inlet.Source.taken) (AllTell g.D.Outlet.Sink.held) g.J.ConnTerms.admission g.J.ConnTerms.moments (admission worker.work.config worker.work.rule.now.patterns) worker.work.names
+      WorkerServed (AllTell g.D.Inlet.Source.taken) (AllTell g.D.Outlet.Sink.held) g.J.ConnTerms.admission g.J.ConnTerms.moments (admission worker.work.config worker.work.rule.now.patterns) worker.work.names.rows
       (g.C.Clock.moments worker.work.clock) (g.C.Clock.faults worker.work.clock) (map (λ one. (g.D.Doors.shown one.0, one.1)) worker.ends.items))
       (into_iter_items l.worker-iterator);
   few : sum_by (λ worker. length worker.ends.items) (into_iter_items l.worker-iterator) ≤ (g.D.Doors.counts l.doors).out;
-  gathered : (back : Option (List Shut)) (faults : ℕ)
-      → Gathered (AllTell g.D.Inlet.Source.taken) (AllTell g.D.Outlet.Sink.held) g.J.ConnTerms.admission g.J.ConnTerms.moments l.fn.own l.fn.own.absorbed back (g.D.Doors.back l.fn.doors) faults (g.C.Clock.faults l.fn.clock) l.fn.ends.items
-      → Gathered (AllTell g.D.Inlet.Source.taken) (AllTell g.D.Outlet.Sink.held) g.J.ConnTerms.admission g.J.ConnTerms.moments l.own l.own.absorbed back (g.D.Doors.back l.doors) faults (g.C.Clock.faults l.clock) l.ends.items;
+  gathered : (count : ℕ) (back : Option (List Shut)) (faults : ℕ)
+      → Gathered (AllTell g.D.Inlet.Source.taken) (AllTell g.D.Outlet.Sink.held) g.J.ConnTerms.admission g.J.ConnTerms.moments l.fn.own l.fn.own.absorbed count back (g.D.Doors.back l.fn.doors) faults (g.C.Clock.faults l.fn.clock) l.fn.ends.items
+      → Gathered (AllTell g.D.Inlet.Source.taken) (AllTell g.D.Outlet.Sink.held) g.J.ConnTerms.admission g.J.ConnTerms.moments l.own l.own.absorbed (count + length l.yielded) back (g.D.Doors.back l.doors) faults (g.C.Clock.faults l.clock) l.ends.items;
   later : Extends l.fn.own l.own;
+  made : MadeNoMore l.fn.own l.own;
+  stays : (number : ℕ) → IsOwn l.fn.own number → IsOwn l.own number;
   caller : l.own.caller ≡ l.fn.own.caller;
   returned : TakenBack l.all (sum_by (λ worker. length worker.ends.items) l.yielded) (length l.fn.ends.items) (length l.ends.items) (g.D.Doors.counts l.fn.doors) (g.D.Doors.counts l.doors);
   faults : g.D.Doors.faults l.doors ≡ g.D.Doors.faults l.fn.doors;

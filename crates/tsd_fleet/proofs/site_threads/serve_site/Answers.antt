@@ -1,10 +1,12 @@
-use Rattle.std.proofs.Common.{rules}
+use Rattle.std.proofs.Common.{rules, ◌≡◌, ◌∙◌, length, vec_len}
 use Rattle.step_count.specs.Tokens.{view_of_pass}
-use Rattle.cell_store.specs.CallerViews.{numbers_of, seen_of}
-use Rattle.site_workers.proofs.CallerLemmas.{extends_same, gathered_later}
+use Rattle.cell_store.specs.CallerViews.{seen_of}
+use Rattle.tsd_fleet.proofs.SiteWorks.{worked_by}
 use Rattle.tsd_fleet.proofs.site_threads.serve_site.Goals as goal
 
-pub returns-clause-gathered : goal.returns-clause-gathered
-returns-clause-gathered g c =
-    let numbers = numbers_of (seen_of (view_of_pass c.in_ok-served.served.pass)) in
-    gathered_later _ _ _ _ _ _ numbers numbers _ _ _ _ _ _ (λ number has. has) (extends_same _) c.rejoin_clocks.ensures (search rules)
+pub returns-clause-worked : goal.returns-clause-worked
+returns-clause-worked g c =
+    let made = c.in_ok-rows_to.ensures in let t = c.take_compactors_back.ensures in let p = c.part.ensures in
+    let items : length c.compact_beside.new.compactors.items ≡ vec_len c.compact_beside.new.compactors = search rules in
+    worked_by _ _ _ _ c.args.openings.now c.make_compactors.new.openings _ (seen_of (view_of_pass c.in_ok-served.served.pass)) c.of-own.result c.take_compactors_back.new.own (seen_of (view_of_pass c.part.result)) _ _ _ _ _ _ _ _ c.requires.nobody
+    made.opened (items ∙ c.compact_beside.ensures.len ∙ made.workers) c.of-own.ensures p.seen p.different t.clock_later (search rules) t.places

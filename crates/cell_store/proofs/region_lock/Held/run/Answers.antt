@@ -52,8 +52,8 @@ invariant_of-self-2 g c =
     (s.content (cells_in c.self.inside.region) (record { content_is = c.in_ok-reply.ensures.ok; reply_is = c.in_ok-reply.ensures.reply 0 })) (s.covers ∙ c.apply.ensures.covers)
     (b.licence_counter ∙ e.counter ∙ c.take-2.ensures.counter ∙ m.counter_is) (b.counter ∙ e.counter ∙ c.take-2.ensures.counter ∙ m.counter_is)
 
-pub returns : goal.returns
-returns g c =
+pub returns-clause-run : goal.returns-clause-run
+returns-clause-run g c =
     let m = c.requires.may in let e = c.entered-place.ensures in let b = c.give.ensures in let s = c.stamp.ensures in
     has_run g.J.StepNames.counter g.J.StepNames.name g.row.N _ _ c.args.pass.now c.take-2.new.self c.entered-place.new.pass c.give.new.self c.in-Some.licence c.give.result _ _ _ m (held_has g.J.StepNames.counter g.J.StepNames.name g.row.N (cells_in c.self.inside.region) (rows_of c.self.inside.region) c.self.inside.licence c.in-Some.licence m.among c.self.invariant (sym c.take.ensures.value ∙ c.in-Some.is)) c.in_ok-reply.ensures.reply c.take-2.ensures.view e.view e.up e.live b.view b.licence_view _ _
     (s.content (cells_in c.self.inside.region) (record { content_is = c.in_ok-reply.ensures.ok; reply_is = c.in_ok-reply.ensures.reply 0 })) (s.covers ∙ c.apply.ensures.covers)

@@ -1,6 +1,6 @@
 use Rattle.std.proofs.Common.{◌∙◌, refl}
 use Rattle.cell_store.proofs.SeenViews.{possible}
-use Rattle.cell_store.proofs.GreaterViews.{caller_absorbed, extends_from, numbers_as}
+use Rattle.cell_store.proofs.GreaterViews.{absorbed_made, caller_absorbed, extends_from, made_from, numbers_as}
 use Rattle.cell_store.proofs.site_pass.SitePass.absorb.Goals as goal
 
 pub invariant_of-self : goal.invariant_of-self
@@ -37,3 +37,13 @@ pub returns-clause-different : goal.returns-clause-different
 returns-clause-different g c =
     let i = c.self.invariant in let o = c.part.ensures in let m = c.absorb_all.ensures in
     (caller_absorbed g.J.StepNames.name _ _ _ _ _ i.1 o.caller refl m.view m.up m.live).4.different
+
+pub returns-clause-mine_made : goal.returns-clause-mine_made
+returns-clause-mine_made g c =
+    let i = c.self.invariant in let o = c.part.ensures in let m = c.absorb_all.ensures in
+    made_from _ _ _ c.self.view_is (absorbed_made g.J.StepNames.name _ _ _ _ _ i.1 o.caller refl m.view m.up m.live).0
+
+pub returns-clause-theirs_made : goal.returns-clause-theirs_made
+returns-clause-theirs_made g c =
+    let i = c.self.invariant in let o = c.part.ensures in let m = c.absorb_all.ensures in
+    made_from _ _ _ o.seen (absorbed_made g.J.StepNames.name _ _ _ _ _ i.1 o.caller refl m.view m.up m.live).1

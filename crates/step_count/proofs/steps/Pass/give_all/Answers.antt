@@ -10,13 +10,13 @@ use Rattle.step_count.proofs.FirstLicences.{next_leaves, next_licence}
 use Rattle.step_count.proofs.steps.Pass.give_all.Goals as goal
 
 pub give-requires : goal.give-requires
-give-requires c = (next_leaves _ c.loop-number.number c.args.regions _ c.loop-number-test.true c.loop-number.invariant.left).0
+give-requires c = (next_leaves _ c.loop-number.number c.args.regions _ c.requires.most c.loop-number-test.true c.loop-number.invariant.left).0
 
 pub loop-number-preserved : goal.loop-number-preserved
 loop-number-preserved c =
     let i = c.loop-number.invariant in
     let name = (view_of_pass c.args.self.now).named in
-    let left = next_leaves name c.loop-number.number c.args.regions (view_of_pass c.loop-number.self) c.loop-number-test.true i.left in
+    let left = next_leaves name c.loop-number.number c.args.regions (view_of_pass c.loop-number.self) c.requires.most c.loop-number-test.true i.left in
     let longer = c.in_ok-push.ensures.items in
     record {
       counter = c.give.ensures.counter ∙ i.counter;
