@@ -59,14 +59,14 @@ fn import_into<S: Source, K: Sink, H: Halt + Drop>(
     source: &mut S,
     sink: &mut K,
 ) -> Imported<H>
-    requires fresh { IsFresh widths (sight store.rows) }
+    requires fresh { IsFresh widths (sight store.rows.rows) }
     ensures imports { PassesImport widths compact (S.taken source.old) (S.taken source.new) (S.left source.old) (S.left source.new) (K.held sink.old) (K.held sink.new) result.end }
     ensures reads_later { S.faults source.old ≤ S.faults source.new }
     ensures writes_later { K.faults sink.old ≤ K.faults sink.new }
-    ensures stops_later { H.stops store.halt ≤ H.stops result.halt }
+    ensures stops_later { H.stops store.rows.halt ≤ H.stops result.halt }
     ensures read_fault { result.end ≡ ImportEnd.ReadFault → Rose (S.faults source.old) (S.faults source.new) }
     ensures write_fault { result.end ≡ ImportEnd.WriteFault → Rose (K.faults sink.old) (K.faults sink.new) }
-    ensures stopped { result.end ≡ ImportEnd.Stopped → Rose (H.stops store.halt) (H.stops result.halt) }
+    ensures stopped { result.end ≡ ImportEnd.Stopped → Rose (H.stops store.rows.halt) (H.stops result.halt) }
 {
     let mut store = store;
     match import(alloc, &mut store, source) {

@@ -1,7 +1,6 @@
 //! The listing of a store into which points were imported.
-ghost use Rattle.std.specs.Prelude.{◌≡◌, ◌≢◌, ◌≤◌, true, IfOk, OnOk};
+ghost use Rattle.std.specs.Prelude.{◌≡◌, ◌≢◌, ◌≤◌, true, OnOk};
 ghost use Rattle.tsd_io.specs.Causes.{Rose};
-ghost use Rattle.cell_model.specs.Counts.{listing_of};
 ghost use Rattle.cell_model.specs.History.{store_after};
 ghost use Rattle.cell_model.specs.Lawful.{IsLawful};
 ghost use Rattle.cell_model.specs.Seen.{Fits, IsPossible};
@@ -12,16 +11,14 @@ ghost use Rattle.import_job.specs.Listings.{GivesCells, GivesListing, end_of_row
 
 use crate::compaction::compact_rows;
 use crate::import_end::{ImportEnd, Imported};
-use cell_model::Listing;
 use cell_model::answers::RowsFault;
-use cell_model::body::Body;
 use cell_model::rows::Rows;
 use cell_region::Regions;
 use cell_solo::Solo;
 use fused::Fused;
-use listing_print::{GiveFault, give_cells};
+use listing_print::{GiveFault, give_body};
 use lone_store::Store;
-use std::alloc::{AllocError, Global};
+use std::alloc::Global;
 use tsd_io::halt::Halt;
 use tsd_io::ports::Sink;
 
@@ -32,14 +29,14 @@ pub(crate) fn give_store<K: Sink, H: Halt + Drop>(
     compact: bool,
     sink: &mut K,
 ) -> Imported<H>
-    requires alone { (sight store.rows).alone ≡ true }
-    requires possible { IsPossible (sight store.rows) }
-    ensures gives { GivesListing compact (sight store.rows) (K.held sink.old) (K.held sink.new) result.end }
+    requires alone { (sight store.rows.rows).alone ≡ true }
+    requires possible { IsPossible (sight store.rows.rows) }
+    ensures gives { GivesListing compact (sight store.rows.rows) (K.held sink.old) (K.held sink.new) result.end }
     ensures writes_later { K.faults sink.old ≤ K.faults sink.new }
-    ensures stops_later { H.stops store.halt ≤ H.stops result.halt }
+    ensures stops_later { H.stops store.rows.halt ≤ H.stops result.halt }
     ensures no_read { result.end ≢ ImportEnd.ReadFault }
     ensures write_fault { result.end ≡ ImportEnd.WriteFault → Rose (K.faults sink.old) (K.faults sink.new) }
-    ensures stopped { result.end ≡ ImportEnd.Stopped → Rose (H.stops store.halt) (H.stops result.halt) }
+    ensures stopped { result.end ≡ ImportEnd.Stopped → Rose (H.stops store.rows.halt) (H.stops result.halt) }
 {
     let rows = store.part();
     give_rows(alloc, rows, compact, sink)
@@ -100,7 +97,7 @@ fn compact_if<R: Rows>(alloc: Global, compact: bool, rows: &mut R) -> Result<(),
     }
 }
 
-/// Gives the cells of a store, piece by piece.
+/// Gives the cells of a store, of which one row is held at a time.
 fn give_solo<K: Sink>(alloc: Global, solo: Solo<Regions>, sink: &mut K) -> ImportEnd
     ensures gives { GivesCells (store_after (history_of solo)) (K.held sink.old) (K.held sink.new) result }
     ensures lawful { IsLawful (history_of solo) }
@@ -110,22 +107,10 @@ fn give_solo<K: Sink>(alloc: Global, solo: Solo<Regions>, sink: &mut K) -> Impor
     ensures no_stop { result ≢ ImportEnd.Stopped }
     ensures write_fault { result ≡ ImportEnd.WriteFault → Rose (K.faults sink.old) (K.faults sink.new) }
 {
-    match listing_of(alloc, solo) {
-        Ok(listing) => match give_cells(alloc, sink, listing.lines()) {
-            Ok(()) => ImportEnd::Done,
-            Err(GiveFault::Failed) => ImportEnd::WriteFault,
-            Err(GiveFault::OutOfMemory) => ImportEnd::OutOfMemory,
-        },
-        Err(AllocError) => ImportEnd::OutOfMemory,
-    }
-}
-
-/// The listing of a store, which goes. It fails only for want of memory.
-fn listing_of(alloc: Global, solo: Solo<Regions>) -> Result<Listing, AllocError>
-    ensures listing { IfOk result (λ listing. listing ≡ listing_of (store_after (history_of solo))) }
-    ensures lawful { IsLawful (history_of solo) }
-    ensures fits { Fits (sight solo) (history_of solo) }
-{
     let body = solo.part();
-    body.listing(alloc)
+    match give_body(alloc, sink, &body) {
+        Ok(()) => ImportEnd::Done,
+        Err(GiveFault::Failed) => ImportEnd::WriteFault,
+        Err(GiveFault::OutOfMemory) => ImportEnd::OutOfMemory,
+    }
 }

@@ -1,1 +1,11 @@
 mod GivenCells
+mod GivenIds
+mod Giving
+mod IdOrder
+mod LeastIds
+mod NextRows
+mod RangeSteps
+mod RowOrder
+mod SoundRows
+mod Steps
+mod StoreLines

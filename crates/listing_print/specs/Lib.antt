@@ -1,1 +1,4 @@
 pub mod GivenTexts
+pub mod IdsLeft
+pub mod MetricRows
+pub mod StoreTexts

@@ -58,7 +58,7 @@ pub fn give_cells<K: Sink>(alloc: Global, sink: &mut K, cells: &[ListLine]) -> R
 }
 
 /// Gives a text that fills a piece, which is then empty; a shorter one waits.
-fn give_full<K: Sink>(sink: &mut K, text: &mut Vec<u8>) -> Result<(), Failed>
+pub(crate) fn give_full<K: Sink>(sink: &mut K, text: &mut Vec<u8>) -> Result<(), Failed>
     ensures ok { OnOk result (GaveUpTo (K.held sink.old) (K.held sink.new) text.old.items text.new.items) }
     ensures err { OnErr result (GaveFront (K.held sink.old) (K.held sink.new) text.old.items) }
     ensures cause { HasCause (K.faults sink.old) (K.faults sink.new) result }

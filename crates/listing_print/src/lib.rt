@@ -2,5 +2,10 @@
 #![tactic(auto)]
 
 pub mod cell_giver;
+mod ids_left;
+mod range_giver;
+mod row_giver;
+mod store_giver;
 
 pub use cell_giver::{GiveFault, give_cells, give_text};
+pub use store_giver::give_body;
