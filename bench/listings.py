@@ -1,11 +1,11 @@
 #!/usr/bin/env python3
-"""Reckons what the commands on listings print, by a program of its own in plain Python, to have their cases from outside.
+"""Reckons what the commands on listings and images print, by a program of its own in plain Python, to have their cases from outside.
 
-    bench/listings.py --check                   tells whether the cases of listings.txt and imports.txt have the answers that it reckons
+    bench/listings.py --check                   tells whether the cases of listings.txt, imports.txt and images.txt have the answers that it reckons
     bench/listings.py --write                   writes these answers
     bench/listings.py --against PROGRAM COUNT   compares PROGRAM, a built `tsd_main`, with it, over so many listings and inputs made by chance
 
-The rules are those of docs/LISTINGS.md and docs/PROGRAM.md. Nothing here is made for speed, and nothing was looked up in the program."""
+The rules are those of docs/LISTINGS.md, docs/IMAGES.md and docs/PROGRAM.md. Nothing here is made for speed, and nothing was looked up in the program."""
 import collections
 import functools
 import pathlib
@@ -15,14 +15,15 @@ import subprocess
 import sys
 
 DATA = pathlib.Path(__file__).resolve().parent.parent / "crates/test_cases/data"
-FILES = ["listings.txt", "imports.txt"]
-USAGE = "usage: tsd batch START END M | stdio | serve PORT | import | dump | fsck | fix | weave SEED N\n"
+FILES = ["listings.txt", "imports.txt", "images.txt"]
+USAGE = "usage: tsd batch START END M | stdio | serve PORT | import | dump | fsck | fix | weave SEED N | pack | unpack\n"
 TABLES = ["ids", "names", "points"]
 KINDS = {b"metrics": "metric", b"tagk": "tagk", b"tagv": "tagv"}
 ALPHABET = b"abcdefghijklmnopqrstuvwxyzABCDEFGHIJKLMNOPQRSTUVWXYZ0123456789-_./"
 LONGEST_LINE, LONGEST_POINT = 2_097_152, 8_192
 COLUMN = bytes.fromhex("050000")
 COUNTERS = b"\0"
+MARK = b"tsdimg01"
 I64 = range(-(2**63), 2**63)
 
 Cell = collections.namedtuple("Cell", "table row qual value")
@@ -237,8 +238,12 @@ def notes_of(widths, uids, cell, before):
 
 
 def found(widths, text):
-    """Each fault and note, as (number of the line, whether it is a fault, text)."""
-    cells = counted(lines_of(text))
+    """Each fault and note of a listing, as (number of the line, whether it is a fault, text)."""
+    return found_in(widths, counted(lines_of(text)))
+
+
+def found_in(widths, cells):
+    """The same of cells, with None for a line that counts for none."""
     uids = Uids(widths, [cell for cell in cells if cell])
     told, rows = [], collections.defaultdict(list)
     for number, cell in enumerate(cells, 1):
@@ -349,10 +354,86 @@ def dump(widths, text):
     return 0, "".join(point_line(point) for point in points_in(widths, counted(lines_of(text))))
 
 
-# ---- import
-
 class Refused(Exception):
     pass
+
+
+# ---- images
+
+def part_bytes(size, part):
+    return len(part).to_bytes(size, "big") + part
+
+
+def image_of(widths, cells):
+    head = MARK + bytes(widths[kind] for kind in ["metric", "tagk", "tagv"]) + len(cells).to_bytes(8, "big")
+    bodies = [bytes([cell.table]) + part_bytes(2, cell.row) + part_bytes(4, cell.qual) + part_bytes(4, cell.value) for cell in cells]
+    return head + b"".join(bodies)
+
+
+class Image:
+    """The fields of an image, read one after the other."""
+
+    def __init__(self, whole):
+        self.whole, self.at = whole, 0
+
+    def field(self, size):
+        """The next so many bytes."""
+        if self.at + size > len(self.whole):
+            raise Refused(f"cut short at {self.at}")
+        self.at += size
+        return self.whole[self.at - size:self.at]
+
+    def part(self, size):
+        """A part behind its length, which has so many bytes."""
+        at = self.at
+        length = int.from_bytes(self.field(size), "big")
+        if length == 0:
+            raise Refused(f"empty part at {at}")
+        return self.field(length)
+
+    def cell(self, last):
+        at = self.at
+        table = self.field(1)[0]
+        if table > 2:
+            raise Refused(f"bad table at {at}")
+        cell = Cell(table, self.part(2), self.part(4), self.part(4))
+        if last is not None and place_of(cell) <= place_of(last):
+            raise Refused(f"not rising at {at}")
+        return cell
+
+    def read(self):
+        """The widths and the cells of a whole image."""
+        if self.field(8) != MARK:
+            raise Refused("bad mark")
+        widths = dict(zip(["metric", "tagk", "tagv"], self.field(3)))
+        if not set(widths.values()) <= {2, 3, 4}:
+            raise Refused("bad widths")
+        cells = []
+        for _ in range(int.from_bytes(self.field(8), "big")):
+            cells.append(self.cell(cells[-1] if cells else None))
+        if self.at < len(self.whole):
+            raise Refused(f"trailing bytes at {self.at}")
+        return widths, cells
+
+
+def pack(widths, text):
+    """The image, a byte as a character, or the first fault's line."""
+    faults = [f"line {number}: {what}\n" for number, is_fault, what in found(widths, text) if is_fault]
+    if faults:
+        return 2, faults[0]
+    return 0, image_of(widths, counted(lines_of(text))).decode("latin-1")
+
+
+def unpack(whole):
+    try:
+        widths, cells = Image(whole).read()
+    except Refused as why:
+        return 2, f"image: {why}\n"
+    faults = [f"image: cell {number}: {what}\n" for number, is_fault, what in found_in(widths, cells) if is_fault]
+    return (2, faults[0]) if faults else (0, "".join(line_text(cell) for cell in cells))
+
+
+# ---- import
 
 
 def name_in(kind, text):
@@ -508,7 +589,7 @@ def imported(widths, text, compact, stops):
 
 # ---- the words of a run, and what surrounds it
 
-COMMANDS = {"fsck": fsck, "fix": fix, "dump": dump}
+COMMANDS = {"fsck": fsck, "fix": fix, "dump": dump, "pack": pack}
 
 
 def words_read(words):
@@ -531,6 +612,8 @@ def words_read(words):
 
 def output_of(words, text, stops=()):
     """The status and the text of a run whose devices don't fail."""
+    if words == ["unpack"]:
+        return unpack(text)
     read = words_read(words) if words and words[0] in (*COMMANDS, "import") else None
     if read is None:
         return 1, USAGE
@@ -545,6 +628,8 @@ class Devices:
     def change(self, verb, rest):
         if verb in ("input", "tail"):
             self.input += meant(rest) + (b"\n" if verb == "input" else b"")
+        elif verb == "image":
+            self.input += bytes.fromhex(rest)
         elif verb == "room":
             self.room = int(rest)
         elif verb in ("cuts", "source_fails", "sink_fails", "stops"):
@@ -574,13 +659,30 @@ class Devices:
             status, text = 4, ""
         elif len(text) > self.room:
             status, text = 4, text[: self.room]
-        if text and not text.endswith("\n"):
+        if text.startswith(MARK.decode()):
+            text = f"image {text.encode('latin-1').hex()}"
+        elif text and not text.endswith("\n"):
             text += "(no end of line)"
         return [f"status {status}"] + [line.strip() for line in text.removesuffix("\n").split("\n") if text]
 
 
+    def flipped(self, mask, words):
+        """What runs tell of which each has the bits of the mask changed in one byte of the input."""
+        whole, told = self.input, []
+        for place, byte in enumerate(whole):
+            self.input = whole[:place] + bytes([byte ^ mask]) + whole[place + 1:]
+            told += [f"byte {place}"] + self.run(words)
+        self.input = whole
+        return told
+
+
 def is_decided(words, taken):
-    """Whether an import that took this alone refuses a line whatever comes."""
+    """Whether an import or an image of which this alone was taken is refused whatever comes."""
+    if words == ["unpack"]:
+        try:
+            return Image(taken).read() is None
+        except Refused as why:
+            return "cut short" not in str(why)
     whole = taken[: taken.rfind(b"\n") + 1]
     return words[0] == "import" and (points_of(whole)[1] is not None or len(taken) - len(whole) > LONGEST_POINT)
 
@@ -614,7 +716,7 @@ def shown(line):
 
 
 def with_answers(text, check):
-    """The text of a file of cases with the answers that are reckoned, but for runs of `batch`, and what differs of those that it has."""
+    """The text of a file of cases with the answers that are reckoned, but for runs of `batch` and `stdio`, and what differs of those that it has."""
     lines, written, differs, at = text.splitlines(), [], [], 0
     setup, head, devices = [], "", Devices()
     while at < len(lines):
@@ -633,13 +735,13 @@ def with_answers(text, check):
                 devices.change(*one)
         if head == "setup":
             setup.append((verb, rest))
-        elif verb not in ("run", "run_pieces"):
+        elif verb not in ("run", "run_pieces", "run_flips"):
             devices.change(verb, rest)
         else:
-            words = [meant(word).decode() for word in rest.split()[verb == "run_pieces":]]
-            if words[0] == "batch":
+            words = [meant(word).decode() for word in rest.split()[verb != "run":]]
+            if words[0] in ("batch", "stdio"):
                 continue
-            told, number = devices.run(words), at
+            told, number = devices.flipped(int(rest.split()[0]), words) if verb == "run_flips" else devices.run(words), at
             check(words, devices.input)
             named = []
             while at < len(lines) and lines[at].startswith("="):
@@ -654,7 +756,7 @@ def with_answers(text, check):
 # ---- what holds of all listings
 
 def laws(words, text):
-    """Mending makes a sound listing, and leaves a sound one; what a dump prints is imported as the same points."""
+    """Mending makes a sound listing, and leaves a sound one, which its image gives back; what a dump prints is imported as the same points."""
     read = words_read(words) if words and words[0] in COMMANDS else None
     if read is None:
         return
@@ -663,6 +765,8 @@ def laws(words, text):
     assert fsck(widths, mended)[0] == 0 and fix(widths, mended)[1].encode() == mended, text
     if fsck(widths, text)[0] == 0:
         assert mended == (text + b"\n" if lines_of(text) and not text.endswith(b"\n") else text), text
+    if len(mended) < 100_000:
+        assert unpack(pack(widths, mended)[1].encode("latin-1")) == (0, mended.decode()), text
     if b"clash" not in fsck(widths, mended)[1].encode() and len(mended) < 100_000:
         points = dump(widths, mended)[1].encode()
         status, listing = imported(widths, points, False, ())
@@ -743,6 +847,25 @@ def change(chance, lines):
         lines[at] = chance.choice([b"\n", b"ids\n", lines[at][:-1] + b"\r\n", b" " + lines[at], lines[at].upper()])
 
 
+def some_image(chance, widths, listing):
+    """The image of a listing that was mended, with a byte changed, left out or added now and then."""
+    whole = bytearray(pack(widths, fix(widths, listing)[1].encode())[1].encode("latin-1"))
+    for _ in range(chance.choice([0, 0, 1, 1, 2])):
+        at = chance.randrange(len(whole))
+        what = chance.randrange(5)
+        if what == 0:
+            del whole[at:]
+        elif what == 1:
+            whole.insert(at, chance.randrange(256))
+        elif what == 2:
+            whole[at] = chance.choice([0, 1, 2, 3, 255])
+        else:
+            whole[at] ^= 1 << chance.randrange(8)
+        if not whole:
+            break
+    return bytes(whole)
+
+
 def against(program, count):
     """Runs a built program over listings and inputs made by chance."""
     seen = collections.Counter()
@@ -752,16 +875,19 @@ def against(program, count):
         widths = dict(zip(["metric", "tagk", "tagv"], map(int, said.split(","))))
         listing, points = some_listing(chance, widths), some_input(chance)
         laws(["fix", f"--widths={said}"], listing)
-        for words, text in [(["fsck"], listing), (["fix"], listing), (["dump"], listing), (["import"], points), (["import", "--compact"], points)]:
-            words = words + ["--widths", said]
+        image = some_image(chance, widths, listing)
+        runs = [(["fsck"], listing), (["fix"], listing), (["dump"], listing), (["pack"], listing), (["import"], points), (["import", "--compact"], points)]
+        for words, text in [(words + ["--widths", said], text) for words, text in runs] + [(["unpack"], image)]:
             wanted = output_of(words, text)
             ran = subprocess.run([program, *words], input=text, capture_output=True)
-            if (ran.returncode, ran.stdout) != (wanted[0], wanted[1].encode()):
+            if (ran.returncode, ran.stdout) != (wanted[0], wanted[1].encode("latin-1")):
                 print(f"seed {seed}: {' '.join(words)}\n{text}\nwanted {wanted}\ngave   {(ran.returncode, ran.stdout)}")
                 sys.exit(1)
             seen[words[0], wanted[0]] += 1
             for line in wanted[1].splitlines() if words[0] == "fsck" else []:
                 seen[line.split(": ")[-1]] += 1
+            if words == ["unpack"] and wanted[0] == 2:
+                seen[re.sub(r"\d+", "N", wanted[1].strip())] += 1
     print(", ".join(f"{what}: {times}" for what, times in sorted(seen.items(), key=str)))
 
 

@@ -16,7 +16,7 @@ const LAST_SECOND: u64 = 4_294_967_295;
 const LAST_MILLISECOND: u64 = 4_294_967_295_999;
 
 const USAGE: &str =
-    "usage: tsd batch START END M | stdio | serve PORT | import | dump | fsck | fix | weave SEED N";
+    "usage: tsd batch START END M | stdio | serve PORT | import | dump | fsck | fix | weave SEED N | pack | unpack";
 
 /// Points with rising times.
 type Points = Vec<(u64, i64)>;

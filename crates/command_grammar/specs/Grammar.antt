@@ -48,6 +48,10 @@ serve_grammar = (with_puts with_sizes).top
 abbrev pub listing_grammar : Text → Shape
 listing_grammar name = (with_rule (new_app name) (valued (codes "widths"))).top
 
+-- unpack
+abbrev pub unpack_grammar : Shape
+unpack_grammar = (new_app (codes "unpack")).top
+
 -- import [--compact] [--widths M,K,V]
 abbrev pub import_grammar : Shape
 import_grammar = (with_rule (with_rule (new_app (codes "import")) (flag (codes "compact"))) (valued (codes "widths"))).top
@@ -68,10 +72,14 @@ with_makers app = with_subcommand (with_subcommand app import_grammar) weave_gra
 abbrev pub with_listings : App → App
 with_listings app = with_subcommand (with_subcommand (with_subcommand app (listing_grammar (codes "dump"))) (listing_grammar (codes "fsck"))) (listing_grammar (codes "fix"))
 
+-- what makes an image, or reads one
+abbrev pub with_images : App → App
+with_images app = with_subcommand (with_subcommand app (listing_grammar (codes "pack"))) unpack_grammar
+
 -- the program's name isn't among the words
 abbrev pub root : App
 root = on_top (λ s. record s { no_binary_name = true }) (new_app (codes "tsd"))
 
 -- the words begin with a command
 abbrev pub grammar : App
-grammar = with_listings (with_makers (with_connections root))
+grammar = with_images (with_listings (with_makers (with_connections root)))

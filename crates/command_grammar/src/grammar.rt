@@ -4,7 +4,7 @@ ghost use Rattle.clap.specs.Built.{AddsArg};
 ghost use Rattle.clap.specs.Simple.{app_of, new_app, shape_of, with_rule, with_subcommand};
 ghost use Rattle.clap.specs.Walk.{rule_of};
 ghost use Rattle.clap.specs.declared.builder.command.Command.TheViews.{out-Command as fields_of};
-ghost use Rattle.command_grammar.specs.Grammar.{grammar, root, batch_grammar, import_grammar, listing_grammar, serve_grammar, stdio_grammar, weave_grammar, with_auto, with_connections, with_listings, with_makers, with_patterns, with_puts, with_sizes, flag, valued, word};
+ghost use Rattle.command_grammar.specs.Grammar.{grammar, root, batch_grammar, import_grammar, listing_grammar, serve_grammar, stdio_grammar, unpack_grammar, weave_grammar, with_auto, with_connections, with_images, with_listings, with_makers, with_patterns, with_puts, with_sizes, flag, valued, word};
 
 use clap::{Arg, ArgAction, Command};
 use std::alloc::{AllocError, Global};
@@ -16,7 +16,8 @@ pub fn grammar<'a>(alloc: Global) -> Result<Command<'a>, AllocError>
     let command = root(alloc);
     let command = with_connections(alloc, command)?;
     let command = with_makers(alloc, command)?;
-    with_listings(alloc, command)
+    let command = with_listings(alloc, command)?;
+    with_images(alloc, command)
 }
 
 /// A command with those that ask queries or put points.
@@ -57,6 +58,26 @@ fn with_listings<'a>(alloc: Global, command: Command<'a>) -> Result<Command<'a>,
     let command = with_command(command, dump)?;
     let command = with_command(command, fsck)?;
     with_command(command, fix)
+}
+
+/// A command with those that make an image or read one.
+fn with_images<'a>(alloc: Global, command: Command<'a>) -> Result<Command<'a>, AllocError>
+    requires local { (fields_of command).has_globals ≡ false }
+    ensures app { IfOk result (λ made. app_of made ≡ with_images (app_of command.entry)) }
+    ensures local { IfOk result (λ made. (fields_of made).has_globals ≡ false) }
+{
+    let pack = listing_grammar(alloc, "pack")?;
+    let unpack = unpack_grammar(alloc);
+    let command = with_command(command, pack)?;
+    with_command(command, unpack)
+}
+
+/// `unpack`, which has no words.
+fn unpack_grammar<'a>(alloc: Global) -> Command<'a>
+    ensures shape { shape_of result ≡ unpack_grammar }
+    ensures local { (fields_of result).has_globals ≡ false }
+{
+    begun(alloc, "unpack")
 }
 
 /// `import` with its words.

@@ -54,7 +54,7 @@ pub record Weave : Type 0 where
   pub seed : ℕ
   pub count : ℕ
 
--- of `dump`, `fsck` and `fix` the widths of the listing's ids
+-- of `dump`, `fsck`, `fix` and `pack` the widths of the listing's ids
 pub data Asked : Type 0 where
   BatchAsked : Batch → Asked
   StdioAsked : Stdio → Asked
@@ -64,6 +64,8 @@ pub data Asked : Type 0 where
   FsckAsked : Widths → Asked
   FixAsked : Widths → Asked
   WeaveAsked : Weave → Asked
+  PackAsked : Widths → Asked
+  UnpackAsked : Asked
 
 -- a range ends at its start or behind it
 abbrev pub range_between : Option ℕ → Option ℕ → Option (ℕ × ℕ)
@@ -159,7 +161,14 @@ weave_with _ _ = None
 abbrev pub weave_in : List Row → Option Weave
 weave_in rows = weave_with (option_and_then (number_within 0 18446744073709551615) (first_of (codes "seed") rows)) (option_and_then (number_within 0 1000000) (first_of (codes "count") rows))
 
--- of the name of a tool on a store as text, and what its words are
+-- of the name of a command on an image, and what its words are
+abbrev pub image_asked : Text → List Row → Option Asked
+image_asked name rows =
+    if is_same name (codes "pack") then option_map PackAsked (widths_in rows)
+    else if is_same name (codes "unpack") then Some UnpackAsked
+    else None
+
+-- of the name of a tool on a store as text or as an image, and what its words are
 abbrev pub tool_asked : Text → List Row → Option Asked
 tool_asked name rows =
     if is_same name (codes "import") then option_map ImportAsked (import_in rows)
@@ -167,7 +176,7 @@ tool_asked name rows =
     else if is_same name (codes "fsck") then option_map FsckAsked (widths_in rows)
     else if is_same name (codes "fix") then option_map FixAsked (widths_in rows)
     else if is_same name (codes "weave") then option_map WeaveAsked (weave_in rows)
-    else None
+    else image_asked name rows
 
 -- of a command's name and what its words are
 abbrev pub asked_by : Text → List Row → Option Asked

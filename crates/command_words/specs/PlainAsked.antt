@@ -13,7 +13,7 @@ use Rattle.command_words.specs.declared.asked.Asked as code
 use Rattle.command_words.specs.declared.asked.Asked.TheVariants as asked
 use Rattle.tsd_hooks.specs.declared.name_patterns.Patterns.{Patterns}
 use Rattle.command_words.specs.CommandWords.{Batch, NameOptions, Stdio, Serve, Import, Weave, Asked}
-use Rattle.command_words.specs.CommandWords.Asked.{BatchAsked, StdioAsked, ServeAsked, ImportAsked, DumpAsked, FsckAsked, FixAsked, WeaveAsked}
+use Rattle.command_words.specs.CommandWords.Asked.{BatchAsked, StdioAsked, ServeAsked, ImportAsked, DumpAsked, FsckAsked, FixAsked, WeaveAsked, PackAsked, UnpackAsked}
 
 abbrev pub plain_batch : batch.Batch → Batch
 plain_batch b = record { start = b.start; end = b.end; query = b.query.now; ms = b.ms }
@@ -48,6 +48,8 @@ plain_asked (asked.Dump widths) = DumpAsked widths
 plain_asked (asked.Fsck widths) = FsckAsked widths
 plain_asked (asked.Fix widths) = FixAsked widths
 plain_asked (asked.Weave w) = WeaveAsked (plain_weave w)
+plain_asked (asked.Pack widths) = PackAsked widths
+plain_asked asked.Unpack = UnpackAsked
 
 abbrev pub batch_of : Option batch.Batch → Option Batch
 batch_of b = option_map plain_batch b

@@ -85,4 +85,8 @@ pub enum Asked<'a> {
     Fix { widths: Widths },
     /// What daemons leave that are interleaved by a number.
     Weave { weave: Weave },
+    /// The image of a listing whose ids have these widths.
+    Pack { widths: Widths },
+    /// The listing of an image.
+    Unpack,
 }

@@ -4,7 +4,7 @@ ghost use Rattle.tsd_base.specs.declared.times.TheConstants.{LAST_TIME};
 ghost use Rattle.clap.specs.Matches.{found_of};
 ghost use Rattle.clap.specs.Walk.{first_of, rows_of};
 ghost use Rattle.clap.specs.Simple.{subcommand_rows_of};
-ghost use Rattle.command_words.specs.CommandWords.{are_names, asked_by, asked_in, asked_of, batch_from, batch_in, count_of, import_in, is_given, is_name, is_pattern, names_in, names_with, number_within, patterns_in, port_in, serve_in, stdio_in, tool_asked, weave_in, widths_in, within};
+ghost use Rattle.command_words.specs.CommandWords.{are_names, asked_by, asked_in, asked_of, batch_from, batch_in, count_of, image_asked, import_in, is_given, is_name, is_pattern, names_in, names_with, number_within, patterns_in, port_in, serve_in, stdio_in, tool_asked, weave_in, widths_in, within};
 ghost use Rattle.command_words.specs.PlainAsked.{InRange, IsFleet, batch_of, import_of, names_of, plain_names, plain_pattern, plain_patterns, serve_of, stdio_of, weave_of, what_asked};
 ghost use Rattle.command_words.specs.WidthWords.{width_of, widths_from, widths_said};
 ghost use Rattle.row_key.specs.IdWidths.{IsWidth};
@@ -45,9 +45,10 @@ const MOST_OPERATIONS: u32 = 1_000_000;
 /// `--no-auto-tagk` and `--no-auto-tagv`, and with a value `--allow-metric P`, `--allow-tagk P` and `--allow-tagv P`, where P
 /// is the bytes of a name as `Name::read` reads it, and `--appends`. `serve PORT` may have these too, and `--daemons N`, `--workers N` and
 /// `--regions N`, with a port from 0 to 65535, 1 to 8 daemons, 1 to 16 workers of each and 1 to 16 regions, in digits alone.
-/// `stdio`, `import`, `dump`, `fsck` and `fix` may have `--widths M,K,V`, three digits from 2 to 4 with commas between them: how many bytes
-/// the ids of metrics, of tag keys and of tag values have. `import` may have `--compact` too. `weave SEED N` has a seed that is a `u64` and
-/// at most 1,000,000 operations, in digits alone. An option is given at most once, and `clap` says where it may stand.
+/// `stdio`, `import`, `dump`, `fsck`, `fix` and `pack` may have `--widths M,K,V`, three digits from 2 to 4 with commas between them: how many
+/// bytes the ids of metrics, of tag keys and of tag values have. `import` may have `--compact` too. `weave SEED N` has a seed that is a `u64`
+/// and at most 1,000,000 operations, in digits alone. `unpack` has no more words. An option is given at most once, and `clap` says where it
+/// may stand.
 pub fn read_words<'a>(alloc: Global, words: &'a [String]) -> Result<Option<Asked<'a>>, AllocError>
     ensures asked { IfOk result (λ found. what_asked found ≡ asked_of (map string_bytes words.entry.now)) }
     ensures range { IfOk result (λ found. IfSome found InRange) }
@@ -93,7 +94,7 @@ fn asked_by<'a>(alloc: Global, name: &[u8], words: &ArgMatches<'a>) -> Option<As
     tool_asked(name, words)
 }
 
-/// What a tool on a store as text, of this name and with these words, is asked for.
+/// What a tool on a store as text or as an image, of this name and with these words, is asked for.
 fn tool_asked<'a>(name: &[u8], words: &ArgMatches<'a>) -> Option<Asked<'a>>
     ensures asked { what_asked result ≡ tool_asked name.now (rows_of (found_of words.now)) }
     ensures range { IfSome result InRange }
@@ -117,6 +118,21 @@ fn tool_asked<'a>(name: &[u8], words: &ArgMatches<'a>) -> Option<Asked<'a>>
     if name == b"weave".as_slice() {
         let weave = weave_in(words)?;
         return Some(Asked::Weave { weave });
+    }
+    image_asked(name, words)
+}
+
+/// What a command on an image, of this name and with these words, is asked for.
+fn image_asked<'a>(name: &[u8], words: &ArgMatches<'a>) -> Option<Asked<'a>>
+    ensures asked { what_asked result ≡ image_asked name.now (rows_of (found_of words.now)) }
+    ensures range { IfSome result InRange }
+{
+    if name == b"pack".as_slice() {
+        let widths = widths_in(words)?;
+        return Some(Asked::Pack { widths });
+    }
+    if name == b"unpack".as_slice() {
+        return Some(Asked::Unpack);
     }
     None
 }

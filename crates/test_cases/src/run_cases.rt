@@ -5,14 +5,18 @@ use std::alloc::Global;
 use std::sync::Wait;
 use std::thread::Threads;
 use test_readers::case_lines::Line;
+use test_readers::cell_cases::tell_hex;
 use test_readers::devices::{Devices, Pieces, tell_output};
 use test_readers::report::Report;
-use test_readers::text::{Bad, bytes, number};
+use test_readers::text::{Bad, bytes, hex, number};
 use tsd_doors::mem_doors::MemDoors;
 use tsd_io::clock::MemClock;
 use tsd_io::halt::MemHalt;
 use tsd_io::memory::{MemSink, MemSource};
 use tsd_run::run::run;
+
+/// What an image begins with.
+const MARK: &[u8] = b"tsdimg01";
 
 /// What a run is over.
 #[derive(Drop)]
@@ -40,9 +44,8 @@ fn words_of(alloc: Global, text: &str) -> Result<Vec<String>, Bad> {
     Ok(words)
 }
 
-/// What a run over the input in these pieces uses up.
-fn parts_of(alloc: Global, around: &Surroundings, pieces: Pieces) -> Result<Parts, Bad> {
-    let source = around.devices.source(alloc, pieces)?;
+/// What a run over this source uses up.
+fn parts_of(alloc: Global, around: &Surroundings, source: MemSource) -> Result<Parts, Bad> {
     let sink = around.devices.sink(alloc)?;
     let clock = around.devices.clock(alloc)?;
     let halt = around.devices.halt(alloc)?;
@@ -56,10 +59,19 @@ fn parts_of(alloc: Global, around: &Surroundings, pieces: Pieces) -> Result<Part
     })
 }
 
+/// Tells what was printed: an image by its bytes in hexadecimal digits, and anything else as it is.
+fn tell_printed(out: &mut String, printed: &[u8]) -> Result<(), Bad> {
+    if printed.starts_with(MARK) {
+        out.push_str("image ")?;
+        return tell_hex(out, printed);
+    }
+    tell_output(out, printed)
+}
+
 /// Tells a status, what was printed, and the connections given back.
 fn tell_run(out: &mut String, status: u8, printed: &[u8], doors: &MemDoors) -> Result<(), Bad> {
     writeln!(out, "status {status}")?;
-    tell_output(out, printed)?;
+    tell_printed(out, printed)?;
     tell_back(out, doors)
 }
 
@@ -100,8 +112,21 @@ fn run_over<T: Threads + Wait + Sync>(
     pieces: Pieces,
     out: &mut String,
 ) -> Result<(), Bad> {
+    let source = around.devices.source(alloc, pieces)?;
+    run_source(rt, alloc, around, text, source, out)
+}
+
+/// The same over this source.
+fn run_source<T: Threads + Wait + Sync>(
+    rt: &T,
+    alloc: Global,
+    around: &Surroundings,
+    text: &str,
+    source: MemSource,
+    out: &mut String,
+) -> Result<(), Bad> {
     let words = words_of(alloc, text)?;
-    let parts = parts_of(alloc, around, pieces)?;
+    let parts = parts_of(alloc, around, source)?;
     run_words(rt, alloc, &words, parts, out)
 }
 
@@ -152,6 +177,51 @@ fn run_pieces<T: Threads + Wait + Sync>(
     Ok(())
 }
 
+/// The input, in which the bits of this mask are changed in one byte.
+fn flipped(alloc: Global, input: &[u8], place: usize, mask: u8) -> Result<MemSource, Bad> {
+    let mut bytes = Vec::from_slice(alloc, input)?;
+    if place < bytes.len() {
+        bytes[place] ^= mask;
+    }
+    Ok(MemSource::make(bytes, Vec::new(alloc), Vec::new(alloc)))
+}
+
+/// `run_flips MASK WORDS`: runs these words once for each byte of the input, of which that byte has the bits of the mask changed. Tells
+/// of each its place and what the run gives.
+fn run_flips<T: Threads + Wait + Sync>(
+    rt: &T,
+    alloc: Global,
+    around: &Surroundings,
+    rest: &str,
+    out: &mut String,
+) -> Result<(), Bad> {
+    let (mask, text) = rest.split_once(' ').ok_or(Bad::Line("no words"))?;
+    let mask = (number(mask)? % 256) as u8;
+    let whole = around.devices.source(alloc, Pieces::Written)?;
+    let input = whole.left();
+    for place in 0..input.len() {
+        writeln!(out, "byte {place}")?;
+        let source = flipped(alloc, input, place, mask)?;
+        run_source(rt, alloc, around, text, source, out)?;
+        if !out.as_bytes().ends_with(b"\n") {
+            out.push_str("\n")?;
+        }
+    }
+    Ok(())
+}
+
+/// The text that stands for bytes in hexadecimal digits.
+fn quoted(alloc: Global, digits: &str) -> Result<String, Bad> {
+    let bytes = hex(alloc, digits)?;
+    let mut text = String::new(alloc);
+    text.push('"')?;
+    for byte in &bytes {
+        write!(text, "\\x{byte:02x}")?;
+    }
+    text.push('"')?;
+    Ok(text)
+}
+
 /// Does a line, and tells what it gives.
 fn do_line<T: Threads + Wait + Sync>(
     rt: &T,
@@ -165,6 +235,12 @@ fn do_line<T: Threads + Wait + Sync>(
         "case" | "setup" => Ok(()),
         "run" => run_over(rt, alloc, around, rest, Pieces::Written, out),
         "run_pieces" => run_pieces(rt, alloc, around, rest, out),
+        "run_flips" => run_flips(rt, alloc, around, rest, out),
+        "image" => {
+            let text = quoted(alloc, rest)?;
+            around.devices.change(alloc, "tail", text.as_str())?;
+            Ok(())
+        }
         verb => {
             if around.devices.change(alloc, verb, rest)?
                 || around.links.change(alloc, verb, rest)?

@@ -6,7 +6,7 @@ use Rattle.point_put.specs.Admissions.{Admission}
 use Rattle.tsd_fleet.specs.declared.fleet_end.FleetEnd.{FleetEnd}
 use Rattle.serve_job.specs.FleetRuns.{RunsFleet}
 use Rattle.command_words.specs.CommandWords.{Serve, Asked}
-use Rattle.command_words.specs.CommandWords.Asked.{BatchAsked, StdioAsked, ServeAsked, ImportAsked, DumpAsked, FsckAsked, FixAsked, WeaveAsked}
+use Rattle.command_words.specs.CommandWords.Asked.{BatchAsked, StdioAsked, ServeAsked, ImportAsked, DumpAsked, FsckAsked, FixAsked, WeaveAsked, PackAsked, UnpackAsked}
 use Rattle.tsd_run.specs.declared.status.Status.{Status}
 use Rattle.tsd_run.specs.declared.status.Status.TheVariants.{Memory}
 use Rattle.tsd_run.specs.FleetStatuses.{RunsAny, ServesFleet, status_of}
@@ -36,4 +36,6 @@ unread inlets_tell outlets_tell taken left held moments back counts faults (Some
 unread inlets_tell outlets_tell taken left held moments back counts faults (Some (FsckAsked widths)) = runs_unread taken left held moments (Some (FsckAsked widths))
 unread inlets_tell outlets_tell taken left held moments back counts faults (Some (FixAsked widths)) = runs_unread taken left held moments (Some (FixAsked widths))
 unread inlets_tell outlets_tell taken left held moments back counts faults (Some (WeaveAsked w)) = runs_unread taken left held moments (Some (WeaveAsked w))
+unread inlets_tell outlets_tell taken left held moments back counts faults (Some (PackAsked widths)) = runs_unread taken left held moments (Some (PackAsked widths))
+unread inlets_tell outlets_tell taken left held moments back counts faults (Some UnpackAsked) = runs_unread taken left held moments (Some UnpackAsked)
 unread inlets_tell outlets_tell taken left held moments back counts faults None = runs_unread taken left held moments None

@@ -23,7 +23,7 @@ use Rattle.point_put.specs.Admissions.{Admission}
 use Rattle.tsd_daemon.specs.TakenInTurn.{InTurn}
 use Rattle.tsd_daemon.specs.TakenInTurn.InTurn.{none_yet, then_one}
 use Rattle.tsd_daemon.proofs.CallerLemmas.{one_id_each, served_headline}
-use Rattle.conn_workers.specs.ServedLinks.{LinkServed, ServedInTurn, ServedLink}
+use Rattle.conn_workers.specs.ServedLinks.{LinkServed, OnlyServed, ServedInTurn, ServedLink}
 use Rattle.conn_workers.specs.ServedLinks.ServedInTurn.{none_yet as none_served, then_served}
 use Rattle.site_workers.specs.GatheredLinks.{AllInTurn, CallerLinks}
 use Rattle.tsd_fleet.specs.FleetServes.{IsTally, listening_line}
@@ -31,7 +31,7 @@ use Rattle.tsd_fleet.specs.declared.fleet_end.FleetEnd.{FleetEnd}
 use Rattle.tsd_fleet.specs.declared.fleet_end.FleetEnd.TheVariants as end
 use Rattle.serve_job.specs.FleetRuns.{has_no_more}
 use Rattle.command_words.specs.CommandWords.{Asked, Serve, Stdio}
-use Rattle.command_words.specs.CommandWords.Asked.{BatchAsked, StdioAsked, ServeAsked, ImportAsked, DumpAsked, FsckAsked, FixAsked, WeaveAsked}
+use Rattle.command_words.specs.CommandWords.Asked.{BatchAsked, StdioAsked, ServeAsked, ImportAsked, DumpAsked, FsckAsked, FixAsked, WeaveAsked, PackAsked, UnpackAsked}
 use Rattle.tsd_run.specs.declared.status.Status.{Status}
 use Rattle.tsd_run.specs.declared.status.Status.TheVariants.{Done, Memory}
 use Rattle.tsd_run.specs.FleetStatuses.{RunsAny, ServesFleet, status_of}
@@ -110,6 +110,8 @@ module _ (taken taken' left left' held held' moments moments' : Option (List ℕ
   run_headline (Some (FsckAsked widths)) p = tt
   run_headline (Some (FixAsked widths)) p = tt
   run_headline (Some (WeaveAsked w)) p = tt
+  run_headline (Some (PackAsked widths)) p = tt
+  run_headline (Some UnpackAsked) p = tt
   run_headline None p = tt
 
 -- ---- a fleet
@@ -127,12 +129,12 @@ module _ (inlets_tell outlets_tell : Type 0) (c : Admission) (moments : Option (
   }
 
   links_headline : (caller : ℕ) {links : List ServedLink} {last : ℕ} → ServedInTurn inlets_tell outlets_tell c moments h caller links last → InTurn (LinkHeadline inlets_tell outlets_tell moments h) 0 links last
-  links_headline caller (none_served last) = none_yet (omega arith)
-  links_headline caller (then_served {n = n} {n2 = n2} link before a b d served) = then_one link (links_headline caller before) a b d (link_headline caller n n2 link served)
+  links_headline caller (none_served last alone) = none_yet (omega arith)
+  links_headline caller (then_served {n = n} {n2 = n2} link before a b d none_before none_behind served) = then_one link (links_headline caller before) a b d (link_headline caller n n2 link served)
 
   all_headline : (callers : List CallerLinks) → AllInTurn inlets_tell outlets_tell c moments h callers → All (λ (k : CallerLinks). InTurn (LinkHeadline inlets_tell outlets_tell moments h) 0 k.links k.last) callers
   all_headline callers all = all_of (λ (k : CallerLinks). InTurn (LinkHeadline inlets_tell outlets_tell moments h) 0 k.links k.last) callers
-      (λ k i. links_headline k.caller (all_in (λ (k : CallerLinks). ServedInTurn inlets_tell outlets_tell c moments h k.caller k.links k.last) k callers all i))
+      (λ k i. links_headline k.caller (all_in (λ (k : CallerLinks). OnlyServed inlets_tell outlets_tell c moments h k.caller k.last k.links) k callers all i).in_turn)
 
 nothing_back : (back : Option (List Shut)) → AllEnd back back []
 nothing_back None = tt
@@ -187,4 +189,6 @@ module _ (inlets_tell outlets_tell : Type 0) (taken taken' left left' held held'
   any_headline (Some (FsckAsked widths)) runs = run_headline taken taken' left left' held held' moments moments' status (Some (FsckAsked widths)) runs
   any_headline (Some (FixAsked widths)) runs = run_headline taken taken' left left' held held' moments moments' status (Some (FixAsked widths)) runs
   any_headline (Some (WeaveAsked w)) runs = run_headline taken taken' left left' held held' moments moments' status (Some (WeaveAsked w)) runs
+  any_headline (Some (PackAsked widths)) runs = run_headline taken taken' left left' held held' moments moments' status (Some (PackAsked widths)) runs
+  any_headline (Some UnpackAsked) runs = run_headline taken taken' left left' held held' moments moments' status (Some UnpackAsked) runs
   any_headline None runs = run_headline taken taken' left left' held held' moments moments' status None runs

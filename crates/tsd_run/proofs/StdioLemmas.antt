@@ -3,7 +3,7 @@ use Rattle.std.proofs.Common.{◌≡◌, inl, ℕ, Bool, List, [], false, refl, 
 use Rattle.std.specs.Prelude.{Option, None, Some}
 use Rattle.std.proofs.KnownBytes.{Appends-nil, Consumes-nil}
 use Rattle.command_words.specs.CommandWords.{Batch, NameOptions, Stdio, Asked}
-use Rattle.command_words.specs.CommandWords.Asked.{BatchAsked, StdioAsked, ServeAsked, ImportAsked, DumpAsked, FsckAsked, FixAsked, WeaveAsked}
+use Rattle.command_words.specs.CommandWords.Asked.{BatchAsked, StdioAsked, ServeAsked, ImportAsked, DumpAsked, FsckAsked, FixAsked, WeaveAsked, PackAsked, UnpackAsked}
 use Rattle.tsd_hooks.specs.declared.name_patterns.Patterns.{Patterns}
 use Rattle.point_put.specs.declared.config.Config.{Config}
 use Rattle.point_put.specs.Admissions.{Admission, admission}
@@ -16,11 +16,12 @@ use Rattle.row_key.specs.declared.widths.Widths.{Widths}
 use Rattle.cell_listing.specs.ListedLines.{ListingRead}
 use Rattle.listing_job.specs.declared.listing_end.ListingEnd.TheVariants as listing
 use Rattle.listing_job.specs.ListingJobs.{Checked, Dumped, Fixed, Told}
+use Rattle.image_job.specs.ImageJobs.{Packed}
 use Rattle.import_job.specs.declared.import_end.ImportEnd.TheVariants as imported
 use Rattle.import_job.proofs.CallerLemmas.{not_begun}
 use Rattle.tsd_run.specs.declared.status.Status.{Status}
 use Rattle.tsd_run.specs.declared.status.Status.TheVariants.{Memory}
-use Rattle.tsd_run.specs.Runs.{HasStatus, Runs, RunsOver, RunsPrinted, ServesStdio, admission_of}
+use Rattle.tsd_run.specs.Runs.{HasStatus, Runs, RunsOver, RunsPrinted, RunsUnpack, ServesStdio, admission_of}
 use Rattle.tsd_run.proofs.RunLemmas.{nothing_taken}
 
 -- of these kinds and with these patterns names are given ids as the words say
@@ -62,6 +63,10 @@ module _ (taken left held moments : Option (List ℕ)) where
   unread_listing : (Tells : ListingRead → Told → Type 0) (widths : Widths) → RunsOver Tells widths taken taken left left held held Memory
   unread_listing Tells widths = (listing.OutOfMemory, record { bytes = []; takes = Appends-nil taken; leaves = Consumes-nil left; ends = inl refl }, refl)
 
+  -- nor to read an image
+  unread_image : RunsUnpack taken taken left left held held Memory
+  unread_image = (listing.OutOfMemory, record { bytes = []; takes = Appends-nil taken; leaves = Consumes-nil left; ends = inl refl }, refl)
+
   -- there was no memory for the words
   pub runs_unread : (asked : Option Asked) → Runs asked taken taken left left held held moments moments Memory
   runs_unread (Some (BatchAsked batch)) = (unread_printed (Some batch), refl)
@@ -72,4 +77,6 @@ module _ (taken left held moments : Option (List ℕ)) where
   runs_unread (Some (FsckAsked widths)) = (unread_listing Checked widths, refl)
   runs_unread (Some (FixAsked widths)) = (unread_listing Fixed widths, refl)
   runs_unread (Some (WeaveAsked w)) = (refl, refl, refl, refl)
+  runs_unread (Some (PackAsked widths)) = (unread_listing Packed widths, refl)
+  runs_unread (Some UnpackAsked) = (unread_image, refl)
   runs_unread None = (unread_printed None, refl)

@@ -5,7 +5,7 @@ use Rattle.tsd_fleet.specs.declared.fleet_end.FleetEnd.{FleetEnd}
 use Rattle.tsd_fleet.specs.declared.fleet_end.FleetEnd.TheVariants as end
 use Rattle.serve_job.specs.FleetRuns.{RunsFleet}
 use Rattle.command_words.specs.CommandWords.{Serve, Asked}
-use Rattle.command_words.specs.CommandWords.Asked.{BatchAsked, StdioAsked, ServeAsked, ImportAsked, DumpAsked, FsckAsked, FixAsked, WeaveAsked}
+use Rattle.command_words.specs.CommandWords.Asked.{BatchAsked, StdioAsked, ServeAsked, ImportAsked, DumpAsked, FsckAsked, FixAsked, WeaveAsked, PackAsked, UnpackAsked}
 use Rattle.tsd_run.specs.declared.status.Status.{Status}
 use Rattle.tsd_run.specs.declared.status.Status.TheVariants.{Done, WriteFault, Memory, Stopped, DoorFault}
 use Rattle.tsd_run.specs.Runs.{admission_of}
@@ -36,6 +36,8 @@ RunsAny (Some (DumpAsked widths)) alone fleet = alone
 RunsAny (Some (FsckAsked widths)) alone fleet = alone
 RunsAny (Some (FixAsked widths)) alone fleet = alone
 RunsAny (Some (WeaveAsked w)) alone fleet = alone
+RunsAny (Some (PackAsked widths)) alone fleet = alone
+RunsAny (Some UnpackAsked) alone fleet = alone
 RunsAny None alone fleet = alone
 
 -- the words ask for a fleet

@@ -16,7 +16,7 @@ use Rattle.query_text.specs.QueryFaultTexts.{query_fault_text}
 use Rattle.query_run.specs.AskFaultTexts.{ask_fault_text}
 
 abbrev pub usage_line : List ℕ
-usage_line = codes "usage: tsd batch START END M | stdio | serve PORT | import | dump | fsck | fix | weave SEED N\n"
+usage_line = codes "usage: tsd batch START END M | stdio | serve PORT | import | dump | fsck | fix | weave SEED N | pack | unpack\n"
 
 pub record Outcome : Type 0 where
   pub status : Status

@@ -19,7 +19,7 @@ use Rattle.query_run.specs.QueryAnswers.{answer}
 use Rattle.query_run.specs.declared.fault.AskFault.{AskFault}
 use Rattle.query_run.specs.declared.fault.AskFault.TheVariants.{Duplicate}
 use Rattle.command_words.specs.CommandWords.{Batch, Asked}
-use Rattle.command_words.specs.CommandWords.Asked.{BatchAsked, StdioAsked, ServeAsked, ImportAsked, DumpAsked, FsckAsked, FixAsked, WeaveAsked}
+use Rattle.command_words.specs.CommandWords.Asked.{BatchAsked, StdioAsked, ServeAsked, ImportAsked, DumpAsked, FsckAsked, FixAsked, WeaveAsked, PackAsked, UnpackAsked}
 use Rattle.batch_job.specs.PointLines.{points_of}
 use Rattle.tsd_daemon.specs.declared.served.Served.{Served}
 use Rattle.tsd_daemon.specs.ServedConns.{Passes}
@@ -106,4 +106,6 @@ RunHeadline (Some (DumpAsked widths)) taken taken' left left' held held' moments
 RunHeadline (Some (FsckAsked widths)) taken taken' left left' held held' moments moments' status = Unit {0}
 RunHeadline (Some (FixAsked widths)) taken taken' left left' held held' moments moments' status = Unit {0}
 RunHeadline (Some (WeaveAsked w)) taken taken' left left' held held' moments moments' status = Unit {0}
+RunHeadline (Some (PackAsked widths)) taken taken' left left' held held' moments moments' status = Unit {0}
+RunHeadline (Some UnpackAsked) taken taken' left left' held held' moments moments' status = Unit {0}
 RunHeadline None taken taken' left left' held held' moments moments' status = Unit {0}

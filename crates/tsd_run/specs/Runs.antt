@@ -12,7 +12,7 @@ use Rattle.tsd_daemon.specs.declared.served.Served.TheVariants as served
 use Rattle.tsd_daemon.specs.ServedConns.{Passes}
 use Rattle.stdio_job.specs.LoneConnections.{ServesAlone}
 use Rattle.command_words.specs.CommandWords.{Batch, Import, NameOptions, Stdio, Asked}
-use Rattle.command_words.specs.CommandWords.Asked.{BatchAsked, StdioAsked, ServeAsked, ImportAsked, DumpAsked, FsckAsked, FixAsked, WeaveAsked}
+use Rattle.command_words.specs.CommandWords.Asked.{BatchAsked, StdioAsked, ServeAsked, ImportAsked, DumpAsked, FsckAsked, FixAsked, WeaveAsked, PackAsked, UnpackAsked}
 use Rattle.query_text.specs.Subs.{sub_of}
 use Rattle.query_text.specs.declared.queries.Sub.{Sub}
 use Rattle.row_key.specs.declared.widths.Widths.{Widths}
@@ -23,6 +23,7 @@ use Rattle.import_job.specs.ImportAnswers.{PassesImport}
 use Rattle.listing_job.specs.declared.listing_end.ListingEnd.{ListingEnd}
 use Rattle.listing_job.specs.declared.listing_end.ListingEnd.TheVariants as listing
 use Rattle.listing_job.specs.ListingJobs.{Checked, Dumped, Fixed, OverListing, Told}
+use Rattle.image_job.specs.ImageJobs.{OverImage, Packed, Unpacked}
 use Rattle.listing_print.specs.GivenTexts.{GaveFront}
 use Rattle.weave_counts.specs.declared.script_counts.Woven.{Woven}
 use Rattle.weave_counts.specs.WovenCounts.{CountsWoven, woven_text}
@@ -140,6 +141,10 @@ listing_status listing.SessionFull = SessionFull
 abbrev pub RunsOver : (ListingRead → Told → Type 0) → Widths → (taken taken' left left' held held' : Option (List ℕ)) → Status → Type 0
 RunsOver Tells widths taken taken' left left' held held' status = (end : ListingEnd) × OverListing Tells widths taken taken' left left' held held' end × (status ≡ listing_status end)
 
+-- This was told of the listing of an image, and the status is that of how the job ended.
+abbrev pub RunsUnpack : (taken taken' left left' held held' : Option (List ℕ)) → Status → Type 0
+RunsUnpack taken taken' left left' held held' status = (end : ListingEnd) × OverImage Unpacked taken taken' left left' held held' end × (status ≡ listing_status end)
+
 -- of each end of an import the status
 abbrev pub import_status : ImportEnd → Status
 import_status imported.Done = Done
@@ -171,4 +176,6 @@ Runs (Some (DumpAsked widths)) taken taken' left left' held held' moments moment
 Runs (Some (FsckAsked widths)) taken taken' left left' held held' moments moments' status = RunsOver Checked widths taken taken' left left' held held' status × (moments' ≡ moments)
 Runs (Some (FixAsked widths)) taken taken' left left' held held' moments moments' status = RunsOver Fixed widths taken taken' left left' held held' status × (moments' ≡ moments)
 Runs (Some (WeaveAsked w)) taken taken' left left' held held' moments moments' status = Weaves w.count held held' status × (taken' ≡ taken) × (left' ≡ left) × (moments' ≡ moments)
+Runs (Some (PackAsked widths)) taken taken' left left' held held' moments moments' status = RunsOver Packed widths taken taken' left left' held held' status × (moments' ≡ moments)
+Runs (Some UnpackAsked) taken taken' left left' held held' moments moments' status = RunsUnpack taken taken' left left' held held' status × (moments' ≡ moments)
 Runs None taken taken' left left' held held' moments moments' status = RunsPrinted None taken taken' left left' held held' status × (moments' ≡ moments)

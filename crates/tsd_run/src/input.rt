@@ -36,11 +36,11 @@ pub fn read_points<S: Source, R: Rows + Drop>(
     gathered: &mut Gathered,
 ) -> Result<Option<BadLine>, RunFault>
     requires allows { AllowsAll rule.now.patterns }
-    requires empty { Gathers [] (so_far (R.seen store.old) gathered.old) }
-    ensures reads { ReadsInputTo (S.taken source.old) (S.taken source.new) (S.left source.old) (S.left source.new) (so_far (R.seen store.new) gathered.new) result }
+    requires empty { Gathers [] (so_far (R.seen store.old.rows) gathered.old) }
+    ensures reads { ReadsInputTo (S.taken source.old) (S.taken source.new) (S.left source.old) (S.left source.new) (so_far (R.seen store.new.rows) gathered.new) result }
     ensures later { S.faults source.old ≤ S.faults source.new }
-    ensures grows { R.stops store.old ≤ R.stops store.new }
-    ensures cause { IfErr result (RunCause (S.faults source.old) (S.faults source.new) (R.stops store.old) (R.stops store.new)) }
+    ensures grows { R.stops store.old.rows ≤ R.stops store.new.rows }
+    ensures cause { IfErr result (RunCause (S.faults source.old) (S.faults source.new) (R.stops store.old.rows) (R.stops store.new.rows)) }
 {
     let mut reader = LineReader::make(alloc, LONGEST_LINE)?;
     loop {
@@ -96,9 +96,9 @@ fn read_line<R: Rows + Drop>(
 ) -> Result<Option<BadLine>, RunFault>
     requires short { length bytes.now ≤ LONGEST_LINE }
     requires allows { AllowsAll rule.now.patterns }
-    ensures reads { IfOk result (ReadsLine (record { bytes = bytes.now; ended = ended }) number (so_far (R.seen store.old) gathered.old) (so_far (R.seen store.new) gathered.new)) }
-    ensures grows { R.stops store.old ≤ R.stops store.new }
-    ensures cause { IfErr result (LineCause (R.stops store.old) (R.stops store.new)) }
+    ensures reads { IfOk result (ReadsLine (record { bytes = bytes.now; ended = ended }) number (so_far (R.seen store.old.rows) gathered.old) (so_far (R.seen store.new.rows) gathered.new)) }
+    ensures grows { R.stops store.old.rows ≤ R.stops store.new.rows }
+    ensures cause { IfErr result (LineCause (R.stops store.old.rows) (R.stops store.new.rows)) }
 {
     match gathered.add_text(alloc, store, rule, text_of(bytes, ended))? {
         LineOutcome::Blank => Ok(None),

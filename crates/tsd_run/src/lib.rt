@@ -3,6 +3,7 @@
 
 mod input;
 mod new_names;
+mod on_image;
 mod on_import;
 mod on_listing;
 mod output_text;

@@ -70,8 +70,8 @@ pub(crate) fn dump<S: Source, K: Sink>(
     status_of(end)
 }
 
-/// The status of how a job on a listing ended.
-fn status_of(end: ListingEnd) -> Status
+/// The status of how a job on a listing or on an image ended.
+pub(crate) fn status_of(end: ListingEnd) -> Status
     ensures status { result ≡ listing_status end }
     ensures read_fault { result ≡ Status.ReadFault → end ≡ ListingEnd.ReadFault }
     ensures write_fault { result ≡ Status.WriteFault → end ≡ ListingEnd.WriteFault }

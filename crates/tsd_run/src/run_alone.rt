@@ -21,6 +21,7 @@ ghost use Rattle.tsd_run.specs.Runs.{HasStatus, Runs, RunsPrinted, ServesStdio, 
 
 use crate::input::{BadLine, read_points};
 use crate::new_names::{config_of, patterns_of};
+use crate::on_image::{pack, unpack};
 use crate::on_import::run_import;
 use crate::on_listing::{dump, fix, fsck};
 use crate::output_text::Printed;
@@ -52,7 +53,7 @@ use uid_table::Uids;
 
 /// The line that is printed where the words are no command.
 const USAGE: &[u8] =
-    b"usage: tsd batch START END M | stdio | serve PORT | import | dump | fsck | fix | weave SEED N\n";
+    b"usage: tsd batch START END M | stdio | serve PORT | import | dump | fsck | fix | weave SEED N | pack | unpack\n";
 
 /// How a run ended, and its halt.
 #[derive(Drop)]
@@ -88,6 +89,9 @@ struct Decided<H> {
 ///
 /// `dump`, `fsck` and `fix`, each with `[--widths M,K,V]`, read the listing of a store, whose ids have these widths, to its end. `dump`
 /// prints its points, or the first thing that is wrong with it. `fsck` prints what is wrong with it, and `fix` prints it mended.
+///
+/// `pack [--widths M,K,V]` reads the listing of a store to its end, and prints its image, or the first thing that is wrong with it. `unpack`
+/// reads an image, and prints its listing, or the first thing that is wrong with it.
 ///
 /// `weave SEED N` runs the script of SEED, in which three daemons put, compact and ask over one store, N operations of the first, and prints
 /// five lines: the operations, the points accepted, the ids given of each kind, those that no name has, and the cells of points. It takes
@@ -176,6 +180,14 @@ pub(crate) fn act<S: Source, K: Sink, C: Clock, H: Halt + Drop>(
         },
         Some(Asked::Weave { weave }) => Ended {
             status: run_weave(alloc, weave.seed, weave.count, output),
+            halt,
+        },
+        Some(Asked::Pack { widths }) => Ended {
+            status: pack(alloc, widths, input, output),
+            halt,
+        },
+        Some(Asked::Unpack) => Ended {
+            status: unpack(alloc, input, output),
             halt,
         },
         Some(Asked::Import { import }) => run_import(alloc, import, input, output, halt),
@@ -452,11 +464,11 @@ fn over_store<S: Source, R: Rows + Drop>(
 ) -> Result<Printed, RunFault>
     requires can { CanAsk query.now }
     requires allows { AllowsAll rule.now.patterns }
-    requires naming { IsNaming no_names (R.seen store.old) }
+    requires naming { IsNaming no_names (R.seen store.old.rows) }
     ensures works { (batch : plain.Batch) → IsQueryOf query.now batch → Works (Some batch) (S.taken input.old) (S.taken input.new) (S.left input.old) (S.left input.new) result }
     ensures later { S.faults input.old ≤ S.faults input.new }
-    ensures grows { R.stops store.old ≤ R.stops store.new }
-    ensures cause { IfErr result (RunCause (S.faults input.old) (S.faults input.new) (R.stops store.old) (R.stops store.new)) }
+    ensures grows { R.stops store.old.rows ≤ R.stops store.new.rows }
+    ensures cause { IfErr result (RunCause (S.faults input.old) (S.faults input.new) (R.stops store.old.rows) (R.stops store.new.rows)) }
 {
     let mut gathered = Gathered::make(alloc);
     match read_points(alloc, input, store, rule, &mut gathered)? {

@@ -8,11 +8,11 @@ abbrev pub invariant-loop-reader : goal.invariant-loop-reader
 invariant-loop-reader g l =
     let s = g.S.Source in
     record {
-      read : HasRead (s.taken l.fn.source) (s.taken l.source) (s.left l.fn.source) (s.left l.source) (so_far (g.R.Rows.seen l.store) l.gathered) l.reader;
+      read : HasRead (s.taken l.fn.source) (s.taken l.source) (s.left l.fn.source) (s.left l.source) (so_far (g.R.Rows.seen l.store.rows) l.gathered) l.reader;
       longest : l.reader.longest ≡ LONGEST_LINE;
       most : l.reader.taken ≤ 2 ^ 40;
       later : s.faults l.fn.source ≤ s.faults l.source;
-      grows : g.R.Rows.stops l.fn.store ≤ g.R.Rows.stops l.store;
+      grows : g.R.Rows.stops l.fn.store.rows ≤ g.R.Rows.stops l.store.rows;
     }
 
 abbrev pub decreases-loop-reader : goal.decreases-loop-reader

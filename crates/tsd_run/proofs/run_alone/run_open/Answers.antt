@@ -10,7 +10,7 @@ use Rattle.tsd_run.proofs.RunLemmas.{halt_cause, no_memory}
 use Rattle.tsd_run.proofs.run_alone.run_open.Goals as goal
 
 pub over_store-printed-requires-clause-naming : goal.over_store-printed-requires-clause-naming
-over_store-printed-requires-clause-naming g c = naming_begins _ (subst (λ (w : Widths). IsFresh w (sight c.in-Ok.store.rows)) (has_three c.three.result c.three.ensures) c.in-Ok.ensures.fresh)
+over_store-printed-requires-clause-naming g c = naming_begins _ (subst (λ (w : Widths). IsFresh w (sight c.in-Ok.store.rows.rows)) (has_three c.three.result c.three.ensures) c.in-Ok.ensures.fresh)
 
 pub returns-in-Ok-clause-grows : goal.returns-in-Ok-clause-grows
 returns-in-Ok-clause-grows g c =
@@ -26,8 +26,8 @@ returns-in-Ok-clause-cause g c =
     let f = s.faults c.args.input.now in
     let e = s.faults c.over_store-printed.new.input in
     subst (λ x. IfErr c.over_store-printed.result (RunCause f e (h.stops x) (h.stops c.halt_of-halt.result))) c.in-Ok.ensures.halt
-    (subst (λ x. IfErr c.over_store-printed.result (RunCause f e (h.stops c.in-Ok.store.halt) (h.stops x))) (sym c.halt_of-halt.ensures)
-    (halt_cause f e (h.stops c.in-Ok.store.halt) (h.stops c.over_store-printed.new.store.halt) c.over_store-printed.result c.over_store-printed.ensures.cause))
+    (subst (λ x. IfErr c.over_store-printed.result (RunCause f e (h.stops c.in-Ok.store.rows.halt) (h.stops x))) (sym c.halt_of-halt.ensures)
+    (halt_cause f e (h.stops c.in-Ok.store.rows.halt) (h.stops c.over_store-printed.new.store.rows.halt) c.over_store-printed.result c.over_store-printed.ensures.cause))
 
 pub returns-in-Err-clause-works : goal.returns-in-Err-clause-works
 returns-in-Err-clause-works g c = λ batch q.

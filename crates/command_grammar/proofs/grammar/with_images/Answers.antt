@@ -1,0 +1,9 @@
+use Rattle.std.proofs.Common.{◌∙◌}
+use Rattle.clap.specs.Simple.{app_of}
+use Rattle.command_grammar.proofs.GrammarLemmas.{made_as, with_commands}
+use Rattle.command_grammar.proofs.grammar.with_images.Goals as goal
+
+pub returns-clause-app : goal.returns-clause-app
+returns-clause-app c =
+    let first = c.in_ok-command.ensures.app ∙ with_commands (λ _. app_of c.args.command) c.in_ok-pack.ensures.shape in
+    made_as c.with_command-2.result (with_commands first c.unpack_grammar-unpack.ensures.shape) c.with_command-2.ensures.app
