@@ -1,11 +1,11 @@
 #!/usr/bin/env python3
 """Measures `import`, `fsck`, `fix` and `dump` beside plain Rust that does the same, by turns, and prints a Markdown table for each size.
 
-    bench/tools.py PROGRAM PLAIN [RUNS] [SERIESxPOINTS ..]
+    bench/tools.py PROGRAM PLAIN [RUNS] [SERIESxPOINTS[xTAGS] ..]
 
 PROGRAM is the built `tsd_main`, PLAIN bench/tools.rs by `rustc -O --edition 2021`, which makes the listings too. Time is the fastest of RUNS (5 if left out), memory the peak of the
-process. The sizes are 1000x1000, 100000x10 and 10000x1000 where none is named: so many series and points of each, in turns over the
-series. Both have to print the same bytes. `fix, no order` has the lines of the listing shuffled; `batch` over the lines and the plain
+process. The sizes are 1000x1000, 100000x10, 1000x1000x8 and 10000x1000 where none is named: so many series and points of each, in turns
+over the series, each point with 2 tags or as many as are named. Both have to print the same bytes. `fix, no order` has the lines of the listing shuffled; `batch` over the lines and the plain
 printing of the listing are there for `import`."""
 import hashlib
 import os
@@ -15,13 +15,15 @@ import sys
 import tempfile
 import time
 
+from generate import tags
+
 FIRST = 1_356_998_400
 
 
-def lines(path, series, points):
-    """Lines of points: each series has a point each ten seconds."""
+def lines(path, series, points, count):
+    """Lines of points with so many tags: each series has a point each ten seconds."""
     values = random.Random(7)
-    names = [f"host=web{at // 4:05d} cpu={at % 4}" for at in range(series)]
+    names = [" ".join([f"host=web{at // 4:05d} cpu={at % 4}", *tags(at, count).split()[2:]]) for at in range(series)]
     with open(path, "w") as file:
         for at in range(points):
             for name in names:
@@ -56,12 +58,13 @@ def main():
     program, plain = sys.argv[1:3]
     rest = sys.argv[3:]
     runs = int(rest.pop(0)) if rest and rest[0].isdigit() else 5
-    sizes = rest or ["1000x1000", "100000x10", "10000x1000"]
+    sizes = rest or ["1000x1000", "100000x10", "1000x1000x8", "10000x1000"]
     with tempfile.TemporaryDirectory() as folder:
         points, listing, shuffled = (os.path.join(folder, name) for name in ("points", "listing", "shuffled"))
         for size in sizes:
-            series, each = map(int, size.split("x"))
-            lines(points, series, each)
+            series, each, *more = map(int, size.split("x"))
+            count = more[0] if more else 2
+            lines(points, series, each, count)
             with open(points, "rb") as file, open(listing, "wb") as out:
                 subprocess.run([plain, "import"], stdin=file, stdout=out, check=True)
             with open(listing) as file:
@@ -70,7 +73,7 @@ def main():
             with open(shuffled, "w") as file:
                 file.writelines(all_lines)
             del all_lines
-            print(f"\n{series:,} series of {each:,} points; a listing of {os.path.getsize(listing) / 1e6:.0f} MB\n")
+            print(f"\n{series:,} series of {each:,} points, {count} tags each; a listing of {os.path.getsize(listing) / 1e6:.0f} MB\n")
             print("| Job | tsd, s | plain Rust, s | tsd / plain | tsd, MB | plain, MB | tsd / plain |\n|---|---|---|---|---|---|---|")
             for job, words, path in [("fsck", ["fsck"], listing), ("dump", ["dump"], listing), ("fix", ["fix"], listing), ("fix, no order", ["fix"], shuffled), ("import", ["import"], points)]:
                 both = by_turns(runs, {"tsd": (program, words, path), "plain": (plain, words, path)})
