@@ -32,7 +32,7 @@ PATH = [
     ("tsd_daemon", "ServedConns", "Passes"),
     ("tsd_daemon", "ConnClocks", "Gave"),
     ("conn_workers", "ServedLinks", "ServedLink GaveSome AllTell"),
-    ("site_workers", "GatheredLinks", "CallerLinks links_of"),
+    ("site_workers", "GatheredLinks", "CallerLinks links_of returned_by"),
     ("link_workers", "Returns", "AllEnd"),
     ("tsd_fleet", "FleetServes", "IsTally"),
     ("serve_job", "FleetRuns", "summary_lines"),
