@@ -27,3 +27,11 @@ mod Untouched
 mod Lining
 mod Points
 pub mod CallerLemmas
+mod PlaceTests
+mod Parts
+mod Looks
+mod Whole
+mod Joins
+mod PointSums
+mod PartOrder
+pub mod PartLemmas

@@ -9,8 +9,8 @@ use Rattle.cell_model.specs.Store.{Store, no_cells, value_at, written, stamped}
 use Rattle.cell_model.proofs.CallerLemmas.{stamped_widths}
 use Rattle.cell_model.specs.Machine.{after, counter_row, counter_of, kind_qual, or_written}
 use Rattle.cell_model.specs.Counts.{point_entries}
-use Rattle.cell_parts.specs.StoreParts.{is_in, part, is_mine}
-use Rattle.cell_parts.proofs.CallerLemmas.{part-empty, after-mine, stamped-part, points-none, points-written, points-elsewhere, points-dropped, points-stamped}
+use Rattle.cell_laws.specs.StoreParts.{is_in, part, is_mine}
+use Rattle.cell_laws.proofs.PartLemmas.{part-empty, after-mine, stamped-part, points-none, points-written, points-elsewhere, points-dropped, points-stamped}
 use Rattle.cell_region.specs.declared.region.TheConstants.{MOST_CELLS}
 use Rattle.std.specs.Prelude.{Option, None, Some, nat_lt, cond}
 use Rattle.std.specs.Int.{w64, to_be_bytes}

@@ -21,8 +21,8 @@ use Rattle.row_key.specs.declared.widths.Widths.{Widths}
 use Rattle.cell_model.specs.Counts.{line_of, lines_of}
 use Rattle.cell_model.specs.Listed.{entry_of_line}
 use Rattle.cell_model.specs.Rising.{LinesRise, is_above, place_of_line}
-use Rattle.cell_parts.specs.StoreParts.{region_in}
-use Rattle.cell_parts.proofs.CallerLemmas.{entries-joined}
+use Rattle.cell_laws.specs.StoreParts.{region_in}
+use Rattle.cell_laws.proofs.PartLemmas.{entries-joined}
 use Rattle.cell_region.specs.declared.region.Region.{Region}
 use Rattle.cell_region.specs.RegionLists.{cells_in, AreComplete, store_of_all}
 use Rattle.cell_region.proofs.RegionSteps.{parts_of}

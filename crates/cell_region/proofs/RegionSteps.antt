@@ -20,9 +20,9 @@ use Rattle.cell_model.specs.Store.{Store, entries, no_cells, place_cmp, stamped}
 use Rattle.cell_model.specs.declared.events.Step.TheVariants.{NextRow}
 use Rattle.cell_model.specs.Machine.{after}
 use Rattle.cell_model.specs.Ranges.{InOneRange}
-use Rattle.cell_parts.specs.StoreParts.{is_in, is_mine, part, region_in, StaysWithin}
-use Rattle.cell_parts.specs.JoinedParts.{AreParts, joined, part_at}
-use Rattle.cell_parts.proofs.CallerLemmas.{looks_in_one, parts-joined, step_in_part, stamp_in_part}
+use Rattle.cell_laws.specs.StoreParts.{is_in, is_mine, part, region_in, StaysWithin}
+use Rattle.cell_laws.specs.JoinedParts.{AreParts, joined, part_at}
+use Rattle.cell_laws.proofs.PartLemmas.{looks_in_one, parts-joined, step_in_part, stamp_in_part}
 use Rattle.cell_region.specs.declared.region.Region.{Region}
 use Rattle.cell_region.specs.RegionLists.{cells_in, rows_of, InOrder, AreComplete, store_of_all, HaveParts}
 

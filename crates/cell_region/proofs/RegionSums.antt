@@ -15,8 +15,8 @@ use Rattle.cell_model.specs.PlaceOrder.{row_cmp}
 use Rattle.cell_model.specs.Store.{Store}
 use Rattle.cell_model.specs.Counts.{point_entries, point_rows}
 use Rattle.cell_model.proofs.CallerLemmas.{rows_total}
-use Rattle.cell_parts.specs.StoreParts.{region_in}
-use Rattle.cell_parts.proofs.CallerLemmas.{point_rows-joined, point_cells-joined}
+use Rattle.cell_laws.specs.StoreParts.{region_in}
+use Rattle.cell_laws.proofs.PartLemmas.{point_rows-joined, point_cells-joined}
 use Rattle.cell_region.specs.declared.region.Region.{Region}
 use Rattle.cell_region.specs.declared.region.TheConstants.{MOST_CELLS}
 use Rattle.cell_region.specs.RegionLists.{cells_in, AreComplete, store_of_all}

@@ -4,8 +4,8 @@ use Rattle.row_key.specs.declared.widths.Widths.{Widths}
 use Rattle.row_key.specs.declared.regions.TheConstants.{NAME_REGIONS, MOST_DATA_REGIONS}
 use Rattle.cell_model.specs.declared.row.Row.{Row}
 use Rattle.cell_model.specs.Store.{Store}
-use Rattle.cell_parts.specs.StoreParts.{is_in, part}
-use Rattle.cell_parts.specs.JoinedParts.{joined, part_at}
+use Rattle.cell_laws.specs.StoreParts.{is_in, part}
+use Rattle.cell_laws.specs.JoinedParts.{joined, part_at}
 use Rattle.cell_region.specs.declared.region.Region.{Region}
 
 -- the cells that a region keeps, and the rows that it is over

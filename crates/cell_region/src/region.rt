@@ -3,7 +3,7 @@ ghost use Rattle.std.specs.Prelude.{◌≡◌, ◌≤◌, ◌<◌, OnOk, OnErr, 
 ghost use Rattle.cell_region.specs.declared.region.TheConstants.{MOST_CELLS};
 ghost use Rattle.cell_model.specs.Counts.{point_entries};
 ghost use Rattle.cell_model.specs.Store.{no_cells, written};
-ghost use Rattle.cell_parts.specs.StoreParts.{is_in, part};
+ghost use Rattle.cell_laws.specs.StoreParts.{is_in, part};
 ghost use Rattle.map_body.specs.Whole.{HasNoFlaw};
 
 use cell_model::{Body, Bumped, Cells, Claimed, Drops, Found, ListLine, Listing, Row, Tally};

@@ -16,8 +16,8 @@ use Rattle.cell_model.specs.Lawful.{IsLawful, HasOpened}
 use Rattle.cell_model.specs.Seen as seen
 use Rattle.cell_model.specs.Seen.{IsOwn, Saw}
 use Rattle.cell_model.specs.Deeds.{placed}
-use Rattle.cell_parts.specs.StoreParts.{is_in, is_mine, part, picked}
-use Rattle.cell_parts.specs.JoinedParts.{part_at}
+use Rattle.cell_laws.specs.StoreParts.{is_in, is_mine, part, picked}
+use Rattle.cell_laws.specs.JoinedParts.{part_at}
 use Rattle.cell_region.specs.declared.region.Region.{Region}
 use Rattle.cell_region.specs.DividedStore.{DividedStore}
 use Rattle.cell_region.specs.RegionLists.{cells_in, rows_of, InOrder, AreComplete, HaveParts}

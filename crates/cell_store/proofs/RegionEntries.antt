@@ -14,8 +14,8 @@ use Rattle.cell_model.specs.History.{History, entry_at}
 use Rattle.cell_model.specs.Lawful.{MayStep}
 use Rattle.cell_model.specs.Seen.{Seen, Saw, IsOwn, Stepped, IsPossible, Knows}
 use Rattle.cell_model.specs.Deeds.{placed}
-use Rattle.cell_parts.specs.StoreParts.{part, is_mine, StaysWithin, replayed}
-use Rattle.cell_parts.specs.StoreParts.{is_in}
+use Rattle.cell_laws.specs.StoreParts.{part, is_mine, StaysWithin, replayed}
+use Rattle.cell_laws.specs.StoreParts.{is_in}
 use Rattle.row_key.specs.declared.widths.Widths.{Widths}
 use Rattle.row_key.specs.Regions.{region_number}
 use Rattle.step_count.specs.declared.counter_rule.TheConstants.{OPENINGS}

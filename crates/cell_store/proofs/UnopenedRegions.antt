@@ -11,8 +11,8 @@ use Rattle.cell_model.specs.declared.row.Row.{Row}
 use Rattle.cell_model.specs.Store.{Store}
 use Rattle.cell_model.specs.declared.events.Placed.{Placed}
 use Rattle.cell_model.specs.Machine.{after}
-use Rattle.cell_parts.specs.StoreParts.{is_in, part, replayed}
-use Rattle.cell_parts.specs.JoinedParts.{part_at}
+use Rattle.cell_laws.specs.StoreParts.{is_in, part, replayed}
+use Rattle.cell_laws.specs.JoinedParts.{part_at}
 use Rattle.cell_region.specs.declared.region.Region.{Region}
 use Rattle.cell_region.specs.RegionLists.{cells_in, rows_of, InOrder, AreComplete, HaveParts}
 use Rattle.step_count.specs.declared.view.Named.{Named}

@@ -10,8 +10,8 @@ use Rattle.cell_model.specs.declared.events.Placed.{Placed}
 use Rattle.cell_model.specs.History.{History, entry_at}
 use Rattle.cell_model.specs.Store.{Store, no_cells}
 use Rattle.cell_model.specs.Seen.{Seen, Saw, IsOwn, Fits}
-use Rattle.cell_parts.specs.StoreParts.{part, replayed}
-use Rattle.cell_parts.specs.StoreParts.{is_in}
+use Rattle.cell_laws.specs.StoreParts.{part, replayed}
+use Rattle.cell_laws.specs.StoreParts.{is_in}
 use Rattle.step_count.specs.declared.counter_rule.TheConstants.{OPENINGS}
 use Rattle.step_count.specs.declared.view.Named.{Named}
 use Rattle.step_count.specs.declared.view.View.{View}

@@ -6,7 +6,7 @@ use Rattle.std.specs.Vec.Iter.{into_iter_items, into_iter_len}
 use Rattle.atomic_table.specs.Seated.{TableId}
 use Rattle.cell_model.specs.declared.row.Row.{Row}
 use Rattle.cell_model.specs.Store.{Store}
-use Rattle.cell_parts.specs.StoreParts.{is_in, part}
+use Rattle.cell_laws.specs.StoreParts.{is_in, part}
 use Rattle.cell_region.specs.declared.region.Region.{Region}
 use Rattle.cell_region.specs.RegionLists.{cells_in, rows_of}
 use Rattle.step_count.specs.declared.view.Named.{Named}

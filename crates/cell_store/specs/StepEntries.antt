@@ -8,7 +8,7 @@ use Rattle.cell_model.specs.declared.events.Reply.{Reply}
 use Rattle.cell_model.specs.declared.events.Entry.{Entry}
 use Rattle.cell_model.specs.Ranges.{InOneRange}
 use Rattle.cell_model.specs.Seen.{Knows, Stepped, IsPossible}
-use Rattle.cell_parts.specs.StoreParts.{is_in, is_mine}
+use Rattle.cell_laws.specs.StoreParts.{is_in, is_mine}
 use Rattle.step_count.specs.declared.view.Named.{Named}
 use Rattle.step_count.specs.declared.view.View.{View}
 use Rattle.step_count.specs.declared.steps.Pass.{Pass}

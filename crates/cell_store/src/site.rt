@@ -1,7 +1,7 @@
 //! The regions of a store behind their locks.
 ghost use Rattle.std.specs.Prelude.{◌≡◌, ◌+◌, ◌++◌, ◌∷◌, ◌<◌, ◌≤◌, true, [], IfOk, OnErr, vec_len, vec_capacity};
 ghost use Rattle.cell_model.specs.Seen.{HasSeenOpening, IsPossible};
-ghost use Rattle.cell_parts.specs.StoreParts.{is_in};
+ghost use Rattle.cell_laws.specs.StoreParts.{is_in};
 ghost use Rattle.step_count.specs.CounterRule.{region_count, store_in};
 ghost use Rattle.step_count.specs.Tokens.{counter_of_pass, view_of_pass};
 ghost use Rattle.cell_store.specs.StepOrders.{step_of};

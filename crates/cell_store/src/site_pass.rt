@@ -2,7 +2,7 @@
 ghost use Rattle.std.specs.Prelude.{◌≡◌, ◌++◌, ◌<◌, ◌≤◌, true, IfOk, OnOk, OnErr};
 ghost use Rattle.cell_model.specs.Deeds.{Extends};
 ghost use Rattle.cell_model.specs.Seen.{IsPossible, Knows, Stepped, Waited};
-ghost use Rattle.cell_parts.specs.StoreParts.{is_in, is_mine};
+ghost use Rattle.cell_laws.specs.StoreParts.{is_in, is_mine};
 ghost use Rattle.step_count.specs.CounterRule.{AreDifferent, region_count};
 ghost use Rattle.step_count.specs.Tokens.{counter_of_note, counter_of_pass, view_of_note, view_of_pass};
 ghost use Rattle.step_count.specs.ViewSteps.{Lives, learned, met};

@@ -40,9 +40,13 @@ stdio_grammar = (with_rule (with_puts (new_app (codes "stdio"))) (valued (codes 
 abbrev pub with_sizes : App
 with_sizes = with_rule (with_rule (with_rule (with_rule (new_app (codes "serve")) (word (codes "port"))) (valued (codes "daemons"))) (valued (codes "workers"))) (valued (codes "regions"))
 
--- and then those of `stdio` but for the widths
+-- [--image] [--save]
+abbrev pub with_keeping : App → App
+with_keeping app = with_rule (with_rule app (flag (codes "image"))) (flag (codes "save"))
+
+-- both, and those of `stdio` but for the widths
 abbrev pub serve_grammar : Shape
-serve_grammar = (with_puts with_sizes).top
+serve_grammar = (with_keeping (with_puts with_sizes)).top
 
 -- a command on a listing [--widths M,K,V]
 abbrev pub listing_grammar : Text → Shape

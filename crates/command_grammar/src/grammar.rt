@@ -4,7 +4,7 @@ ghost use Rattle.clap.specs.Built.{AddsArg};
 ghost use Rattle.clap.specs.Simple.{app_of, new_app, shape_of, with_rule, with_subcommand};
 ghost use Rattle.clap.specs.Walk.{rule_of};
 ghost use Rattle.clap.specs.declared.builder.command.Command.TheViews.{out-Command as fields_of};
-ghost use Rattle.command_grammar.specs.Grammar.{grammar, root, batch_grammar, import_grammar, listing_grammar, serve_grammar, stdio_grammar, unpack_grammar, weave_grammar, with_auto, with_connections, with_images, with_listings, with_makers, with_patterns, with_puts, with_sizes, flag, valued, word};
+ghost use Rattle.command_grammar.specs.Grammar.{grammar, root, batch_grammar, import_grammar, listing_grammar, serve_grammar, stdio_grammar, unpack_grammar, weave_grammar, with_auto, with_connections, with_images, with_keeping, with_listings, with_makers, with_patterns, with_puts, with_sizes, flag, valued, word};
 
 use clap::{Arg, ArgAction, Command};
 use std::alloc::{AllocError, Global};
@@ -135,7 +135,18 @@ fn serve_grammar<'a>(alloc: Global) -> Result<Command<'a>, AllocError>
     ensures shape { IfOk result (λ made. shape_of made ≡ serve_grammar) }
     ensures local { IfOk result (λ made. (fields_of made).has_globals ≡ false) }
 {
-    with_puts(alloc, with_sizes(alloc)?)
+    let command = with_puts(alloc, with_sizes(alloc)?)?;
+    with_keeping(alloc, command)
+}
+
+/// A command with the options that say whether its store begins from an image, and whether one is saved.
+fn with_keeping<'a>(alloc: Global, command: Command<'a>) -> Result<Command<'a>, AllocError>
+    requires local { (fields_of command).has_globals ≡ false }
+    ensures app { IfOk result (λ made. app_of made ≡ with_keeping (app_of command.entry)) }
+    ensures local { IfOk result (λ made. (fields_of made).has_globals ≡ false) }
+{
+    let command = with_arg(command, flag(alloc, "image"))?;
+    with_arg(command, flag(alloc, "save"))
 }
 
 /// `serve` with its port and the options that say how large its fleet is.

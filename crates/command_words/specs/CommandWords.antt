@@ -10,7 +10,7 @@ use Rattle.tsd_base.specs.Digits.{is_number}
 use Rattle.tsd_base.specs.Names.{name_of}
 use Rattle.tsd_base.specs.Tags.{is_same}
 use Rattle.tsd_hooks.specs.declared.name_patterns.Patterns.{Patterns}
-use Rattle.query_times.specs.QueryTimes.{fixed_time}
+use Rattle.query_requests.specs.QueryTimes.{fixed_time}
 use Rattle.row_key.specs.declared.widths.Widths.{Widths}
 use Rattle.command_grammar.specs.Grammar.{grammar}
 use Rattle.command_words.specs.WidthWords.{widths_said}
@@ -35,7 +35,8 @@ pub record Stdio : Type 0 where
   pub appends : Bool
   pub widths : Widths
 
--- what `serve` is asked: the port, how many daemons, workers of each and regions of data points there are, which names are given ids, and whether points are appended
+-- what `serve` is asked: the port, how many daemons, workers of each and regions of data points there are, which names are given ids, whether points are appended, whether the store begins from
+-- an image, and whether one is saved
 pub record Serve : Type 0 where
   pub port : ℕ
   pub daemons : ℕ
@@ -43,6 +44,8 @@ pub record Serve : Type 0 where
   pub regions : ℕ
   pub names : NameOptions
   pub appends : Bool
+  pub image : Bool
+  pub save : Bool
 
 -- what `import` is asked: whether rows are compacted, and how many bytes the ids of each kind have
 pub record Import : Type 0 where
@@ -141,14 +144,16 @@ abbrev pub count_of : ℕ → ℕ → Option Text → Option ℕ
 count_of most usual (Some text) = number_within 1 most text
 count_of most usual None = Some usual
 
-abbrev pub serve_with : Option ℕ → Option ℕ → Option ℕ → Option ℕ → Option NameOptions → Bool → Option Serve
-serve_with (Some port) (Some daemons) (Some workers) (Some regions) (Some names) appends = Some (record { port = port; daemons = daemons; workers = workers; regions = regions; names = names; appends = appends })
-serve_with _ _ _ _ _ appends = None
+abbrev pub serve_with : Option ℕ → Option ℕ → Option ℕ → Option ℕ → Option NameOptions → (appends image save : Bool) → Option Serve
+serve_with (Some port) (Some daemons) (Some workers) (Some regions) (Some names) appends image save =
+    Some (record { port = port; daemons = daemons; workers = workers; regions = regions; names = names; appends = appends; image = image; save = save })
+serve_with _ _ _ _ _ appends image save = None
 
 -- 1 to 8 daemons, and 1 where nothing is said, 1 to 16 workers of each, and 4, and 1 to 16 regions, and 4
 abbrev pub serve_in : List Row → Option Serve
 serve_in rows =
     serve_with (port_in rows) (count_of 8 1 (first_of (codes "daemons") rows)) (count_of 16 4 (first_of (codes "workers") rows)) (count_of 16 4 (first_of (codes "regions") rows)) (names_in rows) (is_given (codes "appends") rows)
+    (is_given (codes "image") rows) (is_given (codes "save") rows)
 
 abbrev pub import_in : List Row → Option Import
 import_in rows = option_map (λ widths. record { compact = is_given (codes "compact") rows; widths = widths }) (widths_in rows)
@@ -189,6 +194,11 @@ asked_by name rows =
 abbrev pub asked_in : Option (Text × List Row) → Option Asked
 asked_in None = None
 asked_in (Some command) = asked_by command.0 command.1
+
+-- what is asked of a fleet, if one is asked for
+abbrev pub fleet_asked : Option Asked → Option Serve
+fleet_asked (Some (ServeAsked s)) = Some s
+fleet_asked asked = None
 
 -- nothing where `clap` refuses the words, which it does of a request for help or for a version too
 abbrev pub unless_refused : Kinds → Option Asked → Option Asked

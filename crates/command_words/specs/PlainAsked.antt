@@ -31,7 +31,7 @@ abbrev pub plain_stdio : stdio.Stdio → Stdio
 plain_stdio s = record { names = plain_names s.names; appends = s.appends; widths = s.widths }
 
 abbrev pub plain_serve : serve.Serve → Serve
-plain_serve s = record { port = s.port; daemons = s.daemons; workers = s.workers; regions = s.regions; names = plain_names s.names; appends = s.appends }
+plain_serve s = record { port = s.port; daemons = s.daemons; workers = s.workers; regions = s.regions; names = plain_names s.names; appends = s.appends; image = s.image; save = s.save }
 
 abbrev pub plain_import : import.Import → Import
 plain_import i = record { compact = i.compact; widths = i.widths }

@@ -40,8 +40,8 @@ pub struct Stdio<'a> {
 }
 
 /// What `serve` is asked: the port to listen on, or 0 for one that the system chooses, how many daemons there are, how many
-/// workers each has, in how many regions data points stand, which names are given ids, and whether points are appended to the
-/// columns of their rows.
+/// workers each has, in how many regions data points stand, which names are given ids, whether points are appended to the
+/// columns of their rows, whether the store begins from an image on the input, and whether its image is saved at the end.
 #[derive(Clone, Copy, Drop)]
 pub struct Serve<'a> {
     pub port: u16,
@@ -50,6 +50,8 @@ pub struct Serve<'a> {
     pub regions: u32,
     pub names: NameOptions<'a>,
     pub appends: bool,
+    pub image: bool,
+    pub save: bool,
 }
 
 /// What `import` is asked: whether rows are compacted, and how many bytes the ids of each kind have.

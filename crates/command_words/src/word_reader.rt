@@ -4,7 +4,7 @@ ghost use Rattle.tsd_base.specs.declared.times.TheConstants.{LAST_TIME};
 ghost use Rattle.clap.specs.Matches.{found_of};
 ghost use Rattle.clap.specs.Walk.{first_of, rows_of};
 ghost use Rattle.clap.specs.Simple.{subcommand_rows_of};
-ghost use Rattle.command_words.specs.CommandWords.{are_names, asked_by, asked_in, asked_of, batch_from, batch_in, count_of, image_asked, import_in, is_given, is_name, is_pattern, names_in, names_with, number_within, patterns_in, port_in, serve_in, stdio_in, tool_asked, weave_in, widths_in, within};
+ghost use Rattle.command_words.specs.CommandWords.{are_names, asked_by, asked_in, asked_of, batch_from, batch_in, count_of, fleet_asked, image_asked, import_in, is_given, is_name, is_pattern, names_in, names_with, number_within, patterns_in, port_in, serve_in, stdio_in, tool_asked, weave_in, widths_in, within};
 ghost use Rattle.command_words.specs.PlainAsked.{InRange, IsFleet, batch_of, import_of, names_of, plain_names, plain_pattern, plain_patterns, serve_of, stdio_of, weave_of, what_asked};
 ghost use Rattle.command_words.specs.WidthWords.{width_of, widths_from, widths_said};
 ghost use Rattle.row_key.specs.IdWidths.{IsWidth};
@@ -13,7 +13,7 @@ use crate::asked::{Asked, Batch, Import, NameOptions, PatternTexts, Serve, Stdio
 use clap::ArgMatches;
 use clap::error::ErrorKind;
 use command_grammar::grammar::grammar;
-use query_times::query_times::read_fixed_time;
+use query_requests::query_times::read_fixed_time;
 use row_key::Widths;
 use std::alloc::{AllocError, Global};
 use tsd_base::digits::read_digits;
@@ -43,8 +43,8 @@ const MOST_OPERATIONS: u32 = 1_000_000;
 /// `batch START END M` may have the option `--ms`, with START and END times as `read_fixed_time` reads them, and END not
 /// below START. An END in seconds is that second's first millisecond. `stdio` may have the options `--auto-metric`,
 /// `--no-auto-tagk` and `--no-auto-tagv`, and with a value `--allow-metric P`, `--allow-tagk P` and `--allow-tagv P`, where P
-/// is the bytes of a name as `Name::read` reads it, and `--appends`. `serve PORT` may have these too, and `--daemons N`, `--workers N` and
-/// `--regions N`, with a port from 0 to 65535, 1 to 8 daemons, 1 to 16 workers of each and 1 to 16 regions, in digits alone.
+/// is the bytes of a name as `Name::read` reads it, and `--appends`. `serve PORT` may have these too, `--image`, `--save`, `--daemons N`,
+/// `--workers N` and `--regions N`, with a port from 0 to 65535, 1 to 8 daemons, 1 to 16 workers of each and 1 to 16 regions, in digits alone.
 /// `stdio`, `import`, `dump`, `fsck`, `fix` and `pack` may have `--widths M,K,V`, three digits from 2 to 4 with commas between them: how many
 /// bytes the ids of metrics, of tag keys and of tag values have. `import` may have `--compact` too. `weave SEED N` has a seed that is a `u64`
 /// and at most 1,000,000 operations, in digits alone. `unpack` has no more words. An option is given at most once, and `clap` says where it
@@ -60,6 +60,36 @@ pub fn read_words<'a>(alloc: Global, words: &'a [String]) -> Result<Option<Asked
             ErrorKind::OutOfMemory => Err(AllocError),
             _ => Ok(None),
         },
+    }
+}
+
+/// Reads what the words of a command ask of a fleet, if they ask for one. It fails only for want of memory.
+pub fn read_fleet<'a>(alloc: Global, words: &'a [String]) -> Result<Option<Serve<'a>>, AllocError>
+    ensures asked { IfOk result (λ found. serve_of found ≡ fleet_asked (asked_of (map string_bytes words.entry.now))) }
+    ensures fleet { IfOk result (λ found. IfSome found IsFleet) }
+{
+    let asked = read_words(alloc, words)?;
+    Ok(fleet_in(asked))
+}
+
+/// What is asked of a fleet.
+fn fleet_in<'a>(asked: Option<Asked<'a>>) -> Option<Serve<'a>>
+    requires range { IfSome asked InRange }
+    ensures asked { serve_of result ≡ fleet_asked (what_asked asked.entry) }
+    ensures fleet { IfSome result IsFleet }
+{
+    match asked {
+        Some(Asked::Serve { serve }) => Some(serve),
+        Some(Asked::Batch { .. }) => None,
+        Some(Asked::Stdio { .. }) => None,
+        Some(Asked::Import { .. }) => None,
+        Some(Asked::Dump { .. }) => None,
+        Some(Asked::Fsck { .. }) => None,
+        Some(Asked::Fix { .. }) => None,
+        Some(Asked::Weave { .. }) => None,
+        Some(Asked::Pack { .. }) => None,
+        Some(Asked::Unpack) => None,
+        None => None,
     }
 }
 
@@ -247,6 +277,8 @@ fn serve_in<'a>(alloc: Global, words: &ArgMatches<'a>) -> Option<Serve<'a>>
     let regions = count_of(MOST_REGIONS, USUAL_REGIONS, text(words, "regions"))?;
     let names = names_in(alloc, words)?;
     let appends = is_given(words, "appends");
+    let image = is_given(words, "image");
+    let save = is_given(words, "save");
     Some(Serve {
         port,
         daemons,
@@ -254,6 +286,8 @@ fn serve_in<'a>(alloc: Global, words: &ArgMatches<'a>) -> Option<Serve<'a>>
         regions,
         names,
         appends,
+        image,
+        save,
     })
 }
 

@@ -18,8 +18,8 @@ use Rattle.cell_model.specs.declared.events.Place.{Place}
 use Rattle.cell_model.specs.declared.events.Content.{Content}
 use Rattle.cell_model.specs.Store.{Store, cell_of, cells_of, content_at, dropped, entries, get, is_dropped, place_cmp, place_of, remove, row_cmp, same_bytes, value_at}
 use Rattle.cell_model.proofs.CallerLemmas.{exact_places, exact_rows, get-dropped, get-removed_other, places_total, rows_total, same_store}
-use Rattle.cell_parts.specs.StoreParts.{part}
-use Rattle.cell_parts.proofs.CallerLemmas.{cells-part, get-part}
+use Rattle.cell_laws.specs.StoreParts.{part}
+use Rattle.cell_laws.proofs.PartLemmas.{cells-part, get-part}
 use Rattle.row_scan.proofs.CallerLemmas.{cell_at}
 use Rattle.point_lines.proofs.CallerLemmas.{same_bytes as same_is}
 use Rattle.compactor.specs.Compaction.{by_items, others}

@@ -3,8 +3,8 @@ use Rattle.std.specs.Prelude.{◌≡◌, ℕ, ◌||◌, List, [], ◌∷◌, ◌
 use Rattle.serde_json.specs.Data.{Data, Items, no_items, item}
 use Rattle.serde_json.specs.Find.{get, as_str, as_array, as_object}
 use Rattle.tsd_base.specs.Words.{parts_of}
-use Rattle.http_forms.specs.Forms.{Parameter, first_value, form_pairs}
-use Rattle.json_bodies.specs.JsonBodies.{json_of}
+use Rattle.http_requests.specs.Forms.{Parameter, first_value, form_pairs}
+use Rattle.http_requests.specs.JsonBodies.{json_of}
 use Rattle.name_requests.specs.declared.assign_request.AssignRequest.{AssignRequest}
 use Rattle.name_requests.specs.declared.fault.AssignFault.{AssignFault}
 use Rattle.name_requests.specs.declared.fault.AssignFault.TheVariants.{NotJson, BadLists, NothingToAssign, OutOfMemory}

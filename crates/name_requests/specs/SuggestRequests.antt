@@ -7,8 +7,8 @@ use Rattle.serde_json.specs.Find.{get, as_str, as_number, as_object, as_u64}
 use Rattle.tsd_base.specs.Digits.{is_number}
 use Rattle.tsd_base.specs.declared.kinds.Kind.{Kind}
 use Rattle.tsd_base.specs.declared.kinds.Kind.TheVariants.{Metric, TagKey, TagValue}
-use Rattle.http_forms.specs.Forms.{Parameter, first_value, form_pairs}
-use Rattle.json_bodies.specs.JsonBodies.{json_of}
+use Rattle.http_requests.specs.Forms.{Parameter, first_value, form_pairs}
+use Rattle.http_requests.specs.JsonBodies.{json_of}
 use Rattle.name_requests.specs.declared.suggest_request.SuggestRequest.{SuggestRequest}
 use Rattle.name_requests.specs.declared.fault.SuggestFault.{SuggestFault}
 use Rattle.name_requests.specs.declared.fault.SuggestFault.TheVariants.{NotJson, BadRequest, BadType, BadMax, OutOfMemory}

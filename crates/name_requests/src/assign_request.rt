@@ -2,15 +2,15 @@
 ghost use Rattle.std.specs.Prelude.{◌≡◌, option_map, IfOk};
 ghost use Rattle.serde_json.specs.Find.{as_str, get};
 ghost use Rattle.serde_json.specs.View.{items_view, view};
-ghost use Rattle.json_bodies.specs.JsonBodies.{json_of};
+ghost use Rattle.http_requests.specs.JsonBodies.{json_of};
 ghost use Rattle.name_requests.specs.declared.fault.AssignFault.TheVariants.{BadLists, NotJson};
 ghost use Rattle.name_requests.specs.AssignRequests.{GivesAssign, assign_by_body, assign_by_form, assign_lists, assign_of_form, assign_of_value, list_in, listed, lists_in, texts_in, texts_of, with_a_list};
 ghost use Rattle.name_requests.specs.RequestReading.{or_fault};
 
 use crate::comma_list::comma_names;
 use crate::fault::AssignFault;
-use http_forms::form::Form;
-use json_bodies::json_body::read_json;
+use http_requests::form::Form;
+use http_requests::json_body::read_json;
 use serde_json::Value;
 use short_bytes::short::Bytes;
 use std::alloc::{AllocError, Global};

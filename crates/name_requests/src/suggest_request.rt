@@ -2,15 +2,15 @@
 ghost use Rattle.std.specs.Prelude.{◌≡◌, codes, option_and_then, IfOk};
 ghost use Rattle.serde_json.specs.Find.{as_str, get};
 ghost use Rattle.serde_json.specs.View.{view};
-ghost use Rattle.http_forms.specs.Forms.{first_value};
-ghost use Rattle.json_bodies.specs.JsonBodies.{json_of};
+ghost use Rattle.http_requests.specs.Forms.{first_value};
+ghost use Rattle.http_requests.specs.JsonBodies.{json_of};
 ghost use Rattle.name_requests.specs.declared.fault.SuggestFault.TheVariants.{BadMax, BadType, NotJson};
 ghost use Rattle.name_requests.specs.RequestReading.{or_fault};
 ghost use Rattle.name_requests.specs.SuggestRequests.{GivesSuggest, IsMax, kind_named, kind_of, max_in, max_named, max_of, max_within, prefix_in, prefix_of, suggest_by_body, suggest_by_form, suggest_in, suggest_of_form, suggest_of_value, suggestion};
 
 use crate::fault::SuggestFault;
-use http_forms::form::Form;
-use json_bodies::json_body::read_json;
+use http_requests::form::Form;
+use http_requests::json_body::read_json;
 use serde_json::Value;
 use short_bytes::short::Bytes;
 use std::alloc::{AllocError, Global};

@@ -1,7 +1,7 @@
 -- Queries in forms.
 use Rattle.std.specs.Prelude.{ℕ, Bool, false, not, List, [], ◌∷◌, codes, length, Option, None, Some, Result, Ok, Err}
 use Rattle.tsd_base.specs.Tags.{is_same}
-use Rattle.http_forms.specs.Forms.{Parameter, all_values, first_value, form_pairs}
+use Rattle.http_requests.specs.Forms.{Parameter, all_values, first_value, form_pairs}
 use Rattle.query_requests.specs.QueryReadings.{◌>>=◌, end_behind, few_queries, last_moment, time_in}
 use Rattle.query_text.specs.Subs.{sub_of}
 use Rattle.query_text.specs.declared.queries.Sub.{Sub}

@@ -5,3 +5,6 @@ pub mod JsonParts
 pub mod JsonQueries
 pub mod JsonSubs
 pub mod QueryReadings
+pub mod CivilDates
+pub mod CivilMoments
+pub mod QueryTimes

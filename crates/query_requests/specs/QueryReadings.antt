@@ -1,8 +1,8 @@
 -- Queries that are read in parts.
 use Rattle.std.specs.Prelude.{◌≡◌, ℕ, ◌≤◌, min, Bool, nat_eq, nat_lt, List, ◌++◌, All, Option, None, Some, Result, Ok, Err, MatchResult, if◌then◌else◌}
 use Rattle.tsd_base.specs.declared.times.TheConstants.{LAST_TIME}
-use Rattle.query_times.specs.QueryTimes.{time_named}
-use Rattle.query_times.specs.declared.query_times.BadTimes.{BadTimes as NoTime}
+use Rattle.query_requests.specs.QueryTimes.{time_named}
+use Rattle.query_requests.specs.declared.query_times.BadTimes.{BadTimes as NoTime}
 use Rattle.query_text.specs.Subs.{CanDown}
 use Rattle.query_text.specs.declared.queries.Query.{Query}
 use Rattle.query_text.specs.declared.queries.TheConstants.{MOST_QUERIES}

@@ -1,13 +1,13 @@
 //! Queries in forms.
 ghost use Rattle.std.specs.Prelude.{◌≡◌, ◌≤◌, All, codes, length, map, option_map, IfOk};
 ghost use Rattle.tsd_base.specs.declared.times.TheConstants.{LAST_TIME};
-ghost use Rattle.http_forms.specs.Forms.{all_values, first_value};
+ghost use Rattle.http_requests.specs.Forms.{all_values, first_value};
 ghost use Rattle.query_requests.specs.FormQueries.{end_in, is_set, query_by_form, query_of_form, start_in, subs_of};
 ghost use Rattle.query_requests.specs.QueryReadings.{CanWork, Gives, GivesQuery};
 ghost use Rattle.query_text.specs.Subs.{CanDown};
 
 use crate::query_parts::{check_count, check_order, last_moment, time_in};
-use http_forms::form::Form;
+use http_requests::form::Form;
 use query_text::queries::{Query, QueryFault, Sub, SubList};
 use query_text::subs::read_m;
 use std::alloc::Global;

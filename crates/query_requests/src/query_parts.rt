@@ -2,8 +2,8 @@
 ghost use Rattle.std.specs.Prelude.{◌≡◌, ◌≤◌, IfOk};
 ghost use Rattle.query_requests.specs.QueryReadings.{Gives, end_behind, few_queries, last_moment, time_in};
 
+use crate::query_times::read_time_arg;
 use query_text::queries::{MOST_QUERIES, QueryFault};
-use query_times::query_times::read_time_arg;
 use tsd_base::times::LAST_TIME;
 
 /// The time that a text names.

@@ -15,8 +15,8 @@ use Rattle.tsd_base.specs.declared.kinds.Fill.{Fill}
 use Rattle.tsd_base.specs.declared.kinds.Function.{Function}
 use Rattle.query_text.specs.Cuts.{before, behind}
 use Rattle.query_text.specs.Downs.{IsInterval, down_by, down_in, down_of, fill_of, function_named, interval_by, interval_of, is_interval}
-use Rattle.time_units.specs.Units.{unit_millis}
-use Rattle.time_units.specs.declared.units.TheConstants.{MOST_UNITS}
+use Rattle.tsd_base.specs.Units.{unit_millis}
+use Rattle.tsd_base.specs.declared.units.TheConstants.{MOST_UNITS}
 use Rattle.tsd_base.specs.declared.times.TheConstants.{LAST_TIME}
 use Rattle.query_text.specs.FilterTexts.{filters_of}
 use Rattle.query_text.specs.Subs.{asks_rate, colon_from, head_of, sub_by_aggregator, sub_by_colon, sub_by_down, sub_by_metric, sub_with, unless_colon, GivesSub}

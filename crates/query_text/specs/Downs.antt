@@ -10,8 +10,8 @@ use Rattle.tsd_base.specs.declared.kinds.Function.TheVariants.{Sum, Min, Max, Av
 use Rattle.tsd_base.specs.declared.kinds.Fill.{Fill}
 use Rattle.tsd_base.specs.declared.kinds.Fill.TheVariants.{NoFill, Zero}
 use Rattle.tsd_base.specs.declared.kinds.Down.{Down}
-use Rattle.time_units.specs.Units.{unit_millis}
-use Rattle.time_units.specs.declared.units.TheConstants.{MOST_UNITS}
+use Rattle.tsd_base.specs.Units.{unit_millis}
+use Rattle.tsd_base.specs.declared.units.TheConstants.{MOST_UNITS}
 use Rattle.tsd_base.specs.declared.times.TheConstants.{LAST_TIME}
 use Rattle.query_text.specs.Cuts.{before, behind}
 

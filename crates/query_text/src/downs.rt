@@ -5,10 +5,10 @@ ghost use Rattle.std.specs.List.{prefix_len};
 ghost use Rattle.query_text.specs.Downs.{down_of, fill_named, function_named, interval_by, interval_of, IsInterval};
 
 use crate::cuts::cut;
-use time_units::units::{MOST_UNITS, unit_millis};
 use tsd_base::digits::read_digits;
 use tsd_base::kinds::{Down, Fill, Function};
 use tsd_base::times::LAST_TIME;
+use tsd_base::units::{MOST_UNITS, unit_millis};
 
 /// The downsample that a text is, if it is one: an interval, a function and perhaps a fill. Where `ms` is false the interval
 /// has to be whole seconds.

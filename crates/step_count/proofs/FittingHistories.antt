@@ -17,8 +17,8 @@ use Rattle.cell_model.specs.History.History.{Base, Then}
 use Rattle.cell_model.specs.Lawful.{IsLawful, MayStep, HasOpened}
 use Rattle.cell_model.specs.Deeds.{placed}
 use Rattle.cell_laws.proofs.CallerLemmas.{entry_at-last, entry_at-more}
-use Rattle.cell_parts.specs.StoreParts.{is_in, part, is_mine, picked, replayed}
-use Rattle.cell_parts.proofs.CallerLemmas.{history_apart, reply-part}
+use Rattle.cell_laws.specs.StoreParts.{is_in, part, is_mine, picked, replayed}
+use Rattle.cell_laws.proofs.PartLemmas.{history_apart, reply-part}
 use Rattle.step_count.specs.declared.counter_rule.TheConstants.{OPENINGS}
 use Rattle.step_count.specs.declared.view.Named.{Named}
 use Rattle.step_count.specs.declared.view.View.{View}

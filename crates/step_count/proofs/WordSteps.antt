@@ -15,7 +15,7 @@ use Rattle.cell_model.specs.declared.events.Placed.{Placed}
 use Rattle.cell_model.specs.History.{History, len, entry_at}
 use Rattle.cell_model.specs.History.History.{Then}
 use Rattle.cell_model.specs.Deeds.{placed}
-use Rattle.cell_parts.specs.StoreParts.{is_in, is_mine, picked}
+use Rattle.cell_laws.specs.StoreParts.{is_in, is_mine, picked}
 use Rattle.cell_laws.proofs.CallerLemmas.{bounded, entry_at-last, entry_at-more}
 use Rattle.step_count.specs.declared.counter_rule.TheConstants.{COUNT, OPENINGS}
 use Rattle.step_count.specs.declared.view.Named.{Named}

@@ -13,7 +13,7 @@ use Rattle.cell_model.specs.declared.events.Placed.{Placed}
 use Rattle.cell_model.specs.Store.{Store}
 use Rattle.cell_model.specs.History.{History, base_of, len, entry_at}
 use Rattle.cell_model.specs.Lawful.{IsLawful}
-use Rattle.cell_parts.specs.StoreParts.{is_mine, is_in, picked}
+use Rattle.cell_laws.specs.StoreParts.{is_mine, is_in, picked}
 use Rattle.step_count.specs.declared.counter_rule.TheConstants.{COUNT, OPENINGS, WORDS}
 use Rattle.step_count.specs.declared.view.Named.{Named}
 use Rattle.step_count.specs.declared.view.View.{View}

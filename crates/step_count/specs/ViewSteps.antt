@@ -9,7 +9,7 @@ use Rattle.cell_model.specs.Machine.{reply_of}
 use Rattle.cell_model.specs.History.{History, len}
 use Rattle.cell_model.specs.Lawful.{MayStep}
 use Rattle.cell_model.specs.Deeds.{placed}
-use Rattle.cell_parts.specs.StoreParts.{is_in, is_mine, part, StaysWithin, replayed}
+use Rattle.cell_laws.specs.StoreParts.{is_in, is_mine, part, StaysWithin, replayed}
 use Rattle.step_count.specs.declared.view.Named.{Named}
 use Rattle.step_count.specs.declared.view.View.{View}
 use Rattle.step_count.specs.CounterRule.{Log, store_in, opening, by_caller, in_region, IsOver, Fits, Within, HasEachOnce}

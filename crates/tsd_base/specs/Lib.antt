@@ -13,3 +13,4 @@ pub mod TextParts
 pub mod Times
 pub mod Values
 pub mod Words
+pub mod Units

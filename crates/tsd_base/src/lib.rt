@@ -12,5 +12,6 @@ pub mod points;
 pub mod tags;
 pub mod text_parts;
 pub mod times;
+pub mod units;
 pub mod values;
 pub mod words;

@@ -1,2 +1,3 @@
 mod Turning
 mod QueueGains
+mod Wasted

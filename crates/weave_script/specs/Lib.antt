@@ -1,1 +1,2 @@
 pub mod OperationQueues
+pub mod WovenCounts

@@ -1,7 +1,7 @@
 use Rattle.std.proofs.Common.{◌≡◌, ◌+◌, List, [], ap, ◌∙◌, subst, sym, length, map, arith, length-append, ◌∷◌}
 use Rattle.std.specs.List.{flat_map}
 use Rattle.cell_model.specs.Store.{Store, entries}
-use Rattle.cell_parts.specs.StoreParts.{is_in}
+use Rattle.cell_laws.specs.StoreParts.{is_in}
 use Rattle.cell_region.specs.declared.region.Region.{Region}
 use Rattle.cell_region.specs.RegionLists.{cells_in, InOrder}
 use Rattle.cell_region.proofs.RegionSteps.{none_push, order_push}

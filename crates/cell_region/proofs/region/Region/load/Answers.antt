@@ -4,7 +4,7 @@ use Rattle.cell_model.specs.Store.{Store, written}
 use Rattle.cell_model.specs.Counts.{point_entries}
 use Rattle.cell_region.specs.declared.region.TheConstants.{MOST_CELLS}
 use Rattle.cell_region.proofs.Answered.{either_way, still}
-use Rattle.cell_parts.specs.StoreParts.{is_in}
+use Rattle.cell_laws.specs.StoreParts.{is_in}
 use Rattle.cell_region.proofs.OwnRows.{Fits, put_fits}
 use Rattle.cell_region.proofs.region.Region.load.Goals as goal
 

@@ -2,7 +2,7 @@ use Rattle.std.proofs.Common.{◌++◌, ◌<◌, length, refl, arith}
 use Rattle.qual_codec.specs.CellDots.{column_qual}
 use Rattle.cell_model.specs.Store.{Store, appended, or_nothing, value_at}
 use Rattle.cell_model.specs.Counts.{point_entries}
-use Rattle.cell_parts.specs.StoreParts.{is_in}
+use Rattle.cell_laws.specs.StoreParts.{is_in}
 use Rattle.cell_region.specs.declared.region.TheConstants.{MOST_CELLS}
 use Rattle.cell_region.proofs.Answered.{either_way, still}
 use Rattle.cell_region.proofs.OwnRows.{Fits, put_fits}

@@ -2,7 +2,7 @@ use Rattle.std.proofs.Common.{◌<◌, length, refl, arith}
 use Rattle.cell_model.specs.Counts.{point_entries}
 use Rattle.cell_region.specs.declared.region.TheConstants.{MOST_CELLS}
 use Rattle.cell_region.proofs.Answered.{either_way, still}
-use Rattle.cell_parts.specs.StoreParts.{is_in}
+use Rattle.cell_laws.specs.StoreParts.{is_in}
 use Rattle.cell_region.proofs.OwnRows.{Fits, claim_fits}
 use Rattle.cell_model.specs.declared.events.Step.TheVariants.{Claim}
 use Rattle.cell_model.specs.Machine.{after}

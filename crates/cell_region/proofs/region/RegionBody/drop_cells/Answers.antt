@@ -1,6 +1,6 @@
 use Rattle.std.proofs.Common.{ap, subst, sym}
 use Rattle.cell_model.specs.Store.{Store}
-use Rattle.cell_parts.specs.StoreParts.{is_in}
+use Rattle.cell_laws.specs.StoreParts.{is_in}
 use Rattle.cell_region.proofs.OwnRows.{Fits, drop_fits}
 use Rattle.cell_region.proofs.region.RegionBody.drop_cells.Goals as goal
 

@@ -2,7 +2,7 @@ use Rattle.std.proofs.Common.{ap, subst, sym, ◌∙◌}
 use Rattle.row_key.specs.declared.widths.Widths.{Widths}
 use Rattle.cell_model.specs.Store.{Store}
 use Rattle.cell_model.proofs.CallerLemmas.{stamped_widths}
-use Rattle.cell_parts.specs.StoreParts.{is_in}
+use Rattle.cell_laws.specs.StoreParts.{is_in}
 use Rattle.cell_model.specs.Machine.{counter_row, kind_qual}
 use Rattle.cell_region.proofs.OwnRows.{Fits, stamp_fits}
 use Rattle.cell_region.proofs.region.RegionBody.stamp_counter.Goals as goal

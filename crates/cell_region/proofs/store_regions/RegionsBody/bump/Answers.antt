@@ -3,8 +3,8 @@ use Rattle.std.specs.Prelude.{nat_lt, cond}
 use Rattle.cell_model.specs.declared.events.Step.TheVariants.{Bump}
 use Rattle.cell_model.specs.declared.answers.Bumped.TheVariants.{Given, Full}
 use Rattle.cell_model.specs.Machine.{bump_reply, counter_row, greatest}
-use Rattle.cell_parts.specs.StoreParts.{is_in}
-use Rattle.cell_parts.proofs.CallerLemmas.{counter-part}
+use Rattle.cell_laws.specs.StoreParts.{is_in}
+use Rattle.cell_laws.proofs.PartLemmas.{counter-part}
 use Rattle.cell_region.specs.RegionLists.{store_of_all}
 use Rattle.cell_region.proofs.RegionSteps.{covered, part_here, still_complete, stepped}
 use Rattle.cell_model.specs.Store.{Store}

@@ -2,8 +2,8 @@ use Rattle.std.proofs.Common.{refl, ap, ◌∙◌}
 use Rattle.cell_model.specs.declared.events.Step.TheVariants.{Claim}
 use Rattle.cell_model.specs.Store.{Store, value_at}
 use Rattle.cell_model.specs.Machine.{claim_reply}
-use Rattle.cell_parts.specs.StoreParts.{is_in}
-use Rattle.cell_parts.proofs.CallerLemmas.{value-part}
+use Rattle.cell_laws.specs.StoreParts.{is_in}
+use Rattle.cell_laws.proofs.PartLemmas.{value-part}
 use Rattle.cell_region.specs.RegionLists.{store_of_all}
 use Rattle.cell_region.proofs.Answered.{answers, on_ok, on_err, still}
 use Rattle.cell_region.proofs.RegionSteps.{of_number, covered, part_here, still_complete, stepped, unchanged}

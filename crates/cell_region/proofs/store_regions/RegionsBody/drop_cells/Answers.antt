@@ -1,8 +1,8 @@
 use Rattle.std.proofs.Common.{ap, ◌∙◌}
 use Rattle.cell_model.specs.declared.events.Step.TheVariants.{DropCells}
 use Rattle.cell_model.specs.Store.{Store, drop_count}
-use Rattle.cell_parts.specs.StoreParts.{is_in}
-use Rattle.cell_parts.proofs.CallerLemmas.{drop_count-part}
+use Rattle.cell_laws.specs.StoreParts.{is_in}
+use Rattle.cell_laws.proofs.PartLemmas.{drop_count-part}
 use Rattle.cell_region.specs.RegionLists.{store_of_all}
 use Rattle.cell_region.proofs.RegionSteps.{of_number, covered, part_here, still_complete, stepped}
 use Rattle.cell_region.proofs.store_regions.RegionsBody.drop_cells.Goals as goal

@@ -2,8 +2,8 @@ use Rattle.std.proofs.Common.{ap, subst, sym, ◌∙◌}
 use Rattle.row_key.specs.declared.widths.Widths.{Widths}
 use Rattle.cell_model.specs.Ranges.{InOneRange}
 use Rattle.cell_model.specs.Store.{next_row_of}
-use Rattle.cell_parts.specs.StoreParts.{is_in}
-use Rattle.cell_parts.proofs.CallerLemmas.{next-part}
+use Rattle.cell_laws.specs.StoreParts.{is_in}
+use Rattle.cell_laws.proofs.PartLemmas.{next-part}
 use Rattle.cell_region.specs.DividedStore.{DividedStore}
 use Rattle.cell_region.specs.RegionLists.{store_of_all}
 use Rattle.cell_region.proofs.Answered.{answers}

@@ -1,7 +1,7 @@
 use Rattle.std.proofs.Common.{ap, ◌∙◌}
 use Rattle.cell_model.specs.Store.{cells_of}
-use Rattle.cell_parts.specs.StoreParts.{is_in}
-use Rattle.cell_parts.proofs.CallerLemmas.{cells-part}
+use Rattle.cell_laws.specs.StoreParts.{is_in}
+use Rattle.cell_laws.proofs.PartLemmas.{cells-part}
 use Rattle.cell_region.specs.RegionLists.{store_of_all}
 use Rattle.cell_region.proofs.Answered.{answers}
 use Rattle.cell_region.proofs.RegionSteps.{of_number, covered, part_here}

@@ -1,8 +1,8 @@
 use Rattle.std.proofs.Common.{sym, ap, ◌∙◌, refl, arith}
 use Rattle.cell_model.specs.Store.{Store, content_at}
 use Rattle.cell_model.specs.Machine.{counter_row, kind_qual}
-use Rattle.cell_parts.specs.StoreParts.{is_in}
-use Rattle.cell_parts.proofs.CallerLemmas.{content-part}
+use Rattle.cell_laws.specs.StoreParts.{is_in}
+use Rattle.cell_laws.proofs.PartLemmas.{content-part}
 use Rattle.cell_region.specs.RegionLists.{cells_in, store_of_all}
 use Rattle.cell_region.proofs.RegionSteps.{covered, part_here, still_complete, stamped_whole}
 use Rattle.cell_model.proofs.CallerLemmas.{stamped_widths}

@@ -6,8 +6,8 @@ use Rattle.cell_model.specs.Sound.{IsCounter}
 use Rattle.cell_model.specs.Store.{value_at}
 use Rattle.cell_model.specs.Machine.{counter_row}
 use Rattle.cell_model.specs.Counts.{counters_of, point_entries, point_rows}
-use Rattle.cell_parts.specs.StoreParts.{is_in}
-use Rattle.cell_parts.proofs.CallerLemmas.{counter-part, value-part}
+use Rattle.cell_laws.specs.StoreParts.{is_in}
+use Rattle.cell_laws.proofs.PartLemmas.{counter-part, value-part}
 use Rattle.cell_region.specs.declared.region.Region.{Region}
 use Rattle.cell_region.specs.declared.region.TheConstants.{MOST_CELLS}
 use Rattle.cell_region.specs.RegionLists.{cells_in, store_of_all}

@@ -1,3 +1,0 @@
-pub mod StoreParts
-pub mod Laws
-pub mod JoinedParts

@@ -1,5 +1,0 @@
-pub mod CallerLemmas
-mod EndLemmas
-mod HeadLemmas
-mod ReaderLemmas
-mod RequestLemmas

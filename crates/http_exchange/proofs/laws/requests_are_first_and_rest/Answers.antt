@@ -1,5 +1,0 @@
-use Rattle.http_exchange.proofs.RequestLemmas.{requests_step}
-use Rattle.http_exchange.proofs.laws.requests_are_first_and_rest.Goals as goal
-
-pub returns : goal.returns
-returns c = requests_step

@@ -1,0 +1,7 @@
+pub mod CallerLemmas
+mod EndLemmas
+mod HeadLemmas
+mod ReaderLemmas
+mod RequestLemmas
+mod BodyLemmas
+mod Literals

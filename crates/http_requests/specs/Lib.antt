@@ -1,0 +1,13 @@
+pub mod AwaitedBodies
+pub mod HeadEnds
+pub mod HeadFields
+pub mod HeadReader
+pub mod HeadSpans
+pub mod HeadSteps
+pub mod HttpHeads
+pub mod HttpRequests
+pub mod HttpSessions
+pub mod HttpUnread
+pub mod Forms
+pub mod JsonBodies
+pub mod Routes

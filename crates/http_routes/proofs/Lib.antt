@@ -1,2 +1,0 @@
-mod Literals
-pub mod CallerLemmas

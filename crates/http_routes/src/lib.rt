@@ -1,4 +1,0 @@
-//! The routes of HTTP requests.
-#![tactic(auto)]
-
-pub mod routes;

@@ -1,4 +1,0 @@
-//! JSON in the bodies of HTTP requests.
-#![tactic(auto)]
-
-pub mod json_body;

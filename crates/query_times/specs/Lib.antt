@@ -1,3 +1,0 @@
-pub mod CivilDates
-pub mod CivilMoments
-pub mod QueryTimes
