@@ -1,11 +1,11 @@
 -- What a caller has seen of the history, and which histories fit it.
-use Rattle.std.specs.Prelude.{◌≡◌, ◌≢◌, ℕ, ◌+◌, ◌<◌, ◌≤◌, ◌⊎◌, List, Contains, Some, Bool, true}
+use Rattle.std.specs.Prelude.{◌≡◌, ◌≢◌, ℕ, ◌+◌, ◌<◌, ◌≤◌, ◌⊎◌, List, Contains, Some, Bool, true, Result, Ok, Err}
 use Rattle.cell_model.specs.declared.events.Placed.{Placed}
 use Rattle.cell_model.specs.declared.events.Step.{Step}
 use Rattle.cell_model.specs.declared.events.Step.TheVariants.{Open, Read, NextRow, Bump, Claim, PutPoint, AppendPoint, PutMerged, DropCells}
 use Rattle.row_key.specs.declared.tables.Table.{Table}
 use Rattle.cell_model.specs.declared.answers.RowsFault.{RowsFault}
-use Rattle.cell_model.specs.Stops.{RoseIf, is_stop}
+use Rattle.cell_model.specs.Stops.{RoseIf, StandsIfNot, is_stop}
 use Rattle.cell_model.specs.declared.row.Row.{Row}
 use Rattle.qual_codec.specs.declared.cells.Cell.{Cell}
 use Rattle.cell_model.specs.declared.row.Found.{Found}
@@ -111,3 +111,8 @@ InEach s P = (h : History) → IsLawful h → Fits s h → P h
 -- a caller is stopped only where its count of stops rose
 abbrev pub RoseIfStopped : ℕ → ℕ → RowsFault → Type 0
 RoseIfStopped before now fault = RoseIf (is_stop fault) before now
+
+-- the count of stops stands, unless the answer is that the caller was stopped
+abbrev pub StandsIfUnstopped : {T : Type 0} → ℕ → ℕ → Result T RowsFault → Type 0
+StandsIfUnstopped before now (Ok answer) = now ≡ before
+StandsIfUnstopped before now (Err fault) = StandsIfNot (is_stop fault) before now

@@ -5,7 +5,7 @@ ghost use Rattle.tsd_io.specs.Causes.{Rose};
 ghost use Rattle.cell_model.specs.declared.events.Step.TheVariants.{Read, NextRow, Bump, Claim, PutPoint, AppendPoint, PutMerged, DropCells};
 ghost use Rattle.cell_model.specs.declared.events.Reply.TheVariants.{Shown, Next, BumpReply, ClaimReply, Written, Removed};
 ghost use Rattle.cell_model.specs.Ranges.{InOneRange};
-ghost use Rattle.cell_model.specs.Seen.{Seen, Waited, Stepped, IsPossible, Knows, RoseIfStopped};
+ghost use Rattle.cell_model.specs.Seen.{Seen, Waited, Stepped, IsPossible, Knows, RoseIfStopped, StandsIfUnstopped};
 
 use crate::answers::{Bumped, Claimed, RowsFault, Stopped};
 use crate::row::{Cells, Drops, Found, Row};
@@ -22,7 +22,7 @@ use tsd_base::points::Point;
 /// lawful history that fits what was seen.
 ///
 /// A step has to be known to be allowed, by what the caller has seen: `claim`, `put_point`, `append_point`, `put_merged` and `drop_cells` demand it.
-/// `Stopped` comes only where the count of stops rose.
+/// `Stopped` comes only where the count of stops rose. With each other answer the count stands.
 pub trait Rows {
     /// What this caller has seen, the base of the store included.
     ghost seen: { Self → Seen };
@@ -45,6 +45,7 @@ pub trait Rows {
         ensures lives { OnErr result (IsPossible (seen self.old) → IsPossible (seen self.new)) }
         ensures grows { stops self.old ≤ stops self.new }
         ensures stopped { IfErr result (RoseIfStopped (stops self.old) (stops self.new)) }
+        ensures stands { StandsIfUnstopped (stops self.old) (stops self.new) result }
         ensures spare { OnOk result (2 ≤ spare self.new) };
 
     /// The least row of the table from `from` on and below `to` that has a cell, with its cells. The range lies within one region.
@@ -62,6 +63,7 @@ pub trait Rows {
         ensures lives { OnErr result (IsPossible (seen self.old) → IsPossible (seen self.new)) }
         ensures grows { stops self.old ≤ stops self.new }
         ensures stopped { IfErr result (RoseIfStopped (stops self.old) (stops self.new)) }
+        ensures stands { StandsIfUnstopped (stops self.old) (stops self.new) result }
         ensures spare { OnOk result (2 ≤ spare self.new) };
 
     /// The next id of a kind. It takes no memory.
@@ -73,6 +75,7 @@ pub trait Rows {
         ensures lives { OnErr result (IsPossible (seen self.old) → IsPossible (seen self.new)) }
         ensures grows { stops self.old ≤ stops self.new }
         ensures stopped { OnErr result (Rose (stops self.old) (stops self.new)) }
+        ensures stands { OnOk result (stops self.new ≡ stops self.old) }
         ensures spare { spare self.old ≤ spare self.new + 1 };
 
     /// Writes a cell where none is; else answers the value that stands there, and writes nothing.
@@ -93,6 +96,7 @@ pub trait Rows {
         ensures lives { OnErr result (IsPossible (seen self.old) → IsPossible (seen self.new)) }
         ensures grows { stops self.old ≤ stops self.new }
         ensures stopped { IfErr result (RoseIfStopped (stops self.old) (stops self.new)) }
+        ensures stands { StandsIfUnstopped (stops self.old) (stops self.new) result }
         ensures spare { OnOk result (2 ≤ spare self.new) };
 
     /// Writes the cell of a point, over an older one too.
@@ -113,6 +117,7 @@ pub trait Rows {
         ensures lives { OnErr result (IsPossible (seen self.old) → IsPossible (seen self.new)) }
         ensures grows { stops self.old ≤ stops self.new }
         ensures stopped { IfErr result (RoseIfStopped (stops self.old) (stops self.new)) }
+        ensures stands { StandsIfUnstopped (stops self.old) (stops self.new) result }
         ensures spare { OnOk result (2 ≤ spare self.new) };
 
     /// Adds a point to the column of its row, behind what stands there.
@@ -133,6 +138,7 @@ pub trait Rows {
         ensures lives { OnErr result (IsPossible (seen self.old) → IsPossible (seen self.new)) }
         ensures grows { stops self.old ≤ stops self.new }
         ensures stopped { IfErr result (RoseIfStopped (stops self.old) (stops self.new)) }
+        ensures stands { StandsIfUnstopped (stops self.old) (stops self.new) result }
         ensures spare { OnOk result (2 ≤ spare self.new) };
 
     /// Writes a cell that merges others of its point row, over an older one too.
@@ -152,6 +158,7 @@ pub trait Rows {
         ensures lives { OnErr result (IsPossible (seen self.old) → IsPossible (seen self.new)) }
         ensures grows { stops self.old ≤ stops self.new }
         ensures stopped { IfErr result (RoseIfStopped (stops self.old) (stops self.new)) }
+        ensures stands { StandsIfUnstopped (stops self.old) (stops self.new) result }
         ensures spare { OnOk result (2 ≤ spare self.new) };
 
     /// Removes each cell that is named and has a version not above the one named, and answers how many. It needs no memory.
@@ -167,5 +174,6 @@ pub trait Rows {
         ensures lives { OnErr result (IsPossible (seen self.old) → IsPossible (seen self.new)) }
         ensures grows { stops self.old ≤ stops self.new }
         ensures stopped { OnErr result (Rose (stops self.old) (stops self.new)) }
+        ensures stands { OnOk result (stops self.new ≡ stops self.old) }
         ensures spare { spare self.old ≤ spare self.new + 1 };
 }

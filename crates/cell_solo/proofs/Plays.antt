@@ -20,7 +20,7 @@ use Rattle.cell_model.specs.History.History.{Base, Then}
 use Rattle.cell_model.specs.Lawful.{HasOpened, ClaimBasis}
 use Rattle.cell_model.specs.declared.answers.RowsFault.{RowsFault}
 use Rattle.cell_model.specs.declared.answers.RowsFault.TheVariants.{OutOfMemory}
-use Rattle.cell_model.specs.Seen.{Fits, Stepped, Waited, IsPossible, Knows, HasSeenOpening, RoseIfStopped}
+use Rattle.cell_model.specs.Seen.{Fits, Stepped, Waited, IsPossible, Knows, HasSeenOpening, RoseIfStopped, StandsIfUnstopped}
 use Rattle.cell_solo.specs.Turns.{Turn, opening, entry_of, entries_of, played, all_placed, whole_seen, Play, history_of, sight, IsPlay, IsPlayed, Steps, Stays}
 use Rattle.cell_laws.proofs.CallerLemmas.{base_widths, known_is_allowed, nothing_waited, bounded, entry_at-last, entry_at-more, claimed_name, Names_Ids, not_zero}
 use Rattle.list_lemmas.proofs.BoolTests.{not_Some, nat_eq_is}
@@ -221,6 +221,10 @@ lives_on old new is p = subst (λ (q : Play). IsPossible (sight q)) (sym is) p
 
 pub stopped_never : (fault : RowsFault) → fault ≡ OutOfMemory → RoseIfStopped 0 0 fault
 stopped_never fault is = subst (RoseIfStopped 0 0) (sym is) tt
+
+pub stands_never : {T : Type 0} (result : Result T RowsFault) → IfErr result (λ fault. fault ≡ OutOfMemory) → StandsIfUnstopped 0 0 result
+stands_never (Ok answer) memory = refl
+stands_never (Err fault) memory = subst (λ (f : RowsFault). StandsIfUnstopped {T = Unit {0}} 0 0 (Err f)) (sym memory) refl
 
 -- what holds of each outcome follows for it
 pub on_ok : {T E : Type 0} (r : Result T E) {P Q : Type 0} → (P → Q) → OnOk r P → OnOk r Q

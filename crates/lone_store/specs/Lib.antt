@@ -1,1 +1,2 @@
 pub mod LoneStores
+pub mod FusedRows

@@ -3,10 +3,10 @@ ghost use Rattle.std.specs.Prelude.{◌≡◌, IfOk, IfErr};
 ghost use Rattle.cell_solo.specs.Turns.{sight};
 ghost use Rattle.lone_store.specs.LoneStores.{IsFresh};
 
+use crate::Fused;
 use cell_model::Listing;
 use cell_region::{DATA_REGIONS, Regions};
 use cell_solo::Solo;
-use fused::Fused;
 use row_key::Widths;
 use std::alloc::{AllocError, Global};
 use tsd_io::halt::Halt;

@@ -83,6 +83,7 @@ impl<J: Beginning, N: NextDaemon> DaemonRows<J, N> {
         ensures possible { IsPossible (sight self.new.loom.play) }
         ensures grows { self.old.stops ≤ self.new.stops }
         ensures stopped { OnErr result (Rose self.old.stops self.new.stops) }
+        ensures stands { OnOk result (self.new.stops ≡ self.old.stops) }
         ensures room { OnOk result (1 ≤ self.new.loom.room) }
     {
         let Some((loom, next)) = self.inner.take() else {

@@ -1,5 +1,5 @@
 use Rattle.std.proofs.Common.{arith}
-use Rattle.cell_solo.proofs.Plays.{stayed, lives_on, stopped_never, on_ok, if_err}
+use Rattle.cell_solo.proofs.Plays.{stayed, lives_on, stopped_never, stands_never, on_ok, if_err}
 use Rattle.cell_solo.proofs.solo.SoloRows.TheImpl.Goals as goal
 
 pub put_point-tells : goal.put_point-tells
@@ -10,6 +10,7 @@ put_point-tells = λ g c. record {
   lives = if_err c.result (λ e. lives_on c.args.self.now c.new.self.now) c.ensures.stays;
   grows = omega arith;
   stopped = if_err c.result stopped_never c.ensures.memory;
+  stands = stands_never c.result c.ensures.memory;
   spare = on_ok c.result (λ eight. omega (arith, eight)) c.ensures.room;
 }
 
@@ -21,5 +22,6 @@ append_point-tells = λ g c. record {
   lives = if_err c.result (λ e. lives_on c.args.self.now c.new.self.now) c.ensures.stays;
   grows = omega arith;
   stopped = if_err c.result stopped_never c.ensures.memory;
+  stands = stands_never c.result c.ensures.memory;
   spare = on_ok c.result (λ eight. omega (arith, eight)) c.ensures.room;
 }

@@ -7,7 +7,7 @@ ghost use Rattle.cell_model.specs.declared.events.Step.TheVariants.{Read, NextRo
 ghost use Rattle.cell_model.specs.declared.events.Reply.TheVariants.{Shown, Next, BumpReply, ClaimReply, Written, Removed};
 ghost use Rattle.cell_model.specs.Ranges.{InOneRange};
 ghost use Rattle.cell_model.specs.Seen.{Waited, Stepped, IsPossible, Knows, RoseIfStopped};
-ghost use Rattle.fused.specs.FusedRows.{FusedRows, AsksOnce};
+ghost use Rattle.lone_store.specs.FusedRows.{FusedRows, AsksOnce};
 
 use cell_model::answers::{Bumped, Claimed, RowsFault, Stopped};
 use cell_model::row::{Cells, Drops, Found, Row};
@@ -31,7 +31,7 @@ pub struct Fused<R: Rows + Drop, H: Halt + Drop> {
 }
 
 impl<R: Rows + Drop, H: Halt + Drop> Model for Fused<R, H> {
-    ghost use Rattle.fused.specs.FusedRows.{FusedRows};
+    ghost use Rattle.lone_store.specs.FusedRows.{FusedRows};
 
     ghost Value = { FusedRows R H };
 

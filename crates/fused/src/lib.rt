@@ -1,6 +1,0 @@
-//! Rows whose steps may be refused.
-#![tactic(auto)]
-
-mod fused;
-
-pub use fused::Fused;
