@@ -1,5 +1,5 @@
 -- Values under the texts of their times, and the order of these texts.
-use Rattle.std.proofs.Common.{◌≡◌, ℕ, ◌+◌, ◌<◌, ◌≤◌, true, false, Bool, List, [], ◌∷◌, length, get_or, drop, refl, sym, ap, subst, ◌∙◌, add-one, drop-cons, arith}
+use Rattle.std.proofs.Common.{◌≡◌, ℕ, ◌+◌, ◌<◌, ◌≤◌, false, Bool, List, [], ◌∷◌, length, get_or, drop, refl, sym, ap, subst, ◌∙◌, add-one, drop-cons, arith}
 use Rattle.std.specs.Prelude.{ℤ}
 use Rattle.std.specs.declared.cmp.Ordering.{Ordering}
 use Rattle.std.specs.declared.cmp.Ordering.TheVariants.{Less, Equal, Greater}
@@ -54,41 +54,21 @@ greater Less e = cc
 greater Equal e = cc
 greater Greater e = refl
 
--- a text that is not above the last one
-not_below : (last text : List ℕ) → true ≡ is_le (bytes_cmp text last) → bytes_cmp last text ≡ Less → ⊥
-not_below last text low below =
-    let above : bytes_cmp text last ≡ Greater = nat_list_cmp_total.antisymm text last ∙ ap ordering_reverse below in
-    contradiction (bytes_cmp text last) low above where
-      contradiction : (order : Ordering) → true ≡ is_le order → order ≡ Greater → ⊥
-      contradiction Less e f = cc
-      contradiction Equal e f = cc
-      contradiction Greater e f = cc
+-- if the texts to come rise from a last one, all rise
+abbrev pub RisesOn : Bool → List (ℕ × ℤ) → List ℕ → List (ℕ × ℤ) → Type 0
+RisesOn ms dots last rest = Rise (last ∷ texts_of ms rest) → Rise (texts_of ms dots)
 
--- the texts from a last one on rise where all do
-abbrev pub RiseOn : Bool → List (ℕ × ℤ) → List ℕ → List (ℕ × ℤ) → Type 0
-RiseOn ms dots last rest = (Rise (last ∷ texts_of ms rest) → Rise (texts_of ms dots)) × (Rise (texts_of ms dots) → Rise (last ∷ texts_of ms rest))
+pub rises_first : (ms : Bool) (dots : List (ℕ × ℤ)) → RisesOn ms dots [] dots
+rises_first ms [] rise = tt
+rises_first ms (dot ∷ dots) rise = rise.1
 
-pub rise_start : (ms : Bool) (dots rest : List (ℕ × ℤ)) (first : ℕ × ℤ) (last : List ℕ) → dots ≡ first ∷ rest → last ≡ time_text ms first.0 → RiseOn ms dots last rest
-rise_start ms dots rest first last dots_is last_is =
-    let same : last ∷ texts_of ms rest ≡ texts_of ms dots = ap (λ t. t ∷ texts_of ms rest) last_is ∙ sym (ap (texts_of ms) dots_is) in
-    (subst Rise same, subst Rise (sym same))
-
-module _ (ms : Bool) (dots rest : List (ℕ × ℤ)) (last text : List ℕ) (i : ℕ) (none : ℕ × ℤ) (within : i < length rest) (text_is : text ≡ time_text ms (get_or rest i none).0) (so_far : RiseOn ms dots last (drop i rest)) where
-  left : texts_of ms (drop i rest) ≡ text ∷ texts_of ms (drop (i + 1) rest)
-  left = ap (texts_of ms) (drop-cons rest i none within ∙ ap (λ n. get_or rest i none ∷ drop n rest) (sym (add-one i))) ∙ ap (λ t. t ∷ texts_of ms (drop (i + 1) rest)) (sym text_is)
-
-  -- one more text is above the last one
-  pub rise_more : false ≡ is_le (bytes_cmp text last) → RiseOn ms dots text (drop (i + 1) rest)
-  rise_more above =
-      let below : bytes_cmp last text ≡ Less = nat_list_cmp_total.antisymm last text ∙ ap ordering_reverse (greater (bytes_cmp text last) above) in (
-        λ rise. so_far.0 (subst (λ (texts : List (List ℕ)). Rise (last ∷ texts)) (sym left) (below, rise)),
-        λ rise. (subst (λ (texts : List (List ℕ)). Rise (last ∷ texts)) left (so_far.1 rise)).1,
-      )
-
-  -- one is not
-  pub rise_not : true ≡ is_le (bytes_cmp text last) → Rise (texts_of ms dots) → ⊥
-  rise_not low rise = not_below last text low (subst (λ (texts : List (List ℕ)). Rise (last ∷ texts)) left (so_far.1 rise)).0
+-- one more text is above the last one
+pub rises_more : (ms : Bool) (dots all : List (ℕ × ℤ)) (last text : List ℕ) (i : ℕ) (none : ℕ × ℤ) → i < length all → text ≡ time_text ms (get_or all i none).0 → RisesOn ms dots last (drop i all) → false ≡ is_le (bytes_cmp text last) → RisesOn ms dots text (drop (i + 1) all)
+rises_more ms dots all last text i none within text_is so_far above rise =
+    let left : texts_of ms (drop i all) ≡ text ∷ texts_of ms (drop (i + 1) all) = ap (texts_of ms) (drop-cons all i none within ∙ ap (λ n. get_or all i none ∷ drop n all) (sym (add-one i))) ∙ ap (λ t. t ∷ texts_of ms (drop (i + 1) all)) (sym text_is) in
+    let below : bytes_cmp last text ≡ Less = nat_list_cmp_total.antisymm last text ∙ ap ordering_reverse (greater (bytes_cmp text last) above) in
+    so_far (subst (λ (texts : List (List ℕ)). Rise (last ∷ texts)) (sym left) (below, rise))
 
 -- no text is left
-pub rise_all : (ms : Bool) (dots rest : List (ℕ × ℤ)) (last : List ℕ) (i : ℕ) → length rest ≤ i → RiseOn ms dots last (drop i rest) → Rise (texts_of ms dots)
-rise_all ms dots rest last i end so_far = so_far.0 (subst (λ (left : List (ℕ × ℤ)). Rise (last ∷ texts_of ms left)) (sym (drop_all i rest end)) tt)
+pub rises_all : (ms : Bool) (dots all : List (ℕ × ℤ)) (last : List ℕ) (i : ℕ) → length all ≤ i → RisesOn ms dots last (drop i all) → Rise (texts_of ms dots)
+rises_all ms dots all last i end so_far = so_far (subst (λ (left : List (ℕ × ℤ)). Rise (last ∷ texts_of ms left)) (sym (drop_all i all end)) tt)

@@ -1,10 +1,10 @@
 //! The parts of a reply's text, each appended to what was written.
-ghost use Rattle.std.specs.Prelude.{◌≡◌, ◌==◌, ◌++◌, [], ◌∷◌, map, OnOk, if◌then◌else◌};
+ghost use Rattle.std.specs.Prelude.{◌≡◌, ◌==◌, ◌++◌, ℕ, List, true, [], ◌∷◌, map, IfOk, OnOk, if◌then◌else◌};
 ghost use Rattle.json_reply.specs.Replies.{group_text, plain};
-ghost use Rattle.json_reply.specs.Texts.{dot_text, keyed, listed, quoted, tag_text, under_texts};
+ghost use Rattle.json_reply.specs.Texts.{dot_text, keyed, listed, quoted, tag_text};
 
 use crate::reply::Group;
-use crate::time_text::{is_in_text_order, keyed, time_text};
+use crate::time_text::{keyed, time_text};
 use itoa::Buffer;
 use short_bytes::short::Bytes;
 use std::alloc::{AllocError, Global};
@@ -95,26 +95,35 @@ fn write_dots(alloc: Global, out: &mut Vec<u8>, ms: bool, dots: &Dots) -> Result
     ensures { OnOk result (out.new.items ≡ out.old.items ++ listed (map dot_text (keyed ms dots.now))) }
 {
     let dots = dots.list();
-    if is_in_text_order(alloc, ms, dots)? {
-        write_in_order(alloc, out, ms, dots)
-    } else {
-        write_entries(out, &keyed(alloc, ms, dots)?)
+    let start = out.len();
+    if write_rising(alloc, out, ms, dots)? {
+        return Ok(());
     }
+    out.truncate(start);
+    write_entries(out, &keyed(alloc, ms, dots)?)
 }
 
-fn write_in_order(
+/// Appends values under their times as they come, and answers whether the times' texts rose. It stops before the first that doesn't.
+fn write_rising(
     alloc: Global,
     out: &mut Vec<u8>,
     ms: bool,
     dots: &[(u64, i64)],
-) -> Result<(), AllocError>
-    ensures { OnOk result (out.new.items ≡ out.old.items ++ listed (map dot_text (under_texts ms dots.now))) }
+) -> Result<bool, AllocError>
+    ensures all { IfOk result (λ rose. rose ≡ true → out.new.items ≡ out.old.items ++ listed (map dot_text (keyed ms dots.now))) }
+    ensures some { OnOk result ((more : List ℕ) × (out.new.items ≡ out.old.items ++ more)) }
 {
+    let mut last = Bytes::none();
     for (index, (time, value)) in dots.iter().enumerate() {
+        let text = time_text(alloc, ms, *time)?;
+        if text <= last {
+            return Ok(false);
+        }
         write_comma(out, index)?;
-        write_dot(out, &time_text(alloc, ms, *time)?, *value)?;
+        write_dot(out, &text, *value)?;
+        last = text;
     }
-    Ok(())
+    Ok(true)
 }
 
 fn write_entries(out: &mut Vec<u8>, keyed: &BTreeMap<Bytes, i64>) -> Result<(), AllocError>
