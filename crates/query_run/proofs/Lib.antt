@@ -21,6 +21,7 @@ mod AnyOf
 mod Keys
 mod Members
 mod Lists
+mod Finishing
 mod GroupLemmas
 mod SeriesLemmas
 mod Unordered

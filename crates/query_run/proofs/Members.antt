@@ -15,7 +15,7 @@ use Rattle.group_by.specs.TagFilters.{group_key}
 use Rattle.query_run.specs.declared.named_series.Series.{Series}
 use Rattle.query_run.specs.QueryAnswers.{group_keys}
 use Rattle.query_run.specs.SeriesGroups.{members, held, AddsMember, AreGroups}
-use Rattle.query_run.specs.NamedSeries.{tags_in}
+use Rattle.query_run.specs.KeptSeries.{tags_kept}
 use Rattle.query_run.proofs.Keys.{group_keys_are}
 
 abbrev Groups : Type 0
@@ -72,12 +72,12 @@ any_held (e ∷ es) q = at (eq_by_cmp tags_cmp q e.0) (any_held es q)
     at true go = refl
     at false go = go
 
-any_member : (s : Sub) (series : List Series) (q : List Pair) → is_some (some_of (members s series q)) ≡ list_any (λ t. is_same_tags (group_key s t) q) (tags_in series)
+any_member : (s : Sub) (series : List Series) (q : List Pair) → is_some (some_of (members s series q)) ≡ list_any (λ t. is_same_tags (group_key s t) q) (tags_kept series)
 any_member s [] q = refl
 any_member s (x ∷ series) q = at (is_same_tags (group_key s x.tags) q) (any_member s series q)
   where
-    at : (b : Bool) → is_some (some_of (members s series q)) ≡ list_any (λ t. is_same_tags (group_key s t) q) (tags_in series)
-        → is_some (some_of (cond b (x ∷ members s series q) (members s series q))) ≡ (b || list_any (λ t. is_same_tags (group_key s t) q) (tags_in series))
+    at : (b : Bool) → is_some (some_of (members s series q)) ≡ list_any (λ t. is_same_tags (group_key s t) q) (tags_kept series)
+        → is_some (some_of (cond b (x ∷ members s series q) (members s series q))) ≡ (b || list_any (λ t. is_same_tags (group_key s t) q) (tags_kept series))
     at true go = refl
     at false go = go
 
@@ -113,8 +113,8 @@ held_all s all groups rest none ordered h =
     each : (q : List Pair) → held groups q ≡ some_of (members s all q)
     each q = h.each q ∙ ap (λ l. some_of (members s l q)) done
 
-    keys : group_keys s (tags_in all) ≡ keys_of groups.entries
-    keys = group_keys_are s (tags_in all) (keys_of groups.entries) ordered (λ q. sym (any_member s all q) ∙ ap is_some (sym (each q)) ∙ any_held groups.entries q)
+    keys : group_keys s (tags_kept all) ≡ keys_of groups.entries
+    keys = group_keys_are s (tags_kept all) (keys_of groups.entries) ordered (λ q. sym (any_member s all q) ∙ ap is_some (sym (each q)) ∙ any_held groups.entries q)
 
 -- ---- one more in the map
 

@@ -1,10 +1,9 @@
 -- One sub query: what is said of it, by what its steps say.
-use Rattle.std.proofs.Common.{◌≡◌, ℕ, ◌<◌, ◌≤◌, ◌^◌, Bool, true, false, List, [], ◌∷◌, ◌++◌, length, refl, sym, ap, subst, ◌∙◌, arith}
-use Rattle.std.specs.Prelude.{ℤ, Contains, Option, None, Some, Result, Ok, Err, map, nat_lt, if◌then◌else◌}
+use Rattle.std.proofs.Common.{◌≡◌, ℕ, ◌≤◌, Bool, true, false, List, [], ◌∷◌, ◌++◌, length, refl, sym, ap, subst, ◌∙◌, arith}
+use Rattle.std.specs.Prelude.{ℤ, Contains, IfSome, Option, None, Some, Result, Ok, Err, map, nat_lt, if◌then◌else◌}
 use Rattle.std.specs.Global.{Vec}
 use Rattle.std.specs.List.{flat_map}
 use Rattle.std.proofs.lemmas.List.Elements.{Contains-append_right}
-use Rattle.tsd_base.specs.declared.times.TheConstants.{LAST_TIME}
 use Rattle.tsd_base.specs.declared.kinds.Kind.{Kind}
 use Rattle.tsd_base.specs.declared.kinds.Kind.TheVariants.{Metric}
 use Rattle.tsd_base.specs.declared.kinds.Fill.{Fill}
@@ -31,23 +30,28 @@ use Rattle.cell_model.specs.Deeds.{Made, Extends, InOrder}
 use Rattle.uid_table.specs.Shown.{HasShown}
 use Rattle.row_scan.specs.Laws.{ScanCovers}
 use Rattle.row_scan.specs.Scans.{HasCell, IsStart}
-use Rattle.span_merge.specs.Spans.{Span}
+use Rattle.tsd_base.specs.declared.kinds.Down.{Down}
+use Rattle.span_merge.specs.Spans.{Span, KeepsSpans}
+use Rattle.query_run.specs.declared.collection.Collected.{Collected}
 use Rattle.downsample.specs.Buckets.{all_buckets}
 use Rattle.query_run.specs.declared.fault.AskFault.{AskFault}
 use Rattle.query_run.specs.declared.fault.AskFault.TheVariants.{TooManyBuckets, Unknown, Duplicate, Overflow, OutOfMemory, Stopped}
 use Rattle.query_run.specs.declared.id_filter.IdFilter.{IdFilter}
-use Rattle.query_run.specs.declared.named_series.Series.{Series}
-use Rattle.query_run.specs.QueryAnswers.{answer}
+use Rattle.query_run.specs.NamedSeries.{Series}
+use Rattle.query_run.specs.QueryAnswers.{answer, down_by}
 use Rattle.query_run.specs.NamedSeries.{points_in}
 use Rattle.query_run.specs.Parts.{NameOf, Part, AreQuerySteps, AllResolved, PartStands, FirstUnknown}
 use Rattle.query_run.specs.Asked.{Cause}
 use Rattle.query_run.specs.IdFilters.{AreIdFilters, passes}
 use Rattle.query_run.specs.AskedQueries.{wanted, filter_names, names_in, too_many, barred_by, barred_down, barred, answer_over, IsFew}
-use Rattle.query_run.specs.RowNames.{IdOf, Names, ids_of}
-use Rattle.query_run.specs.Collection.{Picks, KeyOf, Gathered, Counted, HasCollected, WasCut, FoundConflict, ConflictOf}
+use Rattle.query_run.specs.RowNames.{IdOf, Names, ids_of, known}
+use Rattle.query_run.specs.Collection.{Picks, KeyOf, Gathered, Counted, HasCollected, KeepsCollected, WasCut, FoundConflict, ConflictOf}
 use Rattle.query_run.specs.ResolvedIds.{AreResolved, IsUnresolved, UnresolvedBy}
 use Rattle.query_run.specs.SeriesTags.{ArePairs, CanTitle, Titles}
-use Rattle.query_run.specs.SubQuery.{GroupsSay, Later, SubRefused, SubSays}
+use Rattle.cell_model.specs.Stops.{CountsStops}
+use Rattle.query_run.specs.AskFaults.{is_stop}
+use Rattle.query_run.specs.SeriesGroups.{IsDown}
+use Rattle.query_run.specs.SubQuery.{AreCollected, GroupsSay, Later, SubRefused, SubSays}
 use Rattle.query_run.proofs.Lower as lower
 use Rattle.query_run.proofs.ScanLoop.{steps_joined, reads_steps}
 use Rattle.query_run.proofs.Shown.{readings_in, as_points}
@@ -282,14 +286,23 @@ pairs_titled picks widths id start end founds spans names g s c = at s.1 refl (g
           named = λ i x. (row.is_in (subst (λ (k : RowKey). picks k.pairs.items ≡ true) (sym same) w.picked)).named i (subst (λ (k : RowKey). Contains (ids_of k.pairs.items) i) (sym same) x);
         })
 
-pub can_title : (picks : Picks) (id start end : ℕ) (old new : Seen) (spans : List Span) (names : Names) → HasCollected picks id start end old spans names new → IsPossible new → CanTitle names spans
+can_title : (picks : Picks) (id start end : ℕ) (old new : Seen) (spans : List Span) (names : Names) → HasCollected picks id start end old spans names new → IsPossible new → CanTitle names spans
 can_title picks id start end old new spans names c p = record {
   one = one_to_one names new p.history c.shown p.lawful p.fits;
   each = pairs_titled picks old.base.widths id start end c.founds spans names c.content;
 }
 
-pub times_small : (picks : Picks) (id start end : ℕ) (old new : Seen) (spans : List Span) (names : Names) → end ≤ LAST_TIME → HasCollected picks id start end old spans names new → (s : Span) (d : ℕ × ℤ) → Contains spans s → Contains s.1 d → d.0 < 2 ^ 43
-times_small picks id start end old new spans names most c s d i j = let w = (c.content.from s d i j).within in let high = w.1 in omega (arith, high, most)
+pub some_interval : (how : Option Down) (start end : ℕ) → IfSome how (IsDown start end) → IfSome how (λ d. 1 ≤ d.interval)
+some_interval (Some down) start end can = can.some
+some_interval None start end can = tt
+
+pub are_collected : (picks : Picks) (how : Option Down) (q : Query) (s : Sub) (id : ℕ) (old new : Seen) (c : Collected) → how ≡ down_by q.ms s.how s.down → (k : KeepsCollected picks how id q.start q.end old c new) → IsPossible new → AreCollected q s c k.spans
+are_collected picks how q s id old new c is k p = record {
+  keeps = subst (λ (h : Option Down). KeepsSpans h c.spans k.spans) is k.keeps;
+  names = can_title picks id q.start q.end old new k.spans (known c.names) k.collected p;
+  some = k.collected.content.some;
+  within = λ x d i j. (k.collected.content.from x d i j).within;
+}
 
 -- the part of a sub query that was read to its end
 module _ (q : Query) (s : Sub) (old mid new : Seen) (id : ℕ) (filters : List IdFilter) (free : barred q s ≡ None) (spans : List Span) (names : Names) (covering : ScanCovers) (c : HasCollected (passes filters) id q.start q.end mid spans names new) (b : Begun s id filters old mid new c.own) where
@@ -341,3 +354,13 @@ module _ (q : Query) (s : Sub) (old mid new : Seen) (id : ℕ) (filters : List I
   groups_answered (Err (TooManyBuckets count)) x = absurd x
   groups_answered (Err (Unknown kind name)) x = absurd x
   groups_answered (Err (Duplicate time a z)) x = absurd x
+
+-- a stop is told by no group
+pub groups_stops : (q : Query) (s : Sub) (names : Names) (spans : List Span) (result : Result (Vec code.Group) AskFault) (before now : ℕ) → GroupsSay q s names spans result → before ≤ now → CountsStops is_stop result before now
+groups_stops q s names spans (Ok groups) before now says grows = record { grows = grows; rose = tt }
+groups_stops q s names spans (Err (Overflow time)) before now says grows = record { grows = grows; rose = tt }
+groups_stops q s names spans (Err OutOfMemory) before now says grows = record { grows = grows; rose = tt }
+groups_stops q s names spans (Err Stopped) before now says grows = absurd says
+groups_stops q s names spans (Err (TooManyBuckets count)) before now says grows = absurd says
+groups_stops q s names spans (Err (Unknown kind name)) before now says grows = absurd says
+groups_stops q s names spans (Err (Duplicate time a z)) before now says grows = absurd says

@@ -20,7 +20,8 @@ use Rattle.list_lemmas.specs.BytesOrder.{bytes_cmp}
 use Rattle.cell_model.specs.Seen.{Seen, IsPossible}
 use Rattle.cell_model.specs.Deeds.{Made}
 use Rattle.row_scan.specs.Scans.{Left, IsNext, IsStart, IsOther, AreOther, IsWanted, TurnMade, MadeSo, Skips, left_at, behind}
-use Rattle.span_merge.specs.Spans.{Span}
+use Rattle.tsd_base.specs.declared.kinds.Down.{Down}
+use Rattle.span_merge.specs.Spans.{Span, KeptSpan, KeepsSpans}
 use Rattle.query_run.specs.declared.fault.AskFault.{AskFault}
 use Rattle.query_run.specs.declared.fault.AskFault.TheVariants.{TooManyBuckets, Unknown, Duplicate, Overflow, OutOfMemory, Stopped}
 use Rattle.query_run.specs.declared.collection.Collected.{Collected}
@@ -185,10 +186,17 @@ pub starts_there : (widths base : Widths) (id first last : ℕ) (left : Left) �
 starts_there widths base id first last left same small starts = subst (λ (w : Widths). IsStart w id first last left) same (starts (subst (λ (w : Widths). id ≤ most_ids w.metric) (sym same) small))
 
 -- what is said of a row with the widths of the scan is said with those that are seen
-pub asked_there : (picks : Picks) (widths base : Widths) (id start end : ℕ) (f : Found) (s t : Seen) (before after : Collected) (result : Result (Unit {0}) AskFault) → widths ≡ base → FoundRow s base id start end f
-    → ((metric : ℕ) → FoundRow s widths metric start end f → RowAsked picks widths metric start end f s before result t after) → RowAsked picks base id start end f s before result t after
-asked_there picks widths base id start end f s t before after result same row asked =
-    subst (λ (w : Widths). RowAsked picks w id start end f s before result t after) same (asked id (subst (λ (w : Widths). FoundRow s w id start end f) (sym same) row))
+pub asked_there : (picks : Picks) (how : Option Down) (widths base : Widths) (id start end : ℕ) (f : Found) (s t : Seen) (kept : List KeptSpan) (spans : List Span) (names : Names) (after : Collected) (result : Result (Unit {0}) AskFault) → widths ≡ base → FoundRow s base id start end f → KeepsSpans how kept spans → StandsBehind base spans f
+    → ((metric : ℕ) (series : List Span) → FoundRow s widths metric start end f → KeepsSpans how kept series → StandsBehind widths series f → RowAsked picks how widths metric start end f s series names result t after) → RowAsked picks how base id start end f s spans names result t after
+asked_there picks how widths base id start end f s t kept spans names after result same row keeps stands asked =
+    subst (λ (w : Widths). RowAsked picks how w id start end f s spans names result t after) same
+    (asked id spans (subst (λ (w : Widths). FoundRow s w id start end f) (sym same) row) keeps (subst (λ (w : Widths). StandsBehind w spans f) (sym same) stands))
+
+-- so it is of what was collected, which is kept of these series
+pub record Collecting (picks : Picks) (how : Option Down) (id start end : ℕ) (left : Left) (old : Seen) (c : Collected) (now : Seen) : Type 0 where
+  pub spans : List Span
+  pub keeps : KeepsSpans how c.spans spans
+  pub far : SoFar picks id start end left old spans (known c.names) now
 
 -- a row that a turn found
 pub record Turned (picks : Picks) (old now next : Seen) (id start end : ℕ) (left : Left) (spans : List Span) (names : Names) (f : Found) : Type 0 where
@@ -313,13 +321,13 @@ module _ (picks : Picks) (old now next : Seen) (id start end : ℕ) (left : Left
       }
 
   -- it was refused
-  pub turn_fails : (after : Seen) (before now_collected : Collected) (fault : AskFault) → known before.names ≡ names → RowAsked picks old.base.widths id start end f next before (Err fault) after now_collected → WasCut picks id start end old fault after
-  turn_fails after before coll (Duplicate time a b) same (made, r) = conflict_of after time a b made r
-  turn_fails after before coll OutOfMemory same r = no_memory_for after OutOfMemory (λ own. tt) (subst (λ (n : Names). RowCut old.base.widths id start end f next n after) same r)
-  turn_fails after before coll Stopped same r = no_memory_for after Stopped (λ own. tt) (subst (λ (n : Names). RowCut old.base.widths id start end f next n after) same r)
-  turn_fails after before coll (TooManyBuckets count) same r = absurd r
-  turn_fails after before coll (Unknown kind name) same r = absurd r
-  turn_fails after before coll (Overflow time) same r = absurd r
+  pub turn_fails : (how : Option Down) (after : Seen) (now_collected : Collected) (fault : AskFault) → RowAsked picks how old.base.widths id start end f next spans names (Err fault) after now_collected → WasCut picks id start end old fault after
+  turn_fails how after coll (Duplicate time a b) (made, r) = conflict_of after time a b made r
+  turn_fails how after coll OutOfMemory r = no_memory_for after OutOfMemory (λ own. tt) r
+  turn_fails how after coll Stopped r = no_memory_for after Stopped (λ own. tt) r
+  turn_fails how after coll (TooManyBuckets count) r = absurd r
+  turn_fails how after coll (Unknown kind name) r = absurd r
+  turn_fails how after coll (Overflow time) r = absurd r
 
 -- ---- it goes on further, since no row in between is asked for
 

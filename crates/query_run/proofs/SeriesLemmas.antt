@@ -1,13 +1,14 @@
 -- The points of series that rise by their tags, and the groups of them.
 use Rattle.std.proofs.Common.{◌≡◌, zero, suc, ℕ, ◌≤◌, ℤ, Bool, true, false, cond, ◌||◌, List, [], ◌∷◌, ◌++◌, length, map, Less, refl, sym, ap, subst, ◌∙◌, append-nil, arith}
-use Rattle.std.specs.Prelude.{All, Contains, filter}
+use Rattle.std.specs.Prelude.{All, Contains, Result, filter}
+use Rattle.json_reply.specs.Replies.{Group}
 use Rattle.std.specs.List.{AllByRecursion, list_any}
 use Rattle.std.specs.List.Sorted.{IsStrictlySortedBy}
 use Rattle.std.specs.Ordering.{eq_by_cmp, is_eq}
-use Rattle.std.proofs.lemmas.List.{map-append}
+use Rattle.std.proofs.lemmas.List.{map-append, length-map}
 use Rattle.std.proofs.lemmas.List.Elements.{filter-append, filter_agree, All-filter, All-head, All-tail}
 use Rattle.std.proofs.lemmas.List.Folds.{list_any-append}
-use Rattle.query_run.proofs.Lower.{pairs_tail, map_in}
+use Rattle.query_run.proofs.Lower.{pairs_tail, map_in, in_map}
 use Rattle.tsd_base.specs.declared.kinds.Aggregator.{Aggregator}
 use Rattle.tsd_base.specs.declared.kinds.Aggregator.TheVariants.{NoneOf}
 use Rattle.tsd_base.specs.Points.{DataPoint}
@@ -18,11 +19,20 @@ use Rattle.query_text.specs.declared.queries.Query.{Query}
 use Rattle.query_text.specs.declared.queries.Sub.{Sub}
 use Rattle.group_by.specs.TagFilters.{group_key, has_grouping, is_grouped, is_none}
 use Rattle.query_run.specs.QueryAnswers.{answer, all_groups, group_answer, group_from, group_keys, groups_in}
-use Rattle.query_run.specs.SeriesGroups.{group_with, members, members_in}
-use Rattle.query_run.specs.NamedSeries.{tags_in, dots_in, points_with, points_in, AreEarly, RiseByTags, HavePoints, HaveTimes}
-use Rattle.query_run.specs.declared.named_series.Series.{Series}
+use Rattle.query_run.specs.SeriesGroups as groups
+use Rattle.query_run.specs.KeptSeries.{PointsOf, tags_kept, dots_kept, with_points, all_with_points}
+use Rattle.query_run.specs.declared.named_series.Series as kept
+use Rattle.query_run.specs.NamedSeries.{points_with, points_in, RiseByTags, HavePoints}
+use Rattle.query_run.specs.NamedSeries.{Series}
 use Rattle.query_run.proofs.Keys.{series_are, group_key_from}
 use Rattle.query_run.proofs.AnyOf.{in_any}
+
+-- the tags of series, and their points
+abbrev tags_in : List Series → List (List Pair)
+tags_in series = map (λ s. s.tags) series
+
+abbrev dots_in : List Series → List (List (ℕ × ℤ))
+dots_in series = map (λ s. s.dots) series
 
 -- ---- the points of one series
 dots-append : (ps qs : List DataPoint) (t : List Pair) → dots_of (ps ++ qs) t ≡ dots_of ps t ++ dots_of qs t
@@ -125,6 +135,15 @@ module _ (metric : List ℕ) where
 
 -- ---- groups
 
+abbrev members : Sub → List Series → List Pair → List Series
+members s series key = filter (λ one. is_same_tags (group_key s one.tags) key) series
+
+abbrev members_in : Sub → List Series → List (List Series)
+members_in s series = map (members s series) (group_keys s (tags_in series))
+
+abbrev group_with : Query → Sub → List Series → Result Group ℕ
+group_with q s series = group_from q s (tags_in series) (dots_in series)
+
 all_lists : (points : List DataPoint) (series : List Series) → AllByRecursion (λ (s : Series). dots_of points s.tags ≡ s.dots) series → map (dots_of points) (tags_in series) ≡ dots_in series
 all_lists points [] own = refl
 all_lists points (s ∷ series) own = λ i. own.0 i ∷ all_lists points series own.1 i
@@ -137,9 +156,9 @@ own_kept p points (s ∷ series) own = at (p s) (own_kept p points series own.1)
     at true rest = (own.0, rest)
     at false rest = rest
 
-tags_kept : (p : List Pair → Bool) (series : List Series) → filter p (tags_in series) ≡ tags_in (filter (λ (s : Series). p s.tags) series)
-tags_kept p [] = refl
-tags_kept p (s ∷ series) = at (p s.tags) (tags_kept p series)
+tags_filtered : (p : List Pair → Bool) (series : List Series) → filter p (tags_in series) ≡ tags_in (filter (λ (s : Series). p s.tags) series)
+tags_filtered p [] = refl
+tags_filtered p (s ∷ series) = at (p s.tags) (tags_filtered p series)
   where
     at : (b : Bool) → filter p (tags_in series) ≡ tags_in (filter (λ (s : Series). p s.tags) series)
         → cond b (s.tags ∷ filter p (tags_in series)) (filter p (tags_in series)) ≡ tags_in (cond b (s ∷ filter (λ (s : Series). p s.tags) series) (filter (λ (s : Series). p s.tags) series))
@@ -152,7 +171,7 @@ module _ (q : Query) (s : Sub) (series : List Series) where
 
   one_group : AllByRecursion (λ (o : Series). dots_of points o.tags ≡ o.dots) series → (key : List Pair) → group_answer q s points (filter (λ t. is_same_tags (group_key s t) key) (tags_in series)) ≡ group_with q s (members s series key)
   one_group own key =
-      ap (group_answer q s points) (tags_kept (λ t. is_same_tags (group_key s t) key) series)
+      ap (group_answer q s points) (tags_filtered (λ t. is_same_tags (group_key s t) key) series)
       ∙ ap (group_from q s (tags_in (members s series key))) (all_lists points (members s series key) (own_kept (λ (o : Series). is_same_tags (group_key s o.tags) key) points series own))
 
   each_group : AllByRecursion (λ (o : Series). dots_of points o.tags ≡ o.dots) series → (keys : List (List Pair))
@@ -161,17 +180,12 @@ module _ (q : Query) (s : Sub) (series : List Series) where
   each_group own (key ∷ keys) = λ i. one_group own key i ∷ each_group own keys i
 
   -- the answer over the points of series is the groups of their members
-  pub answer_groups : RiseByTags series → HavePoints series → answer q s points ≡ all_groups (map (group_with q s) (members_in s series))
-  answer_groups rise some =
+  answer_named : RiseByTags series → HavePoints series → answer q s points ≡ all_groups (map (group_with q s) (members_in s series))
+  answer_named rise some =
       ap (λ l. all_groups (map (group_answer q s points) (groups_in s l))) (series_found s.metric series rise some)
       ∙ ap all_groups (each_group (each_own s.metric series (tags_rise series rise)) (group_keys s (tags_in series)))
 
 -- ---- the members of one group
-
-pub members_early : (s : Sub) (series : List Series) → HaveTimes series → (m : List Series) → Contains (members_in s series) m → HaveTimes m
-members_early s series early m c =
-    let w = map_in (members s series) (group_keys s (tags_in series)) m c in
-    subst HaveTimes w.2 (All-filter (λ (o : Series). is_same_tags (group_key s o.tags) w.0) (λ (o : Series). AreEarly o.dots) series early)
 
 keep_all : {X : Type 0} (p : X → Bool) → ((x : X) → p x ≡ true) → (xs : List X) → filter p xs ≡ xs
 keep_all p all [] = refl
@@ -200,8 +214,8 @@ just_one key (o ∷ series) sorted any = at (is_same_tags o.tags key) refl any (
     at false e h go = go h
 
 -- under none each group has one member
-pub members_alone : (s : Sub) (series : List Series) → RiseByTags series → s.how ≡ NoneOf → (m : List Series) → Contains (members_in s series) m → length m ≡ 1
-members_alone s series rise none m c =
+named_alone : (s : Sub) (series : List Series) → RiseByTags series → s.how ≡ NoneOf → (m : List Series) → Contains (members_in s series) m → length m ≡ 1
+named_alone s series rise none m c =
     let keys = group_keys s (tags_in series) in
     let w = map_in (members s series) keys m c in
     let tied = sym (tags_ties w.0 w.0) ∙ is_same_tags_equiv.refl w.0 in
@@ -213,3 +227,53 @@ members_alone s series rise none m c =
     any_agree : (l : List (List Pair)) (key : List Pair) → list_any (λ t. is_same_tags t key) l ≡ list_any (λ t. is_same_tags (group_key s t) key) l
     any_agree [] key = refl
     any_agree (t ∷ l) key = λ i. is_same_tags (sym (none_key s none t) i) key || any_agree l key i
+
+-- ---- series of which something is kept
+
+tags_same_kept : (of : PointsOf) (series : List kept.Series) → tags_in (all_with_points of series) ≡ tags_kept series
+tags_same_kept of [] = refl
+tags_same_kept of (x ∷ series) = ap (λ l. x.tags ∷ l) (tags_same_kept of series)
+
+dots_same_kept : (of : PointsOf) (series : List kept.Series) → dots_in (all_with_points of series) ≡ dots_kept of series
+dots_same_kept of [] = refl
+dots_same_kept of (x ∷ series) = ap (λ l. of x.tags ∷ l) (dots_same_kept of series)
+
+members_kept : (s : Sub) (of : PointsOf) (series : List kept.Series) (key : List Pair) → members s (all_with_points of series) key ≡ all_with_points of (groups.members s series key)
+members_kept s of [] key = refl
+members_kept s of (x ∷ series) key = at (is_same_tags (group_key s x.tags) key) (members_kept s of series key)
+  where
+    at : (b : Bool) → members s (all_with_points of series) key ≡ all_with_points of (groups.members s series key)
+        → cond b (with_points of x ∷ members s (all_with_points of series) key) (members s (all_with_points of series) key) ≡ all_with_points of (cond b (x ∷ groups.members s series key) (groups.members s series key))
+    at true go = ap (λ l. with_points of x ∷ l) go
+    at false go = go
+
+module _ (q : Query) (s : Sub) (of : PointsOf) (series : List kept.Series) where
+  group_kept : (key : List Pair) → group_with q s (members s (all_with_points of series) key) ≡ groups.group_with q s of (groups.members s series key)
+  group_kept key =
+      ap (group_with q s) (members_kept s of series key)
+      ∙ (λ i. group_from q s (tags_same_kept of (groups.members s series key) i) (dots_same_kept of (groups.members s series key) i))
+
+  groups_kept : (keys : List (List Pair)) → map (group_with q s) (map (members s (all_with_points of series)) keys) ≡ map (groups.group_with q s of) (map (groups.members s series) keys)
+  groups_kept [] = refl
+  groups_kept (key ∷ keys) = λ i. group_kept key i ∷ groups_kept keys i
+
+  -- the answer over the points of series is the groups of their members
+  pub answer_groups : RiseByTags (all_with_points of series) → HavePoints (all_with_points of series) → answer q s (points_in s.metric (all_with_points of series)) ≡ all_groups (map (groups.group_with q s of) (groups.members_in s series))
+  answer_groups rise some =
+      answer_named q s (all_with_points of series) rise some
+      ∙ ap (λ l. all_groups (map (group_with q s) (map (members s (all_with_points of series)) (group_keys s l)))) (tags_same_kept of series)
+      ∙ ap all_groups (groups_kept (group_keys s (tags_kept series)))
+
+-- what holds of each series holds of the members of a group
+pub members_all : (P : kept.Series → Type 0) (s : Sub) (series : List kept.Series) → All P series → (m : List kept.Series) → Contains (groups.members_in s series) m → All P m
+members_all P s series all m c =
+    let w = map_in (groups.members s series) (group_keys s (tags_kept series)) m c in
+    subst (All P) w.2 (All-filter (λ (o : kept.Series). is_same_tags (group_key s o.tags) w.0) P series all)
+
+-- under none each group has one member
+pub members_alone : (s : Sub) (of : PointsOf) (series : List kept.Series) → RiseByTags (all_with_points of series) → s.how ≡ NoneOf → (m : List kept.Series) → Contains (groups.members_in s series) m → length m ≡ 1
+members_alone s of series rise none m c =
+    let w = map_in (groups.members s series) (group_keys s (tags_kept series)) m c in
+    let named = in_map (members s (all_with_points of series)) (group_keys s (tags_in (all_with_points of series))) w.0 (subst (λ (l : List (List Pair)). Contains (group_keys s l) w.0) (sym (tags_same_kept of series)) w.1) in
+    let alone = named_alone s (all_with_points of series) rise none (members s (all_with_points of series) w.0) named in
+    sym (ap length w.2) ∙ sym (length-map (groups.members s series w.0) (with_points of)) ∙ ap length (sym (members_kept s of series w.0)) ∙ alone

@@ -20,7 +20,7 @@ use Rattle.row_scan.specs.Scans.{Left, IsStart, HasCell, Wanting, Scanned}
 use Rattle.row_scan.specs.RowReadings.{ShowsRow, ShowsReading, Chosen, AsksWithin, AsksOfWanted, NoConflict, OwnCovers}
 use Rattle.row_scan.specs.Laws.{ScanCovers}
 use Rattle.span_merge.specs.Spans.{Span, dots_of}
-use Rattle.query_run.specs.declared.named_series.Series.{Series}
+use Rattle.query_run.specs.NamedSeries.{Series}
 use Rattle.query_text.specs.declared.queries.Filter.{Filter}
 use Rattle.query_run.specs.Parts.{NameOf, AllResolved, PartStands}
 use Rattle.query_run.specs.AskedQueries.{is_wanted}

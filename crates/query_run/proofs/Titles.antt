@@ -1,5 +1,5 @@
 -- Tags by the names of ids, and series in the order of their tags.
-use Rattle.std.proofs.Common.{◌≡◌, ◌⊎◌, inl, inr, ℕ, ◌+◌, ◌<◌, ◌≤◌, Bool, true, false, cond, List, [], ◌∷◌, ◌++◌, length, take, get_or, refl, sym, ap, subst, ◌∙◌, arith, append_assoc}
+use Rattle.std.proofs.Common.{◌≡◌, ◌⊎◌, inl, inr, ℕ, ℤ, ◌+◌, ◌<◌, ◌≤◌, Bool, true, false, cond, List, [], ◌∷◌, ◌++◌, length, take, get_or, refl, sym, ap, subst, ◌∙◌, arith, append_assoc}
 use Rattle.std.specs.Prelude.{AllPairs, Contains, Option, None, Some, Result, Ok, Err, map, nat_lt, if◌then◌else◌, sum_by, ◌&&◌, not}
 use Rattle.std.specs.List.{AllZip, AllByRecursion, list_any}
 use Rattle.std.proofs.lemmas.Bool.{or_from, le-ltb}
@@ -24,11 +24,16 @@ use Rattle.list_lemmas.specs.BytesOrder.{bytes_cmp}
 use Rattle.tsd_base.specs.TagOrder.{bytes_exact, tags_cmp_exact, tags_cmp_total, tags_same, is_same_tags_equiv}
 use Rattle.tsd_base.specs.Tags.{tags_of, contradicts, uncontradicted, contradicted_key, distinct_pairs, FailsTags}
 use Rattle.cell_model.specs.Readings.{IsNamed, Named}
-use Rattle.span_merge.specs.Spans.{Span, span_of, pairs_cmp, AreSpans}
+use Rattle.tsd_base.specs.declared.kinds.Down.{Down}
+use Rattle.span_merge.specs.KeptPoints.{Keeps}
+use Rattle.span_merge.specs.Spans.{Span, KeptSpan, kept_span, pairs_cmp, KeepsSpans, AreInOrder}
+use Rattle.span_merge.specs.declared.kept.Kept.{Kept}
 use Rattle.span_merge.specs.declared.series.Series as by_ids
 use Rattle.query_run.specs.declared.named_series.Series.{Series}
+use Rattle.query_run.specs.NamedSeries as named
+use Rattle.query_run.specs.KeptSeries.{PointsOf, with_points, all_with_points}
 use Rattle.query_run.specs.RowNames.{IdOf, Names, HasName, ids_of}
-use Rattle.query_run.specs.SeriesTags.{OneToOne, ArePairs, IsTitled, Titles, CanTitle}
+use Rattle.query_run.specs.SeriesTags.{OneToOne, ArePairs, IsTitled, IsRenamed, TitlesKept, CanTitle}
 use Rattle.query_run.proofs.Lower as lower
 use Rattle.query_run.proofs.NameReads.{element, taken}
 
@@ -365,28 +370,32 @@ tags_rise xs up differ i j d lt within =
 
 -- ---- series of ids and their names
 
-pub titled_more : (names : Names) (whole done rest more : List by_ids.Series) (s : by_ids.Series) (series longer : List Series) (t : Series) → whole ≡ done ++ rest → rest ≡ s ∷ more → AllZip (λ (s : by_ids.Series) (t : Series). IsTitled names s.pairs.items s.dots t) done series
-    → Named names s.pairs.items t.tags → t.dots ≡ s.dots → longer ≡ series ++ t ∷ []
-    → (whole ≡ (done ++ s ∷ []) ++ more) × AllZip (λ (s : by_ids.Series) (t : Series). IsTitled names s.pairs.items s.dots t) (done ++ s ∷ []) longer
-titled_more names whole done rest more s series longer t is rest_is z tags dots longer_is = (
+pub titled_more : (names : Names) (whole done rest more : List by_ids.Series) (s : by_ids.Series) (series longer : List Series) (t : Series) → whole ≡ done ++ rest → rest ≡ s ∷ more → AllZip (IsRenamed names) done series
+    → Named names s.pairs.items t.tags → t.kept ≡ s.kept → longer ≡ series ++ t ∷ []
+    → (whole ≡ (done ++ s ∷ []) ++ more) × AllZip (IsRenamed names) (done ++ s ∷ []) longer
+titled_more names whole done rest more s series longer t is rest_is z tags kept longer_is = (
   is ∙ ap (λ (l : List by_ids.Series). done ++ l) rest_is ∙ sym (append_assoc done (s ∷ []) more),
-  subst (AllZip (λ (s : by_ids.Series) (t : Series). IsTitled names s.pairs.items s.dots t) (done ++ s ∷ [])) (sym longer_is)
-      (zip_push (λ (s : by_ids.Series) (t : Series). IsTitled names s.pairs.items s.dots t) done series s t z (record { tags = tags; dots_are = dots })),
+  subst (AllZip (IsRenamed names) (done ++ s ∷ [])) (sym longer_is) (zip_push (IsRenamed names) done series s t z (tags, kept)),
 )
 
 none_left : {X : Type 0} (xs : List X) → length xs ≡ 0 → xs ≡ []
 none_left [] e = refl
 none_left (x ∷ xs) e = absurd (omega (arith, e))
 
-pub titled_all : (names : Names) (whole done rest : List by_ids.Series) (series : List Series) → whole ≡ done ++ rest → length rest ≡ 0 → AllZip (λ (s : by_ids.Series) (t : Series). IsTitled names s.pairs.items s.dots t) done series
-    → AllZip (λ (s : by_ids.Series) (t : Series). IsTitled names s.pairs.items s.dots t) whole series
+pub titled_all : (names : Names) (whole done rest : List by_ids.Series) (series : List Series) → whole ≡ done ++ rest → length rest ≡ 0 → AllZip (IsRenamed names) done series → AllZip (IsRenamed names) whole series
 titled_all names whole done rest series is none z =
-    subst (λ (l : List by_ids.Series). AllZip (λ (s : by_ids.Series) (t : Series). IsTitled names s.pairs.items s.dots t) l series) (sym (is ∙ ap (λ (l : List by_ids.Series). done ++ l) (none_left rest none) ∙ append-nil done)) z
+    subst (λ (l : List by_ids.Series). AllZip (IsRenamed names) l series) (sym (is ∙ ap (λ (l : List by_ids.Series). done ++ l) (none_left rest none) ∙ append-nil done)) z
 
-pub pairs_of_each : (names : Names) (spans : List Span) (list : List by_ids.Series) → CanTitle names spans → map span_of list ≡ spans → (s : by_ids.Series) → Contains list s → ArePairs names s.pairs.items
-pairs_of_each names spans list can is s c = can.each (span_of s) (subst (λ (l : List Span). Contains l (span_of s)) is (lower.in_map span_of list s c))
+-- a series that is kept has these points
+abbrev IsKept : Option Down → KeptSpan → Span → Type 0
+IsKept how k s = (k.0 ≡ s.0) × Keeps how k.1 s.1
 
-all_rec : (P : List (ℕ × ℕ) → Type 0) (list : List by_ids.Series) → AllByRecursion P (keys_of (map span_of list)) → (b : by_ids.Series) → Contains list b → P b.pairs.items
+pub pairs_of_each : (how : Option Down) (names : Names) (spans : List Span) (kept : List KeptSpan) (list : List by_ids.Series) → KeepsSpans how kept spans → CanTitle names spans → map kept_span list ≡ kept → (s : by_ids.Series) → Contains list s → ArePairs names s.pairs.items
+pairs_of_each how names spans kept list keeps can is s c =
+    let w = zip_left (IsKept how) kept spans (kept_span s) keeps (subst (λ (l : List KeptSpan). Contains l (kept_span s)) is (lower.in_map kept_span list s c)) in
+    subst (ArePairs names) (sym w.2.0) (can.each w.0 w.1)
+
+all_rec : (P : List (ℕ × ℕ) → Type 0) (list : List by_ids.Series) → AllByRecursion P (keys_of (map kept_span list)) → (b : by_ids.Series) → Contains list b → P b.pairs.items
 all_rec P [] all b c = absurd (lower.not_in b c)
 all_rec P (a ∷ list) all b c = elim (lower.split a b list c) [ inl same ↦ subst (λ (x : by_ids.Series). P x.pairs.items) same all.0 | inr later ↦ all_rec P list all.1 b later ]
 
@@ -397,29 +406,131 @@ less_not_same : (a b : List (ℕ × ℕ)) → a ≡ b → pairs_cmp a b ≡ Less
 less_not_same a b same e =
     let t : pairs_cmp a b ≡ Equal = subst (λ x. pairs_cmp a x ≡ Equal) same (tied_itself pairs_total a) in cc
 
-series_differ : (names : Names) (list : List by_ids.Series) (series : List Series) → OneToOne names → ((s : by_ids.Series) → Contains list s → ArePairs names s.pairs.items) → IsStrictlySortedBy pairs_cmp (keys_of (map span_of list))
-    → AllZip (λ (s : by_ids.Series) (t : Series). IsTitled names s.pairs.items s.dots t) list series → AllPairs (λ (s t : Series). s.tags ≡ t.tags → ⊥) series
+abbrev HaveOthers : Series → Series → Type 0
+HaveOthers s t = s.tags ≡ t.tags → ⊥
+
+series_differ : (names : Names) (list : List by_ids.Series) (series : List Series) → OneToOne names → ((s : by_ids.Series) → Contains list s → ArePairs names s.pairs.items) → IsStrictlySortedBy pairs_cmp (keys_of (map kept_span list))
+    → AllZip (IsRenamed names) list series → AllPairs HaveOthers series
 unfolding IsStrictlySortedBy
 series_differ names [] [] one are up z = λ i j d lt within. absurd (omega (arith, within))
 series_differ names [] (t ∷ series) one are up z = absurd z
 series_differ names (a ∷ list) [] one are up z = absurd z
 series_differ names (a ∷ list) (t ∷ series) one are up z =
-    lower.pairs_cons (λ (s t : Series). s.tags ≡ t.tags → ⊥) t series
+    lower.pairs_cons HaveOthers t series
     (λ u c same.
-    let w = zip_right (λ (s : by_ids.Series) (t : Series). IsTitled names s.pairs.items s.dots t) list series u z.1 c in
-    let ids = same_ids names a.pairs.items w.0.pairs.items t.tags u.tags one (are a (lower.here a list)).rising (are w.0 (lower.there a w.0 list w.1)).rising z.0.tags w.2.tags same in
+    let w = zip_right (IsRenamed names) list series u z.1 c in
+    let ids = same_ids names a.pairs.items w.0.pairs.items t.tags u.tags one (are a (lower.here a list)).rising (are w.0 (lower.there a w.0 list w.1)).rising z.0.0 w.2.0 same in
     less_not_same a.pairs.items w.0.pairs.items ids (all_rec (λ y. pairs_cmp a.pairs.items y ≡ Less) list up.0 w.0 w.1))
     (series_differ names list series one (λ s c. are s (lower.there a s list c)) up.1 z.1)
 
-pub titles : (names : Names) (spans : List Span) (list : List by_ids.Series) (series sorted : List Series) → CanTitle names spans → AreSpans spans → map span_of list ≡ spans → AllZip (λ (s : by_ids.Series) (t : Series). IsTitled names s.pairs.items s.dots t) list series
-    → IsPermutation series sorted → IsSortedBy (λ (s t : Series). is_lt (tags_cmp s.tags t.tags)) sorted → Titles names spans sorted
-titles names spans list series sorted can are is z p up = record {
-  rising = tags_rise sorted up (still_differ (λ (s : Series). s.tags) series sorted p (series_differ names list series can.one (pairs_of_each names spans list can is) (subst (λ (l : List Span). IsStrictlySortedBy pairs_cmp (keys_of l)) (sym is) are.ordered) z));
-  each = λ t c.
-      let w = zip_right (λ (s : by_ids.Series) (t : Series). IsTitled names s.pairs.items s.dots t) list series t z (Contains-permutation sorted series t (IsPermutation-sym series sorted p) c) in
-      (span_of w.0, subst (λ (l : List Span). Contains l (span_of w.0)) is (lower.in_map span_of list w.0 w.1), w.2);
-  all = λ s c.
-      let m = lower.map_in span_of list s (subst (λ (l : List Span). Contains l s) (sym is) c) in
-      let w = zip_left (λ (s : by_ids.Series) (t : Series). IsTitled names s.pairs.items s.dots t) list series m.0 z m.1 in
-      (w.0, Contains-permutation series sorted w.0 p w.1, subst (λ (x : Span). IsTitled names x.0 x.1 w.0) m.2 w.2);
-}
+-- ---- the points of series by their tags
+
+-- the series with the points of those by ids
+abbrev named_of : List Series → List Span → List named.Series
+named_of [] spans = []
+named_of (t ∷ series) [] = []
+named_of (t ∷ series) (s ∷ spans) = record { tags = t.tags; dots = s.1 } ∷ named_of series spans
+
+-- what is kept of the series is of these points
+abbrev Fits : Option Down → Series → named.Series → Type 0
+Fits how t n = (n.tags ≡ t.tags) × Keeps how t.kept n.dots
+
+abbrev Stands : Names → Span → named.Series → Type 0
+Stands names s n = IsTitled names s.0 s.1 n
+
+module _ (how : Option Down) (names : Names) where
+  all_fit : (list : List by_ids.Series) (series : List Series) (spans : List Span) → AllZip (IsRenamed names) list series → KeepsSpans how (map kept_span list) spans → AllZip (Fits how) series (named_of series spans)
+  all_fit [] [] spans z k = tt
+  all_fit [] (t ∷ series) spans z k = absurd z
+  all_fit (a ∷ list) [] spans z k = tt
+  all_fit (a ∷ list) (t ∷ series) [] z k = absurd k
+  all_fit (a ∷ list) (t ∷ series) (s ∷ spans) z k = ((refl, subst (λ (v : Kept). Keeps how v s.1) (sym z.0.1) k.0.1), all_fit list series spans z.1 k.1)
+
+  all_stand : (list : List by_ids.Series) (series : List Series) (spans : List Span) → AllZip (IsRenamed names) list series → KeepsSpans how (map kept_span list) spans → AllZip (Stands names) spans (named_of series spans)
+  all_stand [] [] [] z k = tt
+  all_stand [] [] (s ∷ spans) z k = absurd k
+  all_stand [] (t ∷ series) spans z k = absurd z
+  all_stand (a ∷ list) [] spans z k = absurd z
+  all_stand (a ∷ list) (t ∷ series) [] z k = absurd k
+  all_stand (a ∷ list) (t ∷ series) (s ∷ spans) z k = (record { tags = subst (λ (l : List (ℕ × ℕ)). Named names l t.tags) k.0.0 z.0.0; dots_are = refl }, all_stand list series spans z.1 k.1)
+
+abbrev NamedDiffer : named.Series → named.Series → Type 0
+NamedDiffer m n = m.tags ≡ n.tags → ⊥
+
+named_differ : (how : Option Down) (series : List Series) (all : List named.Series) → AllZip (Fits how) series all → AllPairs HaveOthers series → AllPairs NamedDiffer all
+named_differ how series [] z up = λ i j d lt within. absurd (omega (arith, within))
+named_differ how [] (n ∷ all) z up = absurd z
+named_differ how (t ∷ series) (n ∷ all) z up =
+    lower.pairs_cons NamedDiffer n all
+    (λ u c same. let w = zip_right (Fits how) series all u z.1 c in lower.pairs_in HaveOthers t w.0 series up w.1 (sym z.0.0 ∙ same ∙ w.2.0))
+    (named_differ how series all z.1 (lower.pairs_tail HaveOthers t series up))
+
+abbrev points_by : List named.Series → List Pair → List (ℕ × ℤ)
+points_by [] tags = []
+points_by (n ∷ all) tags = cond (is_same_tags n.tags tags) n.dots (points_by all tags)
+
+not_same : (s t : List Pair) → (s ≡ t → ⊥) → is_same_tags s t ≡ false
+not_same s t other = at (is_same_tags s t) refl
+  where
+    at : (b : Bool) → is_same_tags s t ≡ b → is_same_tags s t ≡ false
+    at true e = absurd (other (tags_same s t e))
+    at false e = e
+
+own_points : (all : List named.Series) → AllPairs NamedDiffer all → (n : named.Series) → Contains all n → points_by all n.tags ≡ n.dots
+own_points [] up n c = absurd (lower.not_in n c)
+own_points (m ∷ all) up n c = elim (lower.split m n all c) [
+  | inl same ↦ ap (λ b. cond b m.dots (points_by all n.tags)) (ap (λ (x : named.Series). is_same_tags m.tags x.tags) (sym same) ∙ is_same_tags_equiv.refl m.tags) ∙ ap (λ (x : named.Series). x.dots) same
+  | inr later ↦ ap (λ b. cond b m.dots (points_by all n.tags)) (not_same m.tags n.tags (lower.pairs_in NamedDiffer m n all up later)) ∙ own_points all (lower.pairs_tail NamedDiffer m all up) n later
+]
+
+abbrev AreLess : Series → Series → Type 0
+AreLess s t = tags_cmp s.tags t.tags ≡ Less
+
+abbrev NamedLess : named.Series → named.Series → Type 0
+NamedLess s t = tags_cmp s.tags t.tags ≡ Less
+
+rise_with : (of : PointsOf) (xs : List Series) → AllPairs AreLess xs → AllPairs NamedLess (all_with_points of xs)
+rise_with of [] up = λ i j d lt within. absurd (omega (arith, within))
+rise_with of (x ∷ xs) up =
+    lower.pairs_cons NamedLess (with_points of x) (all_with_points of xs)
+    (λ t c.
+    let w = lower.map_in (with_points of) xs t c in
+    subst (λ (u : named.Series). tags_cmp x.tags u.tags ≡ Less) w.2 (lower.pairs_in AreLess x w.0 xs up w.1))
+    (rise_with of xs (lower.pairs_tail AreLess x xs up))
+
+-- the sorted series with the points of all
+module _ (how : Option Down) (names : Names) (spans : List Span) (all : List named.Series) (series sorted : List Series) (fit : AllZip (Fits how) series all) (stand : AllZip (Stands names) spans all) (p : IsPermutation series sorted) (differ : AllPairs HaveOthers series) where
+  own : (n : named.Series) → Contains all n → points_by all n.tags ≡ n.dots
+  own n c = own_points all (named_differ how series all fit differ) n c
+
+  fitting : (t : Series) → Contains sorted t → (n : named.Series) × Contains all n × Fits how t n
+  fitting t c = zip_left (Fits how) series all t fit (Contains-permutation sorted series t (IsPermutation-sym series sorted p) c)
+
+  at_tags : (s : Span) (n : named.Series) (t : Series) → Contains all n → n.tags ≡ t.tags → Stands names s n → IsTitled names s.0 s.1 (with_points (points_by all) t)
+  at_tags s n t c same titled = record { tags = subst (Named names s.0) same titled.tags; dots_are = sym (ap (points_by all) same) ∙ own n c ∙ titled.dots_are }
+
+  sorted_titles : IsSortedBy (λ (s t : Series). is_lt (tags_cmp s.tags t.tags)) sorted → TitlesKept how names spans sorted
+  sorted_titles up = record {
+    of = points_by all;
+    keeps = lower.all_of (λ (t : Series). Keeps how t.kept (points_by all t.tags)) sorted (λ t c. let w = fitting t c in subst (Keeps how t.kept) (sym (own w.0 w.1) ∙ ap (points_by all) w.2.0) w.2.1);
+    titles = record {
+      rising = rise_with (points_by all) sorted (tags_rise sorted up (still_differ (λ (s : Series). s.tags) series sorted p differ));
+      each = λ x c.
+          let m = lower.map_in (with_points (points_by all)) sorted x c in
+          let w = fitting m.0 m.1 in
+          let v = zip_right (Stands names) spans all w.0 stand w.1 in
+          (v.0, v.1, subst (IsTitled names v.0.0 v.0.1) m.2 (at_tags v.0 w.0 m.0 w.1 w.2.0 v.2));
+      all = λ s c.
+          let w = zip_left (Stands names) spans all s stand c in
+          let v = zip_right (Fits how) series all w.0 fit w.1 in
+          (with_points (points_by all) v.0, lower.in_map (with_points (points_by all)) sorted v.0 (Contains-permutation series sorted v.0 p v.1), at_tags s w.0 v.0 w.1 v.2.0 w.2);
+    };
+  }
+
+-- the series by their names, sorted
+pub titles_kept : (how : Option Down) (names : Names) (spans : List Span) (kept : List KeptSpan) (list : List by_ids.Series) (series sorted : List Series) → KeepsSpans how kept spans → CanTitle names spans → AreInOrder kept → map kept_span list ≡ kept → AllZip (IsRenamed names) list series
+    → IsPermutation series sorted → IsSortedBy (λ (s t : Series). is_lt (tags_cmp s.tags t.tags)) sorted → TitlesKept how names spans sorted
+titles_kept how names spans kept list series sorted keeps can in_order is z p up =
+    let here : KeepsSpans how (map kept_span list) spans = subst (λ (l : List KeptSpan). KeepsSpans how l spans) (sym is) keeps in
+    let differ = series_differ names list series can.one (pairs_of_each how names spans kept list keeps can is) (subst (λ (l : List KeptSpan). IsStrictlySortedBy pairs_cmp (keys_of l)) (sym is) in_order) z in
+    sorted_titles how names spans (named_of series spans) series sorted (all_fit how names list series spans z here) (all_stand how names list series spans z here) p differ up

@@ -1,5 +1,5 @@
 -- The rows of a metric in a range of times whose pairs of ids are picked, collected as the points of series by the ids of their tags.
-use Rattle.std.specs.Prelude.{◌≡◌, ◌≢◌, ◌⊎◌, ℕ, ℤ, Bool, false, ◌+◌, ◌*◌, ◌<◌, ◌≤◌, IsTrue, List, [], ◌∷◌, ◌++◌, length, All, AllPairs, Contains, None, Some, Result, Ok, Err}
+use Rattle.std.specs.Prelude.{◌≡◌, ◌≢◌, ◌⊎◌, ℕ, ℤ, Bool, false, ◌+◌, ◌*◌, ◌<◌, ◌≤◌, IsTrue, List, [], ◌∷◌, ◌++◌, length, All, AllPairs, Contains, Option, None, Some, Result, Ok, Err}
 use Rattle.std.specs.declared.cmp.Ordering.TheVariants.{Less}
 use Rattle.row_key.specs.declared.tables.Table.TheVariants.{Points}
 use Rattle.row_key.specs.declared.widths.Widths.{Widths}
@@ -23,7 +23,8 @@ use Rattle.cell_model.specs.Deeds.{Made}
 use Rattle.row_scan.specs.Scans.{Left, IsNext, IsRowOf, IsStart, HasCell, Wanting, IsWanted, Skips, Scanned, Scanning, left_at}
 use Rattle.row_scan.specs.RowReadings.{ShowsRow}
 use Rattle.qual_codec.specs.Merge.{AreDots, values_at, first_conflict}
-use Rattle.span_merge.specs.Spans.{Span, dots_of, added}
+use Rattle.tsd_base.specs.declared.kinds.Down.{Down}
+use Rattle.span_merge.specs.Spans.{Span, dots_of, added, KeepsSpans, KeptSpan}
 use Rattle.query_run.specs.declared.fault.AskFault.{AskFault}
 use Rattle.query_run.specs.declared.fault.AskFault.TheVariants.{Duplicate, OutOfMemory, Stopped}
 use Rattle.query_run.specs.declared.collection.Collected.{Collected}
@@ -97,12 +98,31 @@ abbrev pub RowDone : Picks → Widths → ℕ → ℕ → ℕ → Found → Seen
 RowDone picks widths id start end f old spans names new spans_after names_after =
     RowLeft picks widths id start end f old spans names new spans_after names_after ⊎ RowTaken picks widths id start end f old spans names new spans_after names_after
 
-abbrev pub RowAsked : Picks → Widths → ℕ → ℕ → ℕ → Found → Seen → Collected → Result (Unit {0}) AskFault → Seen → Collected → Type 0
-RowAsked picks widths id start end f old before (Ok x) new after = RowDone picks widths id start end f old before.spans (known before.names) new after.spans (known after.names)
-RowAsked picks widths id start end f old before (Err (Duplicate time a b)) new after = Made old [] new × RowConflicts picks widths id start end f time a b
-RowAsked picks widths id start end f old before (Err OutOfMemory) new after = RowCut widths id start end f old (known before.names) new
-RowAsked picks widths id start end f old before (Err Stopped) new after = RowCut widths id start end f old (known before.names) new
-RowAsked picks widths id start end f old before (Err fault) new after = ⊥
+-- what was collected with the row is kept of these series
+pub record RowKept (picks : Picks) (how : Option Down) (widths : Widths) (id start end : ℕ) (f : Found) (old : Seen) (spans : List Span) (names : Names) (new : Seen) (after : Collected) : Type 0 where
+  pub more : List Span
+  pub keeps : KeepsSpans how after.spans more
+  pub done : RowDone picks widths id start end f old spans names new more (known after.names)
+
+-- of what was collected before these are the series and the names
+abbrev pub RowAsked : Picks → Option Down → Widths → ℕ → ℕ → ℕ → Found → Seen → List Span → Names → Result (Unit {0}) AskFault → Seen → Collected → Type 0
+RowAsked picks how widths id start end f old spans names (Ok x) new after = RowKept picks how widths id start end f old spans names new after
+RowAsked picks how widths id start end f old spans names (Err (Duplicate time a b)) new after = Made old [] new × RowConflicts picks widths id start end f time a b
+RowAsked picks how widths id start end f old spans names (Err OutOfMemory) new after = RowCut widths id start end f old names new
+RowAsked picks how widths id start end f old spans names (Err Stopped) new after = RowCut widths id start end f old names new
+RowAsked picks how widths id start end f old spans names (Err fault) new after = ⊥
+
+-- points were added to a series, where there are any, of which what is kept is of these series
+pub record AddsKept (how : Option Down) (spans : List Span) (pairs : List (ℕ × ℕ)) (dots : List (ℕ × ℤ)) (kept : List KeptSpan) : Type 0 where
+  pub more : List Span
+  pub adds : Adds spans pairs dots more
+  pub keeps : KeepsSpans how kept more
+
+-- a row's points may be added to what is kept
+pub record MayTake (how : Option Down) (widths : Widths) (kept : List KeptSpan) (f : Found) : Type 0 where
+  pub spans : List Span
+  pub keeps : KeepsSpans how kept spans
+  pub behind : StandsBehind widths spans f
 
 -- the id is one of the row's tags
 abbrev pub HasId : Widths → ℕ → ℕ → ℕ → Found → IdOf → Type 0
@@ -244,6 +264,12 @@ pub record WasCut (picks : Picks) (id start end : ℕ) (old : Seen) (fault : Ask
   pub counted : Counted 1 old.base.widths id start end own founds ids
   pub cause : ConflictOf picks old.base.widths id start end own fault
 
-abbrev pub CollectSays : Picks → ℕ → ℕ → ℕ → Seen → Result Collected AskFault → Seen → Type 0
-CollectSays picks id start end old (Ok c) new = HasCollected picks id start end old c.spans (known c.names) new
-CollectSays picks id start end old (Err fault) new = WasCut picks id start end old fault new
+-- what is kept is of the series that were collected
+pub record KeepsCollected (picks : Picks) (how : Option Down) (id start end : ℕ) (old : Seen) (c : Collected) (new : Seen) : Type 0 where
+  pub spans : List Span
+  pub keeps : KeepsSpans how c.spans spans
+  pub collected : HasCollected picks id start end old spans (known c.names) new
+
+abbrev pub CollectSays : Picks → Option Down → ℕ → ℕ → ℕ → Seen → Result Collected AskFault → Seen → Type 0
+CollectSays picks how id start end old (Ok c) new = KeepsCollected picks how id start end old c new
+CollectSays picks how id start end old (Err fault) new = WasCut picks id start end old fault new

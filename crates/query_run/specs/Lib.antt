@@ -5,6 +5,7 @@ pub mod AskedQueries
 pub mod AskFaults
 pub mod AskFaultTexts
 pub mod NamedSeries
+pub mod KeptSeries
 pub mod SeriesGroups
 pub mod Laws
 pub mod Invisible

@@ -4,14 +4,11 @@ use Rattle.std.specs.List.{flat_map}
 use Rattle.std.specs.declared.cmp.Ordering.TheVariants.{Less}
 use Rattle.tsd_base.specs.TagList.{Pair, tags_cmp}
 use Rattle.tsd_base.specs.Points.{DataPoint}
-use Rattle.query_run.specs.declared.named_series.Series.{Series}
 
--- the tags of series, and their points
-abbrev pub tags_in : List Series → List (List Pair)
-tags_in series = map (λ s. s.tags) series
-
-abbrev pub dots_in : List Series → List (List (ℕ × ℤ))
-dots_in series = map (λ s. s.dots) series
+-- a series by its tags, with its points
+pub record Series : Type 0 where
+  pub tags : List Pair
+  pub dots : List (ℕ × ℤ)
 
 -- the points of one series, in milliseconds
 abbrev pub points_with : List ℕ → List Pair → List (ℕ × ℤ) → List DataPoint
@@ -32,7 +29,3 @@ HavePoints series = All (λ s. 1 ≤ length s.dots) series
 -- the times of points are below 2^43 milliseconds
 abbrev pub AreEarly : List (ℕ × ℤ) → Type 0
 AreEarly dots = All (λ d. d.0 < 2 ^ 43) dots
-
--- so is the time of each point of the series
-abbrev pub HaveTimes : List Series → Type 0
-HaveTimes series = All (λ s. AreEarly s.dots) series

@@ -17,9 +17,9 @@ use Rattle.lerp_aggregate.specs.declared.aggregation.AggFault.{AggFault}
 use Rattle.lerp_aggregate.specs.declared.aggregation.AggFault.TheVariants.{Overflow, OutOfMemory}
 use Rattle.json_reply.specs.Replies.{Group, plain}
 use Rattle.json_reply.specs.declared.reply.Group as code
-use Rattle.query_run.specs.QueryAnswers.{group_keys, group_from}
+use Rattle.query_run.specs.QueryAnswers.{group_keys, group_from, down_by}
 use Rattle.query_run.specs.AskedQueries.{barred}
-use Rattle.query_run.specs.NamedSeries.{tags_in, dots_in}
+use Rattle.query_run.specs.KeptSeries.{PointsOf, tags_kept, dots_kept, KeepsEach, AreSeries}
 use Rattle.query_run.specs.declared.named_series.Series.{Series}
 
 -- the sub query can be worked
@@ -45,11 +45,19 @@ members s series key = filter (λ one. is_same_tags (group_key s one.tags) key) 
 
 -- the members of each group, in order of the groups
 abbrev pub members_in : Sub → List Series → List (List Series)
-members_in s series = map (members s series) (group_keys s (tags_in series))
+members_in s series = map (members s series) (group_keys s (tags_kept series))
 
--- the group of series
-abbrev pub group_with : Query → Sub → List Series → Result Group ℕ
-group_with q s series = group_from q s (tags_in series) (dots_in series)
+-- the group of series with these points
+abbrev pub group_with : Query → Sub → PointsOf → List Series → Result Group ℕ
+group_with q s of series = group_from q s (tags_kept series) (dots_kept of series)
+
+-- so the points of the sub query's series are kept
+abbrev pub KeepsFor : Query → Sub → PointsOf → List Series → Type 0
+KeepsFor q s of series = KeepsEach (down_by q.ms s.how s.down) q.start q.end of series
+
+-- these are its series
+abbrev pub AreSeriesFor : Query → Sub → PointsOf → List Series → Type 0
+AreSeriesFor q s of series = AreSeries (down_by q.ms s.how s.down) q.start q.end of series
 
 -- the members that a map has for a key
 abbrev pub held : BTreeMap (List Pair) (Vec Series Global) → List Pair → Option (List Series)
@@ -71,7 +79,7 @@ Keeps lists least (Err down.OutOfMemory) more now = ⊥
 
 -- the tags of the series and their points, or the time that stands in place of the points; want of memory may always be told
 abbrev pub GivesLists : Result (Vec (List Pair) Global × Vec (List (ℕ × ℤ)) Global) AggFault → List Series → Result (List (List (ℕ × ℤ))) ℕ → Type 0
-GivesLists (Ok both) series wanted = (both.0.items ≡ tags_in series) × (wanted ≡ Ok both.1.items)
+GivesLists (Ok both) series wanted = (both.0.items ≡ tags_kept series) × (wanted ≡ Ok both.1.items)
 GivesLists (Err (Overflow time)) series wanted = wanted ≡ Err time
 GivesLists (Err OutOfMemory) series wanted = Unit {0}
 

@@ -1,5 +1,5 @@
 -- Working one sub query.
-use Rattle.std.specs.Prelude.{◌≡◌, ℕ, List, map, None, Result, Ok, Err}
+use Rattle.std.specs.Prelude.{◌≡◌, ℕ, ℤ, ◌≤◌, List, length, map, Contains, None, Result, Ok, Err}
 use Rattle.std.specs.Global.{Vec}
 use Rattle.json_reply.specs.Replies.{Group, plain}
 use Rattle.json_reply.specs.declared.reply.Group as code
@@ -8,17 +8,26 @@ use Rattle.query_text.specs.declared.queries.Sub.{Sub}
 use Rattle.cell_model.specs.History.{History, first}
 use Rattle.cell_model.specs.Seen.{Seen, InEach}
 use Rattle.cell_model.specs.Deeds.{Made, Extends}
-use Rattle.span_merge.specs.Spans.{Span}
-use Rattle.query_run.specs.declared.named_series.Series.{Series}
+use Rattle.span_merge.specs.Spans.{Span, KeepsSpans}
+use Rattle.query_run.specs.declared.collection.Collected.{Collected}
+use Rattle.query_run.specs.RowDots.{IsIn}
+use Rattle.query_run.specs.NamedSeries.{Series}
 use Rattle.query_run.specs.declared.fault.AskFault.{AskFault}
 use Rattle.query_run.specs.declared.fault.AskFault.TheVariants.{Overflow, OutOfMemory}
-use Rattle.query_run.specs.QueryAnswers.{answer}
+use Rattle.query_run.specs.QueryAnswers.{answer, down_by}
 use Rattle.query_run.specs.Parts.{Part, AreQuerySteps, PartStands}
 use Rattle.query_run.specs.Asked.{Cause}
 use Rattle.query_run.specs.AskedQueries.{wanted, names_in, barred, answer_over, IsFew}
 use Rattle.query_run.specs.NamedSeries.{points_in}
-use Rattle.query_run.specs.RowNames.{Names}
-use Rattle.query_run.specs.SeriesTags.{Titles}
+use Rattle.query_run.specs.RowNames.{Names, known}
+use Rattle.query_run.specs.SeriesTags.{Titles, CanTitle}
+
+-- what was collected is kept of these series, each with points in the range
+pub record AreCollected (q : Query) (s : Sub) (c : Collected) (spans : List Span) : Type 0 where
+  pub keeps : KeepsSpans (down_by q.ms s.how s.down) c.spans spans
+  pub names : CanTitle (known c.names) spans
+  pub some : (x : Span) → Contains spans x → 1 ≤ length x.1
+  pub within : (x : Span) (d : ℕ × ℤ) → Contains spans x → Contains x.1 d → IsIn q.start q.end d.0
 
 -- the series under their names, with what the answer over their points is
 abbrev pub Answering : Query → Sub → Names → List Span → Result (List Group) ℕ → Type 0

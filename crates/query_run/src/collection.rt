@@ -1,15 +1,16 @@
 //! The rows of a metric that pass filters, collected as the points of series by the ids of their tags.
-ghost use Rattle.std.specs.Prelude.{◌≡◌, ◌≤◌, ◌++◌, ◌∷◌, [], ℕ, All, OnOk};
+ghost use Rattle.std.specs.Prelude.{◌≡◌, ◌≤◌, ◌<◌, ◌^◌, ◌++◌, ◌∷◌, [], ℕ, List, All, IfSome, OnOk};
 ghost use Rattle.row_key.specs.declared.keys.RowKey.{RowKey};
 ghost use Rattle.row_key.specs.Key.{IsKey, key_bytes, most_ids};
 ghost use Rattle.cell_model.specs.Seen.{IsPossible};
 ghost use Rattle.cell_model.specs.Calls.{Leaves};
 ghost use Rattle.tsd_base.specs.declared.times.TheConstants.{LAST_TIME};
 ghost use Rattle.tsd_base.specs.Dots.{IsAboveAll};
-ghost use Rattle.span_merge.specs.Spans.{dots_of};
+ghost use Rattle.span_merge.specs.Spans.{KeepsSpans, Span, TakesLater, dots_of};
 ghost use Rattle.query_run.specs.AskFaults.{is_stop};
 ghost use Rattle.query_run.specs.IdFilters.{passes};
-ghost use Rattle.query_run.specs.Collection.{Adds, CollectSays, FoundRow, GoesOn, RowAsked, StandsBehind};
+ghost use Rattle.query_run.specs.RowNames.{known};
+ghost use Rattle.query_run.specs.Collection.{AddsKept, CollectSays, FoundRow, GoesOn, MayTake, RowAsked, StandsBehind};
 
 use crate::fault::AskFault;
 use crate::id_filter::{IdFilter, passes};
@@ -24,9 +25,10 @@ use row_scan::Scan;
 use span_merge::spans::Spans;
 use std::alloc::{AllocError, Global};
 use tsd_base::dots::Dots;
+use tsd_base::kinds::Down;
 use uid_table::uids::Uids;
 
-/// The points of series by the ids of their tags, and the names of these ids.
+/// What is kept of the points of series by the ids of their tags, and the names of these ids.
 #[derive(Drop)]
 pub(crate) struct Collected {
     pub(crate) spans: Spans,
@@ -49,16 +51,19 @@ fn key_of(row: &[u8], scan: &Scan) -> RowKey
 fn add_dots(
     alloc: Global,
     spans: &mut Spans,
+    how: Option<Down>,
     pairs: &[(u32, u32)],
     dots: Dots,
 ) -> Result<(), AllocError>
-    requires { All (λ d. IsAboveAll d.0 (dots_of spans.old pairs.now)) dots }
-    ensures { OnOk result (Adds spans.old pairs.now dots spans.new) }
+    requires interval { IfSome how (λ d. 1 ≤ d.interval) }
+    requires early { All (λ d. d.0 < 2 ^ 43) dots }
+    requires later { TakesLater how spans.old pairs.now dots }
+    ensures { OnOk result ((series : List Span) → KeepsSpans how spans.old series → All (λ d. IsAboveAll d.0 (dots_of series pairs.now)) dots → AddsKept how series pairs.now dots spans.new) }
 {
     if dots.list().is_empty() {
         return Ok(());
     }
-    spans.add(alloc, pairs, dots)
+    spans.add(alloc, how, pairs, dots)
 }
 
 /// Lets a scan go on behind the rows that fail the filters as one with this key does, which it found last.
@@ -78,6 +83,7 @@ fn take_row<R: Rows + Drop>(
     alloc: Global,
     names: &mut Uids<R>,
     filters: &[IdFilter],
+    how: Option<Down>,
     start: u64,
     end: u64,
     found: &Found,
@@ -86,10 +92,11 @@ fn take_row<R: Rows + Drop>(
 ) -> Result<(), AskFault>
     requires most { end ≤ LAST_TIME }
     requires row { (metric : ℕ) × FoundRow (R.seen names.old.rows) scan.old.widths metric start end found.now }
-    requires behind { StandsBehind scan.old.widths collected.old.spans found.now }
+    requires interval { IfSome how (λ d. 1 ≤ d.interval) }
+    requires behind { MayTake how scan.old.widths collected.old.spans found.now }
     requires scan { scan.old.from ≡ found.now.row.bytes ++ 0 ∷ [] }
     requires possible { IsPossible (R.seen names.old.rows) }
-    ensures asked { (metric : ℕ) → FoundRow (R.seen names.old.rows) scan.old.widths metric start end found.now → RowAsked (passes filters.now) scan.old.widths metric start end found.now (R.seen names.old.rows) collected.old result (R.seen names.new.rows) collected.new }
+    ensures asked { (metric : ℕ) (spans : List Span) → FoundRow (R.seen names.old.rows) scan.old.widths metric start end found.now → KeepsSpans how collected.old.spans spans → StandsBehind scan.old.widths spans found.now → RowAsked (passes filters.now) how scan.old.widths metric start end found.now (R.seen names.old.rows) spans (known collected.old.names) result (R.seen names.new.rows) collected.new }
     ensures goes_on { OnOk result (GoesOn (passes filters.now) scan.old scan.new) }
     ensures leaves { Leaves is_stop result (R.seen names.new.rows) (R.stops names.old.rows) (R.stops names.new.rows) }
 {
@@ -100,24 +107,27 @@ fn take_row<R: Rows + Drop>(
     }
     let dots = row_dots(alloc, &found.cells, key.base, start, end)?;
     name_pairs(alloc, names, key.pairs.as_slice(), &mut collected.names)?;
-    add_dots(alloc, &mut collected.spans, key.pairs.as_slice(), dots)?;
+    add_dots(alloc, &mut collected.spans, how, key.pairs.as_slice(), dots)?;
     Ok(())
 }
 
-/// Collects the rows of a metric's id that pass the filters, with the points from `start` to `end`.
+/// Collects the rows of a metric's id that pass the filters, with the points from `start` to `end`. `how` is how the series are downsampled
+/// at the end.
 pub(crate) fn collect<R: Rows + Drop>(
     alloc: Global,
     names: &mut Uids<R>,
     metric: u32,
     filters: &[IdFilter],
+    how: Option<Down>,
     start: u64,
     end: u64,
 ) -> Result<Collected, AskFault>
     requires metric { metric ≤ most_ids (R.seen names.old.rows).base.widths.metric }
     requires order { start ≤ end }
     requires most { end ≤ LAST_TIME }
+    requires interval { IfSome how (λ d. 1 ≤ d.interval) }
     requires possible { IsPossible (R.seen names.old.rows) }
-    ensures says { CollectSays (passes filters.now) metric start end (R.seen names.old.rows) result (R.seen names.new.rows) }
+    ensures says { CollectSays (passes filters.now) how metric start end (R.seen names.old.rows) result (R.seen names.new.rows) }
     ensures leaves { Leaves is_stop result (R.seen names.new.rows) (R.stops names.old.rows) (R.stops names.new.rows) }
 {
     let mut scan = Scan::start(metric, base_of(start), base_of(end), names.widths());
@@ -133,6 +143,7 @@ pub(crate) fn collect<R: Rows + Drop>(
             alloc,
             names,
             filters,
+            how,
             start,
             end,
             &found,

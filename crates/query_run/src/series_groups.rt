@@ -1,20 +1,23 @@
 //! The groups of a sub query's series.
-ghost use Rattle.std.specs.Prelude.{◌≡◌, ◌≤◌, ◌++◌, ◌∷◌, [], Some, length, map, All, IfOk, IfSome, OnOk};
+ghost use Rattle.std.specs.Prelude.{◌≡◌, ◌≤◌, ◌++◌, ◌∷◌, [], List, Some, length, map, ℕ, ℤ, All, IfOk, IfSome, OnOk};
 ghost use Rattle.tsd_base.specs.declared.times.TheConstants.{LAST_TIME};
 ghost use Rattle.tsd_base.specs.declared.kinds.Aggregator.TheVariants.{NoneOf};
 ghost use Rattle.json_reply.specs.Replies.{IsReady, plain};
 ghost use Rattle.downsample.specs.Downsampling.{GivesDown};
 ghost use Rattle.query_run.specs.QueryAnswers.{all_or_least, answer, down_by, down_to, function_of, group_of};
-ghost use Rattle.query_run.specs.SeriesGroups.{AddsMember, AreGroups, AreWhole, GivesGroup, GivesGroups, GivesLists, IsDown, IsWorkable, Keeps, earliest, group_with};
-ghost use Rattle.query_run.specs.NamedSeries.{AreEarly, HavePoints, HaveTimes, RiseByTags, dots_in, points_in};
+ghost use Rattle.query_run.specs.SeriesGroups.{AddsMember, AreGroups, AreSeriesFor, AreWhole, GivesGroup, GivesGroups, GivesLists, IsDown, IsWorkable, Keeps, KeepsFor, earliest, group_with};
+ghost use Rattle.query_run.specs.KeptSeries.{KeepsEach, KeepsWithin, PointsOf, all_with_points, dots_kept};
+ghost use Rattle.query_run.specs.NamedSeries.{points_in};
 
 use crate::group_key::GroupKey;
 use crate::named_series::Series;
+use downsample::fold_ends::finish_by;
 use downsample::{DownFault, down};
 use group_by::shared_tags::shared;
 use json_reply::reply::Group;
 use lerp_aggregate::aggregation::{AggFault, aggregate};
 use query_text::queries::{Query, Sub};
+use span_merge::kept::Kept;
 use std::alloc::{AllocError, Global};
 use std::collections::BTreeMap;
 use tsd_base::dots::Dots;
@@ -31,10 +34,8 @@ pub(crate) fn groups_of(
     series: Vec<Series>,
 ) -> Result<Vec<Group>, AggFault>
     requires works { IsWorkable query.now sub.now }
-    requires rising { RiseByTags series.items }
-    requires some { HavePoints series.items }
-    requires times { HaveTimes series.items }
-    ensures answers { GivesGroups result (answer query.now sub.now (points_in sub.now.metric series.items)) }
+    requires series { (of : PointsOf) × AreSeriesFor query.now sub.now of series.items }
+    ensures answers { (of : PointsOf) → AreSeriesFor query.now sub.now of series.items → GivesGroups result (answer query.now sub.now (points_in sub.now.metric (all_with_points of series.items))) }
     ensures ready { IfOk result (λ groups. All IsReady groups.items) }
 {
     let mut groups = Vec::new(alloc);
@@ -97,9 +98,9 @@ fn group_with(
     series: Vec<Series>,
 ) -> Result<Group, AggFault>
     requires works { IsWorkable query.now sub.now }
-    requires times { HaveTimes series.items }
+    requires kept { (of : PointsOf) × KeepsFor query.now sub.now of series.items }
     requires alone { sub.now.how ≡ NoneOf → length series.items ≡ 1 }
-    ensures answers { GivesGroup result (group_with query.now sub.now series.items) }
+    ensures answers { (of : PointsOf) → KeepsFor query.now sub.now of series.items → GivesGroup result (group_with query.now sub.now of series.items) }
     ensures ready { IfOk result IsReady }
 {
     let how = down_of(query, sub);
@@ -112,7 +113,7 @@ fn group_with(
 
 /// How the series of a sub query are downsampled: as it asks, or else, where times are told in seconds, by 1 s with its aggregator's
 /// function.
-fn down_of(query: &Query, sub: &Sub) -> Option<Down>
+pub(crate) fn down_of(query: &Query, sub: &Sub) -> Option<Down>
     requires { IsWorkable query.now sub.now }
     ensures down { result ≡ down_by query.now.ms sub.now.how sub.now.down }
     ensures is { IfSome result (IsDown query.now.start query.now.end) }
@@ -154,14 +155,15 @@ fn apart(
     requires order { query.now.start ≤ query.now.end }
     requires most { query.now.end ≤ LAST_TIME }
     requires down { IfSome how (IsDown query.now.start query.now.end) }
-    ensures { GivesLists result series.items (all_or_least (map (down_to how query.now.start query.now.end) (dots_in series.items))) }
+    requires kept { (of : PointsOf) × KeepsEach how query.now.start query.now.end of series.items }
+    ensures { (of : PointsOf) → KeepsEach how query.now.start query.now.end of series.items → GivesLists result series.items (all_or_least (map (down_to how query.now.start query.now.end) (dots_kept of series.items))) }
 {
     let mut tags = Vec::with_capacity(alloc, series.len())?;
     let mut lists = Vec::with_capacity(alloc, series.len())?;
     let mut least = None;
     for one in series {
         push(&mut tags, one.tags)?;
-        let dots = down_to(alloc, one.dots, how, query.start, query.end);
+        let dots = finish(alloc, one.kept, how, query.start, query.end);
         keep(&mut lists, &mut least, dots)?;
     }
     match least {
@@ -195,6 +197,29 @@ fn earlier(least: Option<u64>, time: u64) -> Option<u64>
     match least {
         Some(least) => Some(least.min(time)),
         None => Some(time),
+    }
+}
+
+/// The points of a series, downsampled where that is asked, of what was kept of them.
+fn finish(
+    alloc: Global,
+    kept: Kept,
+    how: Option<Down>,
+    start: u64,
+    end: u64,
+) -> Result<Dots, DownFault>
+    requires order { start ≤ end }
+    requires most { end ≤ LAST_TIME }
+    requires down { IfSome how (IsDown start end) }
+    requires kept { (points : List (ℕ × ℤ)) × KeepsWithin how start end kept points }
+    ensures { (points : List (ℕ × ℤ)) → KeepsWithin how start end kept points → GivesDown result (down_to how start end points) }
+{
+    match kept {
+        Kept::Points { dots } => down_to(alloc, dots, how, start, end),
+        Kept::Buckets { fold } => match how {
+            Some(how) => finish_by(alloc, Box::into_inner(fold), how, start, end),
+            None => unreachable!(),
+        },
     }
 }
 

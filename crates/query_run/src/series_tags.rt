@@ -1,16 +1,18 @@
 //! Series under the names of their tags, in place of the ids.
-ghost use Rattle.std.specs.Prelude.{◌≡◌, IfOk, ℕ, List, Contains};
+ghost use Rattle.std.specs.Prelude.{◌≡◌, IfOk, ℕ, List, Contains, Option};
 ghost use Rattle.std.specs.List.{AllZip};
 ghost use Rattle.tsd_base.specs.declared.kinds.Kind.TheVariants.{TagKey, TagValue};
 ghost use Rattle.cell_model.specs.Readings.{IsNamed, Named};
 ghost use Rattle.span_merge.specs.declared.series.Series as spans;
 ghost use Rattle.query_run.specs.RowNames.{HasName, known};
-ghost use Rattle.query_run.specs.SeriesTags.{ArePairs, CanTitle, IsTitled, OneToOne, Titles};
+ghost use Rattle.tsd_base.specs.declared.kinds.Down.{Down};
+ghost use Rattle.span_merge.specs.Spans.{KeepsSpans, Span};
+ghost use Rattle.query_run.specs.SeriesTags.{ArePairs, CanTitle, IsRenamed, OneToOne, TitlesKept};
 
 use crate::collection::Collected;
 use crate::named_series::Series;
 use crate::row_names::IdNames;
-use span_merge::series::Series as Span;
+use span_merge::series::Series as SeriesById;
 use std::alloc::{AllocError, Global};
 use tsd_base::names::Name;
 use tsd_base::tags::{Tags, TagsFault};
@@ -63,24 +65,24 @@ fn tags_of(alloc: Global, names: &IdNames, pairs: &[(u32, u32)]) -> Result<Tags,
 }
 
 /// Each series with its names.
-fn renamed(alloc: Global, names: &IdNames, list: Vec<Span>) -> Result<Vec<Series>, AllocError>
+fn renamed(alloc: Global, names: &IdNames, list: Vec<SeriesById>) -> Result<Vec<Series>, AllocError>
     requires one { OneToOne (known names.now) }
     requires pairs { (s : spans.Series) → Contains list.items s → ArePairs (known names.now) s.pairs.items }
-    ensures { IfOk result (λ series. AllZip (λ s t. IsTitled (known names.now) s.pairs.items s.dots t) list.items series.items) }
+    ensures { IfOk result (λ series. AllZip (IsRenamed (known names.now)) list.items series.items) }
 {
     let mut series = Vec::with_capacity(alloc, list.len())?;
     for span in list {
-        let Span { pairs, dots } = span;
+        let SeriesById { pairs, kept } = span;
         let tags = tags_of(alloc, names, pairs.as_slice())?;
-        series.push(Series { tags, dots })?;
+        series.push(Series { tags, kept })?;
     }
     Ok(series)
 }
 
 /// The series with the names of their tags, rising by these.
 pub(crate) fn titled(alloc: Global, collected: Collected) -> Result<Vec<Series>, AllocError>
-    requires { CanTitle (known collected.names) collected.spans }
-    ensures { IfOk result (λ series. Titles (known collected.names) collected.spans series.items) }
+    requires { (how : Option Down) × (spans : List Span) × KeepsSpans how collected.spans spans × CanTitle (known collected.names) spans }
+    ensures { IfOk result (λ series. (how : Option Down) (spans : List Span) → KeepsSpans how collected.spans spans → CanTitle (known collected.names) spans → TitlesKept how (known collected.names) spans series.items) }
 {
     let Collected { spans, names } = collected;
     let mut series = renamed(alloc, &names, spans.into_series()?)?;

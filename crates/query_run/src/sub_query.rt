@@ -1,5 +1,5 @@
 //! Working one sub query.
-ghost use Rattle.std.specs.Prelude.{◌≡◌, ◌≤◌, ◌<◌, ◌^◌, All, Contains, ℕ, ℤ, length, IfOk};
+ghost use Rattle.std.specs.Prelude.{◌≡◌, ◌≤◌, List, All, IfOk};
 ghost use Rattle.tsd_base.specs.declared.times.TheConstants.{LAST_TIME};
 ghost use Rattle.query_text.specs.Subs.{CanDown};
 ghost use Rattle.json_reply.specs.Replies.{IsReady};
@@ -9,13 +9,12 @@ ghost use Rattle.query_run.specs.AskFaults.{is_stop};
 ghost use Rattle.query_run.specs.SeriesGroups.{IsWorkable};
 ghost use Rattle.query_run.specs.RowNames.{known};
 ghost use Rattle.query_run.specs.AskedQueries.{barred};
-ghost use Rattle.query_run.specs.SeriesTags.{CanTitle};
-ghost use Rattle.query_run.specs.SubQuery.{GroupsSay, SubSays};
+ghost use Rattle.query_run.specs.SubQuery.{AreCollected, GroupsSay, SubSays};
 
 use crate::collection::{Collected, collect};
 use crate::fault::AskFault;
 use crate::resolve::{resolve_filters, resolve_name};
-use crate::series_groups::groups_of;
+use crate::series_groups::{down_of, groups_of};
 use crate::series_tags::titled;
 use cell_model::rows::Rows;
 use downsample::buckets;
@@ -55,10 +54,8 @@ fn groups(
     collected: Collected,
 ) -> Result<Vec<Group>, AskFault>
     requires works { IsWorkable query.now sub.now }
-    requires names { CanTitle (known collected.names) collected.spans }
-    requires some { (s : Span) → Contains collected.spans s → 1 ≤ length s.1 }
-    requires times { (s : Span) (d : ℕ × ℤ) → Contains collected.spans s → Contains s.1 d → d.0 < 2 ^ 43 }
-    ensures says { GroupsSay query.now sub.now (known collected.names) collected.spans result }
+    requires collected { (spans : List Span) × AreCollected query.now sub.now collected spans }
+    ensures says { (spans : List Span) → AreCollected query.now sub.now collected spans → GroupsSay query.now sub.now (known collected.names) spans result }
     ensures ready { IfOk result (λ groups. All IsReady groups.items) }
 {
     let series = titled(alloc, collected)?;
@@ -87,8 +84,9 @@ pub(crate) fn work<R: Rows + Drop>(
     if let Some(fault) = barred(query, sub) {
         return Err(fault);
     }
+    let how = down_of(query, sub);
     let metric = resolve_name(alloc, names, Kind::Metric, &sub.metric)?;
     let filters = resolve_filters(alloc, names, sub.filters.list())?;
-    let collected = collect(alloc, names, metric, &filters, query.start, query.end)?;
+    let collected = collect(alloc, names, metric, &filters, how, query.start, query.end)?;
     groups(alloc, query, sub, collected)
 }

@@ -1,2 +1,3 @@
+pub mod KeptPoints
 pub mod Spans
 pub mod Places

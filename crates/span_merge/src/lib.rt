@@ -1,6 +1,7 @@
-//! The points of series by the ids of their tags, collected from rows that come hour by hour.
+//! The points of series by the ids of their tags, or the buckets that they make, collected from rows that come hour by hour.
 #![tactic(auto)]
 
+pub mod kept;
 mod places;
 pub mod series;
 pub mod spans;

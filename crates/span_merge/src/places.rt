@@ -1,16 +1,15 @@
 //! A place in the order of series, and its moves.
-ghost use Rattle.std.specs.Prelude.{◌≡◌, ◌<◌, List, [], length, All, OnOk, OnErr, map};
+ghost use Rattle.std.specs.Prelude.{◌≡◌, ◌≤◌, ◌<◌, ◌^◌, List, [], length, All, IfSome, OnOk, OnErr, map};
 ghost use Rattle.std.specs.Bool.{MatchBool};
 ghost use Rattle.std.specs.Map.{keys_of};
-ghost use Rattle.std.specs.List.Sorted.{IsStrictlySortedBy};
-ghost use Rattle.span_merge.specs.Places.{LastHas, LastHasNot, LastIsAbove, LastIsNotAbove, MovesLast, spans_of};
-ghost use Rattle.tsd_base.specs.Dots.{IsAboveAll};
-ghost use Rattle.span_merge.specs.Spans.{added, dots_of, pairs_cmp, span_of};
+ghost use Rattle.span_merge.specs.Places.{HasPut, LastHas, LastHasNot, LastIsAbove, LastIsNotAbove, MayPut, MovesLast, spans_of};
+ghost use Rattle.span_merge.specs.Spans.{AreInOrder, kept_span};
 
 use crate::series::{Series, append, order, series_of};
 use std::alloc::{AllocError, Global};
 use std::cmp::Ordering;
 use tsd_base::dots::Dots;
+use tsd_base::kinds::Down;
 
 /// Moves the place behind the series that don't stand above these ids.
 pub(crate) fn step_forward(
@@ -62,20 +61,23 @@ pub(crate) fn step_to_end(
 pub(crate) fn add_last(
     alloc: Global,
     list: &mut Vec<Series>,
+    how: Option<Down>,
     pairs: &[(u32, u32)],
     dots: Dots,
 ) -> Result<(), AllocError>
-    requires ordered { IsStrictlySortedBy pairs_cmp (keys_of (map span_of list.old.items)) }
+    requires ordered { AreInOrder (map kept_span list.old.items) }
     requires at_most { LastIsNotAbove pairs.now list.old.items }
-    requires later { All (λ d. IsAboveAll d.0 (dots_of (map span_of list.old.items) pairs.now)) dots }
-    ensures ok { OnOk result (map span_of list.new.items ≡ added (map span_of list.old.items) pairs.now dots) }
-    ensures err { OnErr result (map span_of list.new.items ≡ map span_of list.old.items) }
+    requires interval { IfSome how (λ d. 1 ≤ d.interval) }
+    requires early { All (λ d. d.0 < 2 ^ 43) dots }
+    requires later { MayPut (map kept_span list.old.items) pairs.now dots }
+    ensures ok { OnOk result (HasPut how (map kept_span list.old.items) pairs.now dots (map kept_span list.new.items)) }
+    ensures err { OnErr result (keys_of (map kept_span list.new.items) ≡ keys_of (map kept_span list.old.items)) }
 {
     if has_last(list.as_slice(), pairs) {
         let last = list.len() - 1;
         return append(&mut list[last], &dots);
     }
-    list.push(series_of(alloc, pairs, dots)?)?;
+    list.push(series_of(alloc, how, pairs, dots)?)?;
     Ok(())
 }
 

@@ -1,42 +1,46 @@
 //! One series.
-ghost use Rattle.std.specs.Prelude.{◌≡◌, ◌++◌, All, OnOk, OnErr, IfOk};
-ghost use Rattle.tsd_base.specs.Dots.{IsAboveAll};
-ghost use Rattle.span_merge.specs.Spans.{pairs_cmp, span_of};
+ghost use Rattle.std.specs.Prelude.{◌≡◌, ◌≤◌, ◌<◌, ◌^◌, All, IfSome, OnOk, IfOk};
+ghost use Rattle.span_merge.specs.KeptPoints.{Keeps, KeepsMore, Takes};
+ghost use Rattle.span_merge.specs.Spans.{pairs_cmp};
 
+use crate::kept::{Kept, keep_more, kept_of};
 use std::alloc::{AllocError, Global};
 use std::cmp::Ordering;
 use tsd_base::dots::Dots;
+use tsd_base::kinds::Down;
 
-/// The points of one series, under the ids of its tags.
+/// What is kept of the points of one series, under the ids of its tags.
 #[derive(Drop)]
 pub struct Series {
     /// The ids of its tags: each key's and its value's.
     pub pairs: Vec<(u32, u32)>,
-    pub dots: Dots,
+    pub kept: Kept,
 }
 
 /// A series of these points.
 pub(crate) fn series_of(
     alloc: Global,
+    how: Option<Down>,
     pairs: &[(u32, u32)],
     dots: Dots,
 ) -> Result<Series, AllocError>
-    ensures { IfOk result (λ s. span_of s ≡ (pairs.now, dots)) }
+    requires interval { IfSome how (λ d. 1 ≤ d.interval) }
+    requires early { All (λ d. d.0 < 2 ^ 43) dots }
+    ensures pairs { IfOk result (λ s. s.pairs.items ≡ pairs.now) }
+    ensures kept { IfOk result (λ s. Keeps how s.kept dots) }
 {
-    Ok(Series {
-        pairs: Vec::from_slice(alloc, pairs)?,
-        dots,
-    })
+    let kept = kept_of(alloc, how, dots)?;
+    let pairs = Vec::from_slice(alloc, pairs)?;
+    Ok(Series { pairs, kept })
 }
 
 /// Puts later points behind those of a series.
 pub(crate) fn append(series: &mut Series, dots: &Dots) -> Result<(), AllocError>
-    requires { All (λ d. IsAboveAll d.0 series.old.dots) dots.now }
+    requires { Takes series.old.kept dots.now }
     ensures pairs { series.new.pairs.items ≡ series.old.pairs.items }
-    ensures ok { OnOk result (series.new.dots ≡ series.old.dots ++ dots.now) }
-    ensures err { OnErr result (series.new.dots ≡ series.old.dots) }
+    ensures ok { OnOk result (KeepsMore series.old.kept series.new.kept dots.now) }
 {
-    series.dots.append(dots)
+    keep_more(&mut series.kept, dots)
 }
 
 /// How the series stands to these ids.

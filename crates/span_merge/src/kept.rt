@@ -1,0 +1,50 @@
+//! What is kept of the points of a series.
+ghost use Rattle.std.specs.Prelude.{◌≤◌, ◌<◌, ◌^◌, All, IfSome, IfOk, OnOk};
+ghost use Rattle.span_merge.specs.KeptPoints.{Keeps, KeepsMore, Takes};
+
+use downsample::bucket_fold::{BucketFold, fold_all};
+use std::alloc::{AllocError, Global};
+use tsd_base::dots::Dots;
+use tsd_base::kinds::Down;
+
+/// Buckets of at most so many milliseconds have about one point each.
+const ONE_POINT: u64 = 1000;
+
+/// The points of a series, or the buckets that they make.
+#[derive(Drop)]
+pub enum Kept {
+    /// The points themselves: nothing is downsampled, or a bucket has about one point.
+    Points { dots: Dots },
+    /// The buckets so far.
+    Buckets { fold: Box<BucketFold> },
+}
+
+/// These points, as they are kept where series are downsampled so. It fails only for want of memory.
+pub(crate) fn kept_of(alloc: Global, how: Option<Down>, dots: Dots) -> Result<Kept, AllocError>
+    requires interval { IfSome how (λ d. 1 ≤ d.interval) }
+    requires early { All (λ d. d.0 < 2 ^ 43) dots }
+    ensures { IfOk result (λ kept. Keeps how kept dots) }
+{
+    let Some(down) = how else {
+        return Ok(Kept::Points { dots });
+    };
+    if down.interval <= ONE_POINT {
+        return Ok(Kept::Points { dots });
+    }
+    let mut fold = BucketFold::make(alloc, down.interval, down.function);
+    fold_all(&mut fold, dots.list())?;
+    Ok(Kept::Buckets {
+        fold: Box::new(alloc, fold)?,
+    })
+}
+
+/// Adds later points. It fails only for want of memory, and then some of them may be added.
+pub(crate) fn keep_more(kept: &mut Kept, later: &Dots) -> Result<(), AllocError>
+    requires { Takes kept.old later.now }
+    ensures { OnOk result (KeepsMore kept.old kept.new later.now) }
+{
+    match kept {
+        Kept::Points { dots } => dots.append(later),
+        Kept::Buckets { fold } => fold_all(&mut **fold, later.list()),
+    }
+}
