@@ -151,7 +151,7 @@ begun_more c ds rest d all old now new before mid after outs is so x same = reco
 }
 
 -- no more were
-ended_there : (c : Admission) (ds rest all : List Data) (old new : Seen) (before after : List Stored) (outs : List Outcome)
+pub ended_there : (c : Admission) (ds rest all : List Data) (old new : Seen) (before after : List Stored) (outs : List Outcome)
     → all ≡ ds ++ rest → SoFar c ds old before outs new after → ElementsBegun c all old before new after
 ended_there c ds rest all old new before after outs is so = record {
   stored = so.put.stored;

@@ -1,2 +1,3 @@
 pub mod PutElements
+pub mod PutLines
 pub mod PutOneElement

@@ -2,3 +2,5 @@
 #![tactic(auto)]
 
 pub mod put_elements;
+pub mod put_lines;
+mod rest_elements;

@@ -108,7 +108,7 @@ fn unread(alloc: Global, fault: &ElementFault) -> Result<Option<Vec<u8>>, RowsFa
 }
 
 /// What is told of a point that wasn't put, unless memory ran out or the caller was stopped.
-fn refused(alloc: Global, fault: &PutFault) -> Result<Option<Vec<u8>>, RowsFault>
+pub(crate) fn refused(alloc: Global, fault: &PutFault) -> Result<Option<Vec<u8>>, RowsFault>
     ensures ok { IfOk result (λ out. RefusedPoint fault.now (text_of out)) }
     ensures stopped { result ≡ Err rows_fault.Stopped → fault.now ≡ put_fault.Stopped }
 {

@@ -1,0 +1,5 @@
+pub mod BodyTapes
+pub mod ElementLines
+pub mod ElementMembers
+pub mod LineWords
+pub mod PlainBodies

@@ -1,0 +1,8 @@
+//! The elements of a put's body, read from a tape of its tokens and written as lines, without a tree of values.
+#![tactic(auto)]
+
+pub mod body_tape;
+pub mod element_line;
+mod element_members;
+mod plain_tape;
+mod put_words;
