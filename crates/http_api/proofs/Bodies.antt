@@ -6,7 +6,7 @@ use Rattle.serde_json.specs.View.{items_of, items_view, view}
 use Rattle.serde_json.specs.declared.value.Value.{Value}
 use Rattle.http_api.specs.CallWork.{elements_by, elements_of, items_in}
 
-items_back : (ds : List Data) → items_in (items_of ds) ≡ ds
+pub items_back : (ds : List Data) → items_in (items_of ds) ≡ ds
 items_back [] = refl
 items_back (d ∷ ds) = ap (λ l. d ∷ l) (items_back ds)
 

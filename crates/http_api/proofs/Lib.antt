@@ -1,4 +1,5 @@
 mod Answering
 mod Bodies
 mod CallMoments
+mod ListPuts
 mod QueryTellings

@@ -1,23 +1,22 @@
 -- What a call asks for, a function of the call alone.
-use Rattle.std.specs.Prelude.{ℕ, Bool, ◌&&◌, nat_eq, is_none, is_some, List, [], ◌∷◌, codes, Option, None, Some, Result, Ok, Err, if◌then◌else◌}
-use Rattle.std.specs.Cmp.Lexicographic.{pointwise}
+use Rattle.std.specs.Prelude.{ℕ, Bool, true, false, is_some, List, [], ◌∷◌, codes, Option, None, Some, Result, Ok, Err, if◌then◌else◌}
 use Rattle.serde_json.specs.Data.{Data, Items, no_items, item}
 use Rattle.serde_json.specs.Find.{as_array, as_object}
-use Rattle.json_bodies.specs.JsonBodies.{json_of}
+use Rattle.http_requests.specs.JsonBodies.{json_of}
 use Rattle.json_reply.specs.ErrorBodies.{error_body}
-use Rattle.http_exchange.specs.declared.http_call.Call.{Call}
-use Rattle.http_exchange.specs.declared.http_call.Verb.{Verb}
-use Rattle.http_exchange.specs.declared.http_call.Verb.TheVariants.{Get, Post, Other}
-use Rattle.http_exchange.specs.declared.http_call.Refusal.{Refusal}
-use Rattle.http_exchange.specs.declared.http_call.Refusal.TheVariants.{BadHead, HeadTooLarge, Codings, BadLength, NoLength, BodyTooLarge}
-use Rattle.http_forms.specs.Forms.{first_value, form_pairs}
+use Rattle.http_requests.specs.declared.http_call.Call.{Call}
+use Rattle.http_requests.specs.declared.http_call.Verb.{Verb}
+use Rattle.http_requests.specs.declared.http_call.Verb.TheVariants.{Get, Post, Other}
+use Rattle.http_requests.specs.declared.http_call.Refusal.{Refusal}
+use Rattle.http_requests.specs.declared.http_call.Refusal.TheVariants.{BadHead, HeadTooLarge, Codings, BadLength, NoLength, BodyTooLarge}
+use Rattle.http_requests.specs.Forms.{first_value, form_pairs}
 use Rattle.http_reply.specs.declared.reply_status.Status.{Status}
 use Rattle.http_reply.specs.declared.reply_status.Status.TheVariants as status
 use Rattle.http_reply.specs.FixedBodies.{aggregators_body, version_body}
 use Rattle.http_reply.specs.ReplyStatuses.{code_of}
-use Rattle.http_routes.specs.Routes.{route_of}
-use Rattle.http_routes.specs.declared.routes.Route.{Route}
-use Rattle.http_routes.specs.declared.routes.Route.TheVariants as route
+use Rattle.http_requests.specs.Routes.{route_of}
+use Rattle.http_requests.specs.declared.routes.Route.{Route}
+use Rattle.http_requests.specs.declared.routes.Route.TheVariants as route
 use Rattle.name_requests.specs.AssignRequests.{AssignLists, assign_by_body, assign_by_form}
 use Rattle.name_requests.specs.declared.fault.AssignFault.{AssignFault}
 use Rattle.name_requests.specs.declared.fault.SuggestFault.{SuggestFault}
@@ -158,6 +157,23 @@ by_refusal now None call = by_route now (route_of call.path) call
 unfoldable pub work_of : ℕ → Call → Work
 work_of now call = by_refusal now call.refused call
 
--- the clock is asked for a call that isn't refused and whose path is that of queries, whatever its method
+-- the route of a call that isn't refused
+abbrev pub route_unless : Option Refusal → List ℕ → Option Route
+route_unless (Some refusal) path = None
+route_unless None path = route_of path
+
+abbrev pub call_route : Call → Option Route
+call_route call = route_unless call.refused call.path
+
+-- the clock is asked where the path is that of queries, whatever the method
+abbrev pub asks_moment : Option Route → Bool
+asks_moment (Some route.Query) = true
+asks_moment (Some route.Aggregators) = false
+asks_moment (Some route.Put) = false
+asks_moment (Some route.Suggest) = false
+asks_moment (Some route.Assign) = false
+asks_moment (Some route.Version) = false
+asks_moment None = false
+
 abbrev pub asks_clock : Call → Bool
-asks_clock call = is_none call.refused && pointwise nat_eq call.path (codes "/api/query")
+asks_clock call = asks_moment (call_route call)

@@ -13,7 +13,7 @@ use Rattle.queued_put.specs.PutRows.{MayHaveRows}
 use Rattle.json_reply.specs.ErrorBodies.{error_body}
 use Rattle.json_reply.specs.Replies.{Group, text_of}
 use Rattle.json_reply.specs.Texts.{names_text}
-use Rattle.http_exchange.specs.declared.http_call.Call.{Call}
+use Rattle.http_requests.specs.declared.http_call.Call.{Call}
 use Rattle.http_put.specs.PutElements.{Outcome, PutBegun, PutRan}
 use Rattle.http_assign.specs.AssignLists.{AssignBegun, AssignRan, IdTold, of_kind, outcomes_of}
 use Rattle.http_assign.specs.SuggestNames.{SuggestAsked, SuggestBegun}
@@ -30,7 +30,7 @@ use Rattle.query_run.specs.AskFaultTexts.{ask_fault_text}
 use Rattle.query_run.specs.AskedQueries.{QueryAsked}
 use Rattle.query_run.specs.declared.fault.AskFault.{AskFault}
 use Rattle.query_run.specs.declared.fault.AskFault.TheVariants.{OutOfMemory, Stopped}
-use Rattle.http_api.specs.CallWork.{Work, work_of}
+use Rattle.http_api.specs.CallWork.{PutFlags, Work, work_of}
 use Rattle.http_api.specs.CallWork.Work.{Says, Puts, Assigns, Suggests, Asks}
 
 -- ---- an assignment's elements
@@ -140,3 +140,7 @@ pub record WorkBroken (c : Admission) (work : Work) (old : Seen) (before : List 
 
 abbrev pub CallBroken : Admission → ℕ → Call → Seen → List Stored → Seen → List Stored → Type 0
 CallBroken c now call old before new after = WorkBroken c (work_of now call) old before new after
+
+-- the reply that tells of elements
+abbrev pub list_reply : PutFlags → Bool → List Outcome → List ℕ
+list_reply flags closing outcomes = reply_bytes (put_status flags.details flags.summary outcomes) closing (put_body flags.details flags.summary outcomes)

@@ -1,24 +1,24 @@
 //! What a request asks for.
 ghost use Rattle.std.specs.Prelude.{◌≡◌, ℕ, false, IfOk, Result};
-ghost use Rattle.http_routes.specs.Routes.{route_table, valued};
-ghost use Rattle.json_bodies.specs.JsonBodies.{json_of};
+ghost use Rattle.http_requests.specs.Routes.{route_table, valued};
+ghost use Rattle.http_requests.specs.JsonBodies.{json_of};
 ghost use Rattle.name_requests.specs.AssignRequests.{AssignLists, GivesAssign, assign_lists};
 ghost use Rattle.name_requests.specs.SuggestRequests.{GivesSuggest, IsMax, Suggestion, suggestion};
 ghost use Rattle.query_requests.specs.QueryReadings.{CanWork, GivesQuery};
 ghost use Rattle.query_text.specs.declared.queries.Query.{Query};
 ghost use Rattle.query_text.specs.declared.queries.QueryFault.{QueryFault};
 ghost use Rattle.http_reply.specs.declared.reply_status.Status.{Status};
-ghost use Rattle.http_api.specs.CallWork.{work_of, by_route, refusal_status, refusal_message, refuses, put_flags, puts_body, assigns, suggests, asks, asks_body, asks_clock, got_by, posted_by};
+ghost use Rattle.http_api.specs.CallWork.{work_of, by_route, refusal_status, refusal_message, refuses, put_flags, puts_body, assigns, suggests, asks, asks_body, asks_moment, call_route, got_by, posted_by};
 ghost use Rattle.http_api.specs.CallWork.Work.{Says};
 ghost use Rattle.http_api.specs.CallTasks.{IsTask};
 
 use crate::put_body::elements_of;
-use http_exchange::http_call::{Call, Refusal, Verb};
-use http_forms::form::Form;
 use http_reply::fixed_bodies::{aggregators_body, version_body};
 use http_reply::reply_status::Status;
-use http_routes::routes::{Route, route_of};
-use json_bodies::json_body::read_json;
+use http_requests::form::Form;
+use http_requests::http_call::{Call, Refusal, Verb};
+use http_requests::json_body::read_json;
+use http_requests::routes::{Route, route_of};
 use json_reply::error_body::error_text;
 use matchit::Router;
 use name_requests::assign_request::{AssignRequest, assign_by_body, assign_by_form};
@@ -58,30 +58,41 @@ pub enum Task {
     },
 }
 
-/// Whether the clock is asked for a request: it isn't refused, and its path is `/api/query`, whatever its method. Any other asks for
-/// the same at every moment.
-pub fn asks_clock(call: &Call) -> bool
-    ensures asks { result ≡ asks_clock call.now }
-    ensures alike { result ≡ false → (a b : ℕ) → work_of a call.now ≡ work_of b call.now }
+/// The route of a request that isn't refused, by its path. A request whose route doesn't ask the clock asks for the same at every
+/// moment.
+pub fn call_route(router: &Router<Route>, call: &Call) -> Option<Route>
+    requires { valued router.now ≡ route_table }
+    ensures route { result ≡ call_route call.now }
+    ensures alike { asks_moment result ≡ false → (a b : ℕ) → work_of a call.now ≡ work_of b call.now }
 {
-    call.refused.is_none() && call.path.list() == b"/api/query".as_slice()
+    match call.refused {
+        Some(_) => None,
+        None => route_of(router, call.path.list()),
+    }
 }
 
-/// What a request asks for at a moment, in milliseconds since 1970: the refusal of its head, or else what its path and its method say. It
-/// fails only for want of memory.
+/// Whether the clock is asked for a request of this route: that of queries, whatever its method.
+pub fn asks_clock(route: Option<Route>) -> bool
+    ensures { result ≡ asks_moment route }
+{
+    matches!(route, Some(Route::Query))
+}
+
+/// What a request of this route asks for at a moment, in milliseconds since 1970: the refusal of its head, or else what its path and its
+/// method say. It fails only for want of memory.
 #[tactic(auto, unfolding(crate::specs::CallWork::work_of))]
 pub fn task_of(
     alloc: Global,
-    router: &Router<Route>,
+    route: Option<Route>,
     call: &Call,
     now: u64,
 ) -> Result<Task, AllocError>
-    requires { valued router.now ≡ route_table }
+    requires { route ≡ call_route call.now }
     ensures { IfOk result (IsTask (work_of now call.now)) }
 {
     match call.refused {
         Some(refusal) => refused_task(alloc, refusal),
-        None => routed_task(alloc, route_of(router, call.path.list()), call, now),
+        None => routed_task(alloc, route, call, now),
     }
 }
 

@@ -7,16 +7,16 @@ ghost use Rattle.serde_json.specs.View.{view};
 ghost use Rattle.cell_model.specs.Seen.{Seen};
 ghost use Rattle.cell_model.specs.Stops.{CountsStops, is_stop};
 ghost use Rattle.cell_model.specs.declared.answers.RowsFault.TheVariants as rows_fault;
-ghost use Rattle.http_routes.specs.Routes.{route_table, valued};
 ghost use Rattle.name_requests.specs.AssignRequests.{assign_lists};
 ghost use Rattle.name_requests.specs.SuggestRequests.{IsMax, suggestion};
 ghost use Rattle.http_api.specs.CallTasks.{IsTask};
-ghost use Rattle.http_api.specs.CallWork.{Work};
+ghost use Rattle.http_api.specs.CallWork.{Work, call_route};
 ghost use Rattle.http_api.specs.CallWork.Work.{Assigns, Puts, Says, Suggests};
 ghost use Rattle.http_api.specs.HttpAnswers.{CallBroken, CallReplied, WorkBroken, WorkReplied};
 
 use crate::answered_names::assignment_of;
 use crate::call_task::{Task, task_of};
+use crate::list_put::answer_list;
 use crate::put_body::elements_of;
 use crate::query_reply::answer_query;
 use cell_model::answers::RowsFault;
@@ -24,15 +24,14 @@ use cell_model::rows::Rows;
 use compactor::queue::Queue;
 use http_assign::assign_lists::assign_lists;
 use http_assign::suggest_names::suggest_names;
-use http_exchange::http_call::Call;
 use http_put::put_elements::put_elements;
 use http_reply::assign_reply::assign_reply;
 use http_reply::put_reply::put_reply;
 use http_reply::reply_status::Status;
 use http_reply::response::reply;
-use http_routes::routes::Route;
+use http_requests::http_call::Call;
+use http_requests::routes::Route;
 use json_reply::names_text::names_text;
-use matchit::Router;
 use name_requests::assign_request::AssignRequest;
 use name_requests::suggest_request::SuggestRequest;
 use point_put::Config;
@@ -41,7 +40,7 @@ use std::alloc::{AllocError, Global};
 use tsd_hooks::UidRule;
 use uid_table::uids::Uids;
 
-/// Answers a request with the bytes of its reply, over any rows.
+/// Answers a request of this route with the bytes of its reply, over any rows.
 ///
 /// A refusal is told first: of the head, then of the path, the method, and of what the path's requests read. A put asks its
 /// elements and an assignment its names one after the other, and a new name of either is given an id only where the rule allows it;
@@ -50,7 +49,7 @@ use uid_table::uids::Uids;
 /// a step; what was done before stays done.
 pub fn answer<R: Rows + Drop>(
     alloc: Global,
-    router: &Router<Route>,
+    route: Option<Route>,
     names: &mut Uids<R>,
     rule: &UidRule,
     config: &Config,
@@ -58,12 +57,35 @@ pub fn answer<R: Rows + Drop>(
     call: &Call,
     now: u64,
 ) -> Result<Vec<u8>, RowsFault>
-    requires { valued router.now ≡ route_table }
+    requires { route ≡ call_route call.now }
     ensures ok { IfOk result (λ reply. CallReplied (admission config.now rule.now.patterns) now call.now (R.seen names.old.rows) queue.old reply.items (R.seen names.new.rows) queue.new) }
     ensures err { OnErr result (CallBroken (admission config.now rule.now.patterns) now call.now (R.seen names.old.rows) queue.old (R.seen names.new.rows) queue.new) }
     ensures stops { CountsStops is_stop result (R.stops names.old.rows) (R.stops names.new.rows) }
 {
-    match task_of(alloc, router, call, now) {
+    let found = answer_list(alloc, route, names, rule, config, queue, call)?;
+    match found {
+        Some(reply) => Ok(reply),
+        None => answer_task(alloc, route, names, rule, config, queue, call, now),
+    }
+}
+
+/// Answers a request of this route by its task.
+fn answer_task<R: Rows + Drop>(
+    alloc: Global,
+    route: Option<Route>,
+    names: &mut Uids<R>,
+    rule: &UidRule,
+    config: &Config,
+    queue: &mut Queue,
+    call: &Call,
+    now: u64,
+) -> Result<Vec<u8>, RowsFault>
+    requires { route ≡ call_route call.now }
+    ensures ok { IfOk result (λ reply. CallReplied (admission config.now rule.now.patterns) now call.now (R.seen names.old.rows) queue.old reply.items (R.seen names.new.rows) queue.new) }
+    ensures err { OnErr result (CallBroken (admission config.now rule.now.patterns) now call.now (R.seen names.old.rows) queue.old (R.seen names.new.rows) queue.new) }
+    ensures stops { CountsStops is_stop result (R.stops names.old.rows) (R.stops names.new.rows) }
+{
+    match task_of(alloc, route, call, now) {
         Ok(task) => perform(alloc, names, rule, config, queue, &task, call.closing),
         Err(_) => Err(RowsFault::OutOfMemory),
     }

@@ -4,8 +4,9 @@
 mod answered_names;
 mod call_task;
 pub mod http_answer;
+mod list_put;
 mod put_body;
 mod query_reply;
 
-pub use call_task::asks_clock;
+pub use call_task::{asks_clock, call_route};
 pub use http_answer::answer;

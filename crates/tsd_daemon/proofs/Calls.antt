@@ -4,9 +4,9 @@ use Rattle.std.specs.Prelude.{None, Some, if◌then◌else◌}
 use Rattle.cell_model.specs.declared.answers.Stored.{Stored}
 use Rattle.cell_model.specs.Seen.{Seen}
 use Rattle.point_put.specs.Admissions.{Admission}
-use Rattle.http_exchange.specs.declared.http_call.Call.{Call}
-use Rattle.http_exchange.specs.HttpSessions as sessions
-use Rattle.http_exchange.specs.HttpUnread.{Unread}
+use Rattle.http_requests.specs.declared.http_call.Call.{Call}
+use Rattle.http_requests.specs.HttpSessions as sessions
+use Rattle.http_requests.specs.HttpUnread.{Unread}
 use Rattle.http_api.specs.HttpAnswers.{CallBroken, CallReplied}
 use Rattle.tsd_daemon.specs.declared.counts.Counts.{Counts}
 use Rattle.tsd_daemon.specs.declared.counts.Counted.TheVariants as counted

@@ -1,12 +1,9 @@
 -- Moments that the clock gives one after the other.
 use Rattle.std.proofs.Common.{◌≡◌, ℕ, Bool, true, false, List, [], ◌∷◌, ◌++◌, refl, sym, subst}
 use Rattle.std.specs.Prelude.{Option, None, Some, option_to_list, Result, Ok, Err, IfOk, if◌then◌else◌}
-use Rattle.http_exchange.specs.declared.http_call.Call.{Call}
 use Rattle.tsd_io.specs.Ticks.{IsCalled, Ticks}
 use Rattle.tsd_daemon.specs.ConnClocks.{CalledForEach, ClockTells, Gave, Ticked}
-use Rattle.tsd_daemon.specs.ConnRequests.{asks_clock}
-use Rattle.tsd_daemon.specs.ConnRequests.ConnRequest.{Http}
-use Rattle.tsd_daemon.specs.Exchanges.{moment_for}
+use Rattle.tsd_daemon.specs.Exchanges.{moment_by}
 
 -- some, and then more
 moments_joined : (moments between after : Option (List ℕ)) (xs ys : List ℕ) → Gave moments xs between → Gave between ys after → Gave moments (xs ++ ys) after
@@ -28,13 +25,13 @@ pub no_ticks : (clock : ClockTells) → Ticked clock [] clock
 no_ticks clock = record { gave = refl; called = refl }
 
 -- the one moment of a call that asks the clock
-pub moment_asked : {E : Type 0} (call : Call) (moments after : Option (List ℕ)) (calls calls' : Option ℕ) (r : Result ℕ E) → asks_clock (Http call) ≡ true → IfOk r (λ moment. Ticks moments moment after) → IsCalled calls calls'
-    → IfOk r (λ now. Ticked (record { moments = moments; calls = calls }) (option_to_list (moment_for call now)) (record { moments = after; calls = calls' }))
-moment_asked call moments after calls calls' (Err e) asks tick called = tt
-moment_asked call moments after calls calls' (Ok moment) asks tick called =
+pub moment_asked : {E : Type 0} (asked : Bool) (moments after : Option (List ℕ)) (calls calls' : Option ℕ) (r : Result ℕ E) → asked ≡ true → IfOk r (λ moment. Ticks moments moment after) → IsCalled calls calls'
+    → IfOk r (λ now. Ticked (record { moments = moments; calls = calls }) (option_to_list (moment_by asked now)) (record { moments = after; calls = calls' }))
+moment_asked asked moments after calls calls' (Err e) asks tick called = tt
+moment_asked asked moments after calls calls' (Ok moment) asks tick called =
     subst (λ (b : Bool). Ticked (record { moments = moments; calls = calls }) (option_to_list (if b then Some moment else None)) (record { moments = after; calls = calls' })) (sym asks)
     (record { gave = (after, tick, refl); called = (calls', called, refl) })
 
 -- none of a call that doesn't
-pub moment_unasked : (call : Call) (clock : ClockTells) (now : ℕ) → asks_clock (Http call) ≡ false → Ticked clock (option_to_list (moment_for call now)) clock
-moment_unasked call clock now asks = subst (λ (b : Bool). Ticked clock (option_to_list (if b then Some now else None)) clock) (sym asks) (no_ticks clock)
+pub moment_unasked : (asked : Bool) (clock : ClockTells) (now : ℕ) → asked ≡ false → Ticked clock (option_to_list (moment_by asked now)) clock
+moment_unasked asked clock now asks = subst (λ (b : Bool). Ticked clock (option_to_list (if b then Some now else None)) clock) (sym asks) (no_ticks clock)

@@ -1,5 +1,5 @@
 -- What each lawful history says of names, and of the connections that were served in it.
-use Rattle.std.proofs.Common.{◌≡◌, ◌⊎◌, inl, inr, ⊎_elim, ℕ, zero, suc, ◌+◌, ◌-◌, ◌≤◌, ◌<◌, Bool, true, false, List, [], ◌∷◌, ◌++◌, refl, sym, ap, subst, ◌∙◌, arith, rules}
+use Rattle.std.proofs.Common.{◌≡◌, ◌⊎◌, inl, inr, ⊎_elim, ℕ, zero, suc, ◌+◌, ◌≤◌, ◌<◌, Bool, true, false, List, [], ◌∷◌, refl, sym, ap, subst, ◌∙◌, arith, rules}
 use Rattle.std.specs.Prelude.{◌≢◌, Contains, Option, None, Some, Result, Ok, Err, nat_eq, nat_le, if◌then◌else◌, option_and_then, option_to_list}
 use Rattle.std.specs.Int.{w64, to_be_bytes}
 use Rattle.std.proofs.lemmas.List.{append-nil}
@@ -13,7 +13,6 @@ use Rattle.cell_model.specs.declared.answers.Stored.{Stored}
 use Rattle.cell_model.specs.declared.events.Entry.{Entry}
 use Rattle.cell_model.specs.declared.events.Placed.{Placed}
 use Rattle.cell_model.specs.declared.events.Step.{Step}
-use Rattle.cell_model.specs.declared.events.Step.TheVariants.{PutPoint}
 use Rattle.cell_model.specs.Deeds.{before_first, deeds}
 use Rattle.cell_model.specs.History.{History, base_of, len, entry_at, first, store_after, Had}
 use Rattle.cell_model.specs.History.History.{Base, Then}
@@ -23,7 +22,7 @@ use Rattle.cell_model.specs.Machine.{kind_qual}
 use Rattle.cell_model.specs.Readings.{Reading, OneValued, HasReading, IsPut, Accepted, reading_of}
 use Rattle.cell_model.specs.Seen.{Seen, InEach}
 use Rattle.cell_model.specs.Store.{Store, value_at}
-use Rattle.cell_laws.proofs.CallerLemmas.{Begins, whole, longer, begins_first, cell_by, deeds_each, entry_at-more, first_first, first_lawful, keeps_id, name_keeps, names_back, one_name, same_reading, sound_after}
+use Rattle.cell_laws.proofs.CallerLemmas.{Begins, whole, longer, begins_first, cell_by, deeds_each, entry_at-more, first_first, first_lawful, keeps_id, name_keeps, one_name, same_reading, sound_after}
 use Rattle.point_put.specs.Admissions.{Admission}
 use Rattle.point_put.specs.declared.fault.PutFault.{PutFault}
 use Rattle.point_put.specs.declared.fault.PutFault.TheVariants as fault
@@ -40,9 +39,7 @@ use Rattle.query_run.specs.AskedQueries.{answer_over, barred, names_in, wanted, 
 use Rattle.query_run.specs.Invisible.{AcceptedFor, IsOneValued}
 use Rattle.query_run.specs.Parts.{Part, all_own, PartStands}
 use Rattle.query_run.proofs.CallerLemmas.{StandIn, no_conflict_of}
-use Rattle.http_exchange.specs.declared.http_call.Call.{Call}
-use Rattle.http_api.specs.CallWork.{Work, work_of}
-use Rattle.http_api.specs.CallWork.Work.{Asks}
+use Rattle.http_api.specs.CallWork.{Work}
 use Rattle.http_api.specs.HttpAnswers.{Done}
 use Rattle.tsd_daemon.specs.declared.counts.Counts.{Counts}
 use Rattle.tsd_daemon.specs.declared.served.Served.{Served}
@@ -52,10 +49,10 @@ use Rattle.tsd_daemon.specs.ConnRequests.{ConnRequest}
 use Rattle.tsd_daemon.specs.ConnRequests.ConnRequest.{Telnet, Http}
 use Rattle.tsd_daemon.specs.Exchanges.{Exchange, AnsweredBetween, AnsweredBy, Ran, counts_of, moments_in, requests_in}
 use Rattle.tsd_daemon.specs.Exchanges.Ran.{start, then_asked}
-use Rattle.tsd_daemon.specs.ServedConns.{AllAnswered, BreaksOff, IsServed, Passes, ServesBytes, Table}
+use Rattle.tsd_daemon.specs.ServedConns.{AllAnswered, BreaksOff, Passes, ServesBytes, Table}
 use Rattle.tsd_daemon.specs.TakenInTurn.{InTurn, TakenInTurn, answers_all}
 use Rattle.tsd_daemon.specs.TakenInTurn.InTurn.{none_yet, then_one}
-use Rattle.tsd_daemon.specs.Headline.{AnsweredFrom, ArePlain, Headline, IsPlain, OneIdEach, RepliedPlainly}
+use Rattle.tsd_daemon.specs.Headline.{AnsweredFrom, ArePlain, Headline, IsPlain, RepliedPlainly}
 use Rattle.tsd_daemon.specs.Headline.ArePlain.{no_more, and_then}
 use Rattle.tsd_daemon.specs.HeadlineLaws.{HasOneIdEach, QueriesArePlain, ServedHasHeadline, StaysAccepted}
 

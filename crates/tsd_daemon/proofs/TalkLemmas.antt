@@ -13,7 +13,7 @@ use Rattle.compactor.specs.Queues.{HasRows}
 use Rattle.point_put.specs.Admissions.{Admission}
 use Rattle.queued_put.specs.PutRows.{MayHaveRows}
 use Rattle.telnet_put.specs.Requests.Request.{Put, Version, Help, Stats, DropCaches, Exit, Die, TooLong, Other}
-use Rattle.http_exchange.specs.declared.http_call.Call.{Call}
+use Rattle.http_requests.specs.declared.http_call.Call.{Call}
 use Rattle.tsd_daemon.specs.declared.counts.Counts.{Counts}
 use Rattle.tsd_daemon.specs.declared.served.Served.{Served}
 use Rattle.tsd_daemon.specs.declared.served.Served.TheVariants as answer

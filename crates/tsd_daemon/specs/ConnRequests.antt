@@ -3,8 +3,8 @@ use Rattle.std.specs.Prelude.{ℕ, Bool, false, ◌&&◌, nat_le, List, [], ◌�
 use Rattle.tsd_base.specs.Points.{DataPoint}
 use Rattle.telnet_put.specs.Requests.{Request, closes, requests_of}
 use Rattle.telnet_put.specs.Requests.Request.{Put, Exit, Die}
-use Rattle.http_exchange.specs.declared.http_call.Call.{Call}
-use Rattle.http_exchange.specs.HttpRequests as http
+use Rattle.http_requests.specs.declared.http_call.Call.{Call}
+use Rattle.http_requests.specs.HttpRequests as http
 use Rattle.http_api.specs.CallWork as work
 use Rattle.tsd_daemon.specs.declared.served.Served.{Served}
 use Rattle.tsd_daemon.specs.declared.served.Served.TheVariants as answer

@@ -13,7 +13,7 @@ use Rattle.telnet_put.specs.Requests.{Request}
 use Rattle.telnet_put.specs.Requests.Request.{Put}
 use Rattle.http_api.specs.HttpAnswers.{CallAnswered, CallBegun}
 use Rattle.tsd_daemon.specs.declared.counts.Counts.{Counts}
-use Rattle.http_exchange.specs.declared.http_call.Call.{Call}
+use Rattle.http_requests.specs.declared.http_call.Call.{Call}
 use Rattle.tsd_daemon.specs.ConnRequests.{ConnRequest, asks_clock, point_asked}
 use Rattle.tsd_daemon.specs.ConnRequests.ConnRequest.{Telnet, Http}
 use Rattle.tsd_daemon.specs.ConnReplies.{IsTold, fixed_reply}
@@ -73,8 +73,11 @@ AnsweredBy c h own counts request (Some point) reply stored = (outcome : Result 
 AnsweredBy c h own counts request None reply stored = (own ≡ []) × (reply ≡ fixed_reply counts request) × (stored ≡ [])
 
 -- what the clock gave for a call that is worked at this moment: the moment where the call asks it, else nothing
+abbrev pub moment_by : Bool → ℕ → Option ℕ
+moment_by asks now = if asks then Some now else None
+
 abbrev pub moment_for : Call → ℕ → Option ℕ
-moment_for call now = if asks_clock (Http call) then Some now else None
+moment_for call now = moment_by (asks_clock (Http call)) now
 
 -- A request was answered between two lengths of the history with this reply, and these rows are to be queued, where the counts are those of the requests before
 -- it and the clock gave this moment for it. A telnet session's request never asks the clock.

@@ -5,8 +5,8 @@ use Rattle.std.specs.Io.KnownBytes.{Appends, Consumes}
 use Rattle.tsd_io.specs.Causes.{Rose}
 use Rattle.telnet_put.specs.Unread.{Unread}
 use Rattle.telnet_put.specs.Sessions.{to_come}
-use Rattle.http_exchange.specs.HttpSessions as calls
-use Rattle.http_exchange.specs.HttpUnread as http
+use Rattle.http_requests.specs.HttpSessions as calls
+use Rattle.http_requests.specs.HttpUnread as http
 use Rattle.cell_model.specs.declared.answers.Stored.{Stored}
 use Rattle.cell_model.specs.History.{History}
 use Rattle.cell_model.specs.Lawful.{IsLawful}

@@ -1,13 +1,14 @@
 //! Working one call of an HTTP connection.
 ghost use Rattle.std.specs.Prelude.{◌≡◌, ℕ, true, List, [], option_to_list, IfOk, OnErr};
-ghost use Rattle.http_routes.specs.Routes.{route_table, valued};
+ghost use Rattle.http_requests.specs.Routes.{route_table, valued};
+ghost use Rattle.http_api.specs.CallWork.{asks_moment, call_route};
 ghost use Rattle.tsd_io.specs.Causes.{HasCause};
 ghost use Rattle.tsd_io.specs.Ticks.{IsCalled};
 ghost use Rattle.point_put.specs.Admissions.{admission};
 ghost use Rattle.tsd_daemon.specs.ConnClocks.{ClockTells, Ticked};
-ghost use Rattle.tsd_daemon.specs.ConnRequests.{ConnRequest, asks_clock};
+ghost use Rattle.tsd_daemon.specs.ConnRequests.{ConnRequest};
 ghost use Rattle.tsd_daemon.specs.ConnRequests.ConnRequest.{Http};
-ghost use Rattle.tsd_daemon.specs.Exchanges.{moment_for};
+ghost use Rattle.tsd_daemon.specs.Exchanges.{moment_by, moment_for};
 ghost use Rattle.tsd_daemon.specs.Talks.{Causes, ClockCauses, ClockMoves, IsNext};
 
 use crate::counts::Counted;
@@ -16,9 +17,9 @@ use crate::session::{Session, tell_last};
 use cell_model::answers::RowsFault;
 use cell_model::rows::Rows;
 use compactor::queue::Queue;
-use http_api::{answer, asks_clock};
-use http_exchange::http_call::Call;
-use http_routes::routes::Route;
+use http_api::{answer, asks_clock, call_route};
+use http_requests::http_call::Call;
+use http_requests::routes::Route;
 use matchit::Router;
 use point_put::Config;
 use std::alloc::Global;
@@ -101,31 +102,32 @@ fn call_in_turn<R: Rows + Drop, K: Sink, C: Clock>(
     ensures causes { ClockCauses (K.faults sink.old) (K.faults sink.new) (R.stops names.old.rows) (R.stops names.new.rows) (C.faults clock.old) (C.faults clock.new) result }
     ensures number { K.number sink.new ≡ K.number sink.old }
 {
-    match moment_of(clock, call) {
+    let route = call_route(router, call);
+    match moment_of(clock, route) {
         Ok(now) => call_at(
-            alloc, router, names, rule, config, queue, sink, session, call, now,
+            alloc, route, names, rule, config, queue, sink, session, call, now,
         ),
         Err(_) => Some(Served::ClockFault),
     }
 }
 
-/// The moment at which a call is worked, in milliseconds since 1970: the clock's where the call asks it, else 0.
-fn moment_of<C: Clock>(clock: &mut C, call: &Call) -> Result<u64, Failed>
-    ensures ok { IfOk result (λ now. Ticked (record { moments = C.moments clock.old; calls = C.calls clock.old }) (option_to_list (moment_for call.now now)) (record { moments = C.moments clock.new; calls = C.calls clock.new })) }
-    ensures err { OnErr result ((asks_clock (Http call.now) ≡ true) × (C.moments clock.new ≡ C.moments clock.old)) }
+/// The moment at which a call of this route is worked, in milliseconds since 1970: the clock's where the route asks it, else 0.
+fn moment_of<C: Clock>(clock: &mut C, route: Option<Route>) -> Result<u64, Failed>
+    ensures ok { IfOk result (λ now. Ticked (record { moments = C.moments clock.old; calls = C.calls clock.old }) (option_to_list (moment_by (asks_moment route) now)) (record { moments = C.moments clock.new; calls = C.calls clock.new })) }
+    ensures err { OnErr result ((asks_moment route ≡ true) × (C.moments clock.new ≡ C.moments clock.old)) }
     ensures called { OnErr result (IsCalled (C.calls clock.old) (C.calls clock.new)) }
     ensures cause { HasCause (C.faults clock.old) (C.faults clock.new) result }
 {
-    if asks_clock(call) {
+    if asks_clock(route) {
         return clock.now();
     }
     Ok(0)
 }
 
-/// Works one call at this moment, where no reply waits.
+/// Works one call of this route at this moment, where no reply waits.
 fn call_at<R: Rows + Drop, K: Sink>(
     alloc: Global,
-    router: &Router<Route>,
+    route: Option<Route>,
     names: &mut Uids<R>,
     rule: &UidRule,
     config: &Config,
@@ -135,7 +137,7 @@ fn call_at<R: Rows + Drop, K: Sink>(
     call: &Call,
     now: u64,
 ) -> Option<Served>
-    requires router { valued router.now ≡ route_table }
+    requires route { route ≡ call_route call.now }
     requires quiet { session.old.replies ≡ [] }
     ensures moves { (come come' : List ℕ → List ConnRequest) → IsNext (Http call.now) come come'
         → (told told' : ClockTells) → Ticked told (option_to_list (moment_for call.now now)) told'
@@ -144,7 +146,7 @@ fn call_at<R: Rows + Drop, K: Sink>(
     ensures causes { Causes (K.faults sink.old) (K.faults sink.new) (R.stops names.old.rows) (R.stops names.new.rows) result }
     ensures number { K.number sink.new ≡ K.number sink.old }
 {
-    let reply = match answer(alloc, router, names, rule, config, queue, call, now) {
+    let reply = match answer(alloc, route, names, rule, config, queue, call, now) {
         Ok(reply) => reply,
         Err(RowsFault::OutOfMemory) => return Some(Served::OutOfMemory),
         Err(RowsFault::Stopped) => return Some(Served::Stopped),

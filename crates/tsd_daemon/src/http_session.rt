@@ -1,7 +1,7 @@
 //! An HTTP connection, from its bytes to its replies.
 ghost use Rattle.std.specs.Prelude.{◌≡◌, ◌^◌, ◌<◌, ◌≤◌, [], None};
 ghost use Rattle.std.specs.Io.KnownBytes.{IsAtEnd};
-ghost use Rattle.http_routes.specs.Routes.{route_table, valued};
+ghost use Rattle.http_requests.specs.Routes.{route_table, valued};
 ghost use Rattle.point_put.specs.Admissions.{admission};
 ghost use Rattle.tsd_daemon.specs.ConnRequests.{http_asks};
 ghost use Rattle.tsd_daemon.specs.ServedConns.{ConnCauses};
@@ -14,8 +14,8 @@ use crate::served::Served;
 use crate::session::{Session, break_off};
 use cell_model::rows::Rows;
 use compactor::queue::Queue;
-use http_exchange::http_requests::Exchange;
-use http_routes::routes::{Route, make_router};
+use http_requests::request_stream::Exchange;
+use http_requests::routes::{Route, make_router};
 use matchit::Router;
 use point_put::Config;
 use std::alloc::Global;

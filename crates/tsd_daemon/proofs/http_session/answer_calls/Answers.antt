@@ -1,8 +1,8 @@
 use Rattle.std.proofs.Common.{◌∙◌, refl, subst, arith}
 use Rattle.std.specs.Prelude.{Option, None, Some}
 use Rattle.point_put.specs.Admissions.{admission}
-use Rattle.http_exchange.specs.declared.http_call.Call.{Call}
-use Rattle.http_exchange.specs.HttpSessions.{Turns}
+use Rattle.http_requests.specs.declared.http_call.Call.{Call}
+use Rattle.http_requests.specs.HttpSessions.{Turns}
 use Rattle.tsd_daemon.specs.Talks.{http_to_come}
 use Rattle.tsd_daemon.proofs.Moving.{clock_moves_on}
 use Rattle.tsd_daemon.proofs.Calls.{next_call, no_calls, same_calls}

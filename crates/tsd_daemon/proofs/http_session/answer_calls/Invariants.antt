@@ -1,7 +1,7 @@
 use Rattle.std.proofs.Common.{◌≡◌, length, []}
 use Rattle.std.specs.Prelude.{None}
 use Rattle.point_put.specs.Admissions.{admission}
-use Rattle.http_exchange.specs.HttpSessions.{to_come}
+use Rattle.http_requests.specs.HttpSessions.{to_come}
 use Rattle.tsd_daemon.specs.Talks.{ClockCauses, ClockMoves, http_to_come}
 use Rattle.tsd_daemon.proofs.http_session.answer_calls.Given as goal
 

@@ -1,4 +1,4 @@
-use Rattle.std.proofs.Common.{◌≡◌, ℕ, ◌-◌, ◌^◌, ◌≤◌, ◌++◌, []}
+use Rattle.std.proofs.Common.{◌≡◌, ◌-◌, ◌^◌, ◌≤◌, ◌++◌, []}
 use Rattle.point_put.specs.Admissions.{admission}
 use Rattle.tsd_daemon.specs.ConnClocks.{ClockTells}
 use Rattle.tsd_daemon.specs.ConnReplies.{no_counts}
