@@ -9,3 +9,4 @@ mod CellLoops
 mod Growing
 mod StreamTurns
 mod GiveTurns
+mod Sizes

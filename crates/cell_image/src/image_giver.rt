@@ -56,8 +56,12 @@ fn told_of(fault: GiveFault) -> GiveImageFault
     }
 }
 
-/// Gives the image of a listing of which each cell fits.
-fn give_fitting<K: Sink>(alloc: Global, sink: &mut K, listing: &Listing) -> Result<(), GiveFault>
+/// Gives the image of a listing of which each cell fits, piece by piece, as `give_image` does.
+pub fn give_fitting<K: Sink>(
+    alloc: Global,
+    sink: &mut K,
+    listing: &Listing,
+) -> Result<(), GiveFault>
     requires { first_large listing.now.lines ≡ None }
     ensures ok { OnOk result (Appends (K.held sink.old) (K.held sink.new) (image listing.now)) }
     ensures err { OnErr result (GaveFront (K.held sink.old) (K.held sink.new) (image listing.now)) }

@@ -5,6 +5,7 @@ pub mod image_fault;
 mod image_fields;
 pub mod image_giver;
 pub mod image_reader;
+pub mod image_size;
 pub mod image_stream;
 pub mod image_writer;
 pub mod laws;

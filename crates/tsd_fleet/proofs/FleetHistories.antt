@@ -20,8 +20,10 @@ use Rattle.tsd_daemon.specs.declared.served.Served.{Served}
 use Rattle.row_compactors.specs.Upkeep.{TakesPlaces, brings_new}
 use Rattle.conn_workers.specs.ServedLinks.{IsWithin, OnlyServed, ServedInTurn, ServedLink}
 use Rattle.conn_workers.specs.ServedLinks.ServedInTurn.{none_yet, then_served}
-use Rattle.site_workers.specs.GatheredLinks.{CallerLinks, Gathered, callers_of}
+use Rattle.link_workers.specs.Returns.{AllEnd}
+use Rattle.site_workers.specs.GatheredLinks.{CallerLinks, Gathered, GivenBack, callers_of, links_of}
 use Rattle.site_workers.proofs.CallerLemmas.{gathered_later, none_end}
+use Rattle.tsd_fleet.specs.Devices.{DoorsTold, FleetDevices, Terms}
 use Rattle.tsd_fleet.specs.FleetStands.{FleetStands, MadeServing, SiteWorked}
 
 -- ---- all that opened
@@ -89,16 +91,16 @@ own_number : (s : Seen) (number : ℕ) → Contains (numbers_of s) number → Is
 own_number s number has = ⊎_elim (λ (is : s.caller ≡ number). inl (sym is)) (λ i. inr i) (split s.caller number s.absorbed has)
 
 -- no connection was served in a history without an entry
-pub none_back : (T U : Type 0) (c : Admission) (moments : Option (List ℕ)) (base : Store) (back : Option (List Shut)) (faults : ℕ) (ends : List Served) → IsLawful (Base base) → ends ≡ [] → FleetStands T U c moments base base back back faults faults ends
-none_back T U c moments base back faults ends law none = record {
-  history = Base base;
+pub none_back : (terms : Terms) (before after : FleetDevices) (ends : List Served) → IsLawful (Base terms.base) → after.doors.back ≡ before.doors.back → after.clock.faults ≡ before.clock.faults → ends ≡ [] → FleetStands terms before after terms.base ends
+none_back terms before after ends law same still none = record {
+  history = Base terms.base;
   lawful = law;
   base_is = refl;
   store_is = refl;
   callers = [];
   different = none_different;
-  served = All-nil (λ (k : CallerLinks). OnlyServed T U c moments (Base base) k.caller k.last k.links);
-  given = record { doors = none_end back; ends_are = none; clock_faults = omega arith };
+  served = All-nil (λ (k : CallerLinks). OnlyServed terms.inlets_tell terms.outlets_tell terms.admission before.clock.moments (Base terms.base) k.caller k.last k.links);
+  given = record { doors = subst (λ (o : Option (List Shut)). AllEnd before.doors.back o []) (sym same) (none_end before.doors.back); ends_are = none; clock_faults = omega (arith, still) };
   nothing_else = λ place e at new. absurd (no_entry e at);
 }
   where
@@ -106,10 +108,11 @@ none_back T U c moments base back faults ends law none = record {
     no_entry e is = cc
 
 -- the site's own history is one that fits
-pub stands : (T U : Type 0) (c : Admission) (moments : Option (List ℕ)) (opened : List ℕ) (s : Seen) (base store : Store) (back back' : Option (List Shut)) (faults faults' : ℕ) (ends : List Served) (h : History) → IsLawful h → Fits s h → base_of h ≡ base → store ≡ store_after h
+pub stands : (terms : Terms) (before after : FleetDevices) (opened : List ℕ) (s : Seen) (store : Store) (ends : List Served) (h : History) → IsLawful h → Fits s h → base_of h ≡ terms.base → store ≡ store_after h
     → ((place : ℕ) (e : Entry) → IsOwn s e.caller → entry_at h place ≡ Some e → Saw s place e) → ((caller : ℕ) → IsOwn s caller → (entry_at h caller ≡ Some (opening caller)) × Contains opened caller)
-    → ((place : ℕ) (e : Entry) → entry_at h place ≡ Some e → Contains opened e.caller) → SiteWorked T U c moments opened s back back' faults faults' ends → FleetStands T U c moments base store back back' faults faults' ends
-stands T U c moments opened s base store back back' faults faults' ends h law fits base_is store_is own mine listed w = record {
+    → ((place : ℕ) (e : Entry) → entry_at h place ≡ Some e → Contains opened e.caller)
+    → SiteWorked terms.inlets_tell terms.outlets_tell terms.admission before.clock.moments opened s before.doors.back after.doors.back before.clock.faults after.clock.faults ends → FleetStands terms before after store ends
+stands terms before after opened s store ends h law fits base_is store_is own mine listed w = record {
   history = h;
   lawful = law;
   base_is = base_is;
@@ -124,7 +127,7 @@ stands T U c moments opened s base store back back' faults faults' ends h law fi
       (Contains-append_cases (callers_of g.callers) w.others e.caller (all_listed (callers_of g.callers ++ w.others) opened w.different within count e.caller (listed place e at)));
 }
   where
-    g : Gathered T U c moments s (numbers_of s) w.count back back' faults faults' ends
+    g : Gathered terms.inlets_tell terms.outlets_tell terms.admission before.clock.moments s (numbers_of s) w.count before.doors.back after.doors.back before.clock.faults after.clock.faults ends
     g = w.gathered
 
     within : (number : ℕ) → Contains (callers_of g.callers ++ w.others) number → Contains opened number
@@ -133,11 +136,26 @@ stands T U c moments opened s base store back back' faults faults' ends h law fi
     count : length opened ≡ length (callers_of g.callers ++ w.others)
     count = w.all ∙ sym (length-append (callers_of g.callers) w.others ∙ ap (λ n. n + length w.others) (length-map g.callers (λ (k : CallerLinks). k.caller) ∙ g.count_is))
 
-    serving : (place : ℕ) (e : Entry) → entry_at h place ≡ Some e → brings_new e.step ≡ true → (k : CallerLinks) × Contains g.callers k × (k.caller ≡ e.caller) → MadeServing T U c moments h g.callers place e
+    serving : (place : ℕ) (e : Entry) → entry_at h place ≡ Some e → brings_new e.step ≡ true → (k : CallerLinks) × Contains g.callers k × (k.caller ≡ e.caller) → MadeServing terms.inlets_tell terms.outlets_tell terms.admission before.clock.moments h g.callers place e
     serving place e at new k =
         let low = (own place e (own_number s e.caller (g.among e.caller (subst (Contains (callers_of g.callers)) k.2 (in_map (λ (k : CallerLinks). k.caller) g.callers k.0 k.1)))) at).0 in
-        let turns = (all_in (λ (k : CallerLinks). OnlyServed T U c moments h k.caller k.last k.links) k.0 g.callers (g.served h law fits) k.1).in_turn in
+        let turns = (all_in (λ (k : CallerLinks). OnlyServed terms.inlets_tell terms.outlets_tell terms.admission before.clock.moments h k.caller k.last k.links) k.0 g.callers (g.served h law fits) k.1).in_turn in
         (k.0, k.1, sym k.2, (turns, serves_one turns place e (g.none_behind k.0 k.1 h fits place e low (sym k.2) at) (sym k.2) at new))
+
+-- the same over another name of the base, where the doors were otherwise before
+pub stands_from : (terms : Terms) (b : Store) (before after : FleetDevices) (d : DoorsTold) (store : Store) (ends : List Served) → b ≡ terms.base → d.back ≡ before.doors.back
+    → FleetStands (record terms { base = b }) (record before { doors = d }) after store ends → FleetStands terms before after store ends
+stands_from terms b before after d store ends same still f = record {
+  history = f.history;
+  lawful = f.lawful;
+  base_is = f.base_is ∙ same;
+  store_is = f.store_is;
+  callers = f.callers;
+  different = f.different;
+  served = f.served;
+  given = subst (λ (o : Option (List Shut)). GivenBack o after.doors.back before.clock.faults after.clock.faults ends (links_of f.callers)) still f.given;
+  nothing_else = f.nothing_else;
+}
 
 -- what was gathered, and then the places of those taken that only compacted
 pub worked : (T U : Type 0) (c : Admission) (moments : Option (List ℕ)) (opened : List ℕ) (s s' : Seen) (count others : ℕ) (back back' : Option (List Shut)) (faults n n' : ℕ) (ends : List Served) → length opened ≡ count + others → AreDifferent (numbers_of s') → n ≤ n'

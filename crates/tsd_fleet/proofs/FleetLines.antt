@@ -1,6 +1,6 @@
 -- The line of a fleet, why it ended, and the numbers of the store that it leaves.
 use Rattle.std.proofs.Common.{◌≡◌, ℕ, ◌+◌, ◌-◌, ◌^◌, ◌≤◌, List, [], ◌∷◌, length, take, drop, inl, inr, refl, sym, subst, ap, ◌∙◌, take-append-drop, append-nil, arith}
-use Rattle.std.specs.Prelude.{◌≢◌, ◌⊎◌, Bool, Option, Some, Result, Ok, Err, IfOk, min, filter, map}
+use Rattle.std.specs.Prelude.{◌≢◌, ◌⊎◌, Bool, Option, None, Some, min, filter, map}
 use Rattle.std.specs.Option.{option_map_or}
 use Rattle.std.specs.Int.{w64, from_be_bytes}
 use Rattle.std.specs.List.{list_any}
@@ -9,12 +9,12 @@ use Rattle.row_key.specs.Made.{three}
 use Rattle.std.specs.Io.KnownBytes.{Appends}
 use Rattle.std.proofs.KnownBytes.{Appends-nil}
 use Rattle.tsd_io.specs.Causes.{Rose}
-use Rattle.tsd_doors.specs.Links.{Counts, Shut, accepted}
+use Rattle.tsd_doors.specs.Links.{Counts, accepted}
 use Rattle.tsd_base.specs.declared.kinds.Kind.{Kind}
 use Rattle.tsd_base.specs.declared.kinds.Kind.TheVariants.{Metric, TagKey, TagValue}
 use Rattle.link_workers.specs.declared.accept_loop.AcceptEnd.{AcceptEnd}
 use Rattle.link_workers.specs.declared.accept_loop.AcceptEnd.TheVariants as accept_end
-use Rattle.link_workers.specs.Accepting.{Allows, AsksEach, AsksHalt, HasReason, IsNoneLeft, lost_by}
+use Rattle.link_workers.specs.Accepting.{AsksEach, AsksHalt, HasReason, IsNoneLeft, lost_by}
 use Rattle.cell_model.specs.declared.answers.Tally.{Tally}
 use Rattle.cell_model.specs.declared.row.Row.{Row}
 use Rattle.cell_model.specs.PlaceOrder.{place_cmp}
@@ -29,15 +29,17 @@ use Rattle.cell_region.specs.DividedStore.{DividedStore}
 use Rattle.step_count.specs.declared.view.Named.{Named}
 use Rattle.step_count.specs.CounterRule.{store_in}
 use Rattle.cell_store.specs.SiteEnds.{EndsAt}
-use Rattle.cell_laws.proofs.CallerLemmas.{empty_base, no_cell}
+use Rattle.cell_model.specs.Sound.{IsBase}
+use Rattle.cell_laws.proofs.CallerLemmas.{no_cell}
 use Rattle.point_put.specs.Admissions.{Admission}
 use Rattle.tsd_daemon.specs.declared.served.Served.{Served}
 use Rattle.tsd_fleet.specs.declared.fleet_end.FleetEnd.{FleetEnd}
 use Rattle.tsd_fleet.specs.declared.fleet_end.FleetEnd.TheVariants as end
 use Rattle.site_workers.specs.GatheredLinks.{SiteCounts}
+use Rattle.tsd_fleet.specs.Devices.{DoorsTold, FleetDevices, NoneFalls, Terms}
 use Rattle.tsd_fleet.specs.FleetStands.{FleetStands, SiteWorked}
-use Rattle.tsd_fleet.specs.FleetServes.{BeginsToListen, BindsAsked, CountsLinks, FleetAsks, FleetServes, HasFleetReason, HasListened, IsListenFault, IsTally, Listens, is_die, listening_line}
-use Rattle.tsd_fleet.proofs.FleetHistories.{none_back, stands}
+use Rattle.tsd_fleet.specs.FleetServes.{AsksAccepts, BeginsToListen, BindsAsked, CountsLinks, FleetDoes, FleetKeeps, HasFleetReason, HasListened, IsListenFault, IsTally, KeepsRows, Listens, Outcome, ServesKept, is_die, listening_line, outcome_none}
+use Rattle.tsd_fleet.proofs.FleetHistories.{none_back, stands, stands_from}
 
 -- ---- the line
 
@@ -69,32 +71,37 @@ not_lost accept_end.Stopped r memory other = refl
 not_lost accept_end.DoorFault r memory other = refl
 not_lost accept_end.OutOfMemory r memory other = absurd (other (memory refl))
 
-pub counts_links : (e : AcceptEnd) (r : FleetEnd) (links ends : ℕ) (x y : Counts) → (e ≡ accept_end.OutOfMemory → r ≡ end.OutOfMemory) → SiteCounts e links ends x y → CountsLinks r links ends x y
-counts_links e r links ends x y memory s = record { links_are = s.links_are; returned = s.returned; all = λ other. s.all (not_lost e r memory other) }
+counts_links : (before after : FleetDevices) (e : AcceptEnd) (r : FleetEnd) (links ends : ℕ) → (e ≡ accept_end.OutOfMemory → r ≡ end.OutOfMemory) → SiteCounts e links ends before.doors.counts after.doors.counts → CountsLinks before after r links ends
+counts_links before after e r links ends memory s = record { links_are = s.links_are; returned = s.returned; all = λ other. s.all (not_lost e r memory other) }
+
+-- as many were accepted, where the port alone changed
+same_accepted : (x y : Counts) → y.returned ≡ x.returned → y.out ≡ x.out → accepted y ≡ accepted x
+same_accepted x y returned out = omega (arith, returned, out)
 
 -- the port alone changed before
-pub counts_from : (r : FleetEnd) (links ends : ℕ) (x y z : Counts) → y.returned ≡ x.returned → y.out ≡ x.out → CountsLinks r links ends y z → CountsLinks r links ends x z
-counts_from r links ends x y z returned out c = record {
-  links_are = c.links_are ∙ ap (λ n. min (accepted z - n) (2 ^ 64 - 1)) same;
+counts_from : (before after : FleetDevices) (d : DoorsTold) (r : FleetEnd) (links ends : ℕ) → d.counts.returned ≡ before.doors.counts.returned → d.counts.out ≡ before.doors.counts.out
+    → CountsLinks (record before { doors = d }) after r links ends → CountsLinks before after r links ends
+counts_from before after d r links ends returned out c = record {
+  links_are = c.links_are ∙ ap (λ n. min (accepted after.doors.counts - n) (2 ^ 64 - 1)) same;
   returned = c.returned ∙ ap (λ n. n + ends) returned;
   all = λ other. c.all other ∙ ap (λ n. n + ends) same;
 }
   where
-    same : accepted y ≡ accepted x
-    same = omega (arith, returned, out)
+    same : accepted d.counts ≡ accepted before.doors.counts
+    same = same_accepted before.doors.counts d.counts returned out
 
 -- no connection was accepted
-pub counts_none : (r : FleetEnd) (x y : Counts) → y.returned ≡ x.returned → y.out ≡ x.out → CountsLinks r 0 0 x y
-counts_none r x y returned out = record { links_are = none; returned = omega (arith, returned); all = λ other. omega (arith, returned, out) }
+counts_none : (before after : FleetDevices) (r : FleetEnd) → after.doors.counts.returned ≡ before.doors.counts.returned → accepted after.doors.counts ≡ accepted before.doors.counts → CountsLinks before after r 0 0
+counts_none before after r returned same = record { links_are = none (accepted after.doors.counts) (accepted before.doors.counts) same; returned = omega (arith, returned); all = λ other. omega (arith, same) }
   where
-    none : 0 ≡ min (accepted y - accepted x) (2 ^ 64 - 1)
-    none = omega (arith, returned, out)
+    none : (now earlier : ℕ) → now ≡ earlier → 0 ≡ min (now - earlier) (2 ^ 64 - 1)
+    none now earlier is = omega (arith, is)
 
-pub fleet_reason : (e : AcceptEnd) (r : FleetEnd) (ends : List Served) (w w' : Option (List (List ℕ))) (s s' d d' k k' : ℕ) → (r ≡ end.Closed → (e ≡ accept_end.NoneLeft) × (list_any is_die ends ≡ Bool.false))
+fleet_reason : (before after : FleetDevices) (e : AcceptEnd) (r : FleetEnd) (ends : List Served) → (r ≡ end.Closed → (e ≡ accept_end.NoneLeft) × (list_any is_die ends ≡ Bool.false))
     → (r ≡ end.Died → (e ≡ accept_end.NoneLeft) × (list_any is_die ends ≡ Bool.true)) → (r ≡ end.Stopped → e ≡ accept_end.Stopped) → (e ≡ accept_end.Stopped → r ≡ end.Stopped) → (e ≡ accept_end.OutOfMemory → r ≡ end.OutOfMemory)
     → (r ≡ end.DoorFault → e ≡ accept_end.DoorFault) → r ≢ end.WriteFault
-    → HasReason e w w' s s' d d' → HasFleetReason r ends w w' s s' d d' k k'
-fleet_reason e r ends w w' s s' d d' k k' closed died stopped stops memory door no_write reason = record {
+    → HasReason e before.doors.waiting after.doors.waiting before.stops after.stops before.doors.faults after.doors.faults → HasFleetReason before after r ends
+fleet_reason before after e r ends closed died stopped stops memory door no_write reason = record {
   closed = λ is. (reason.none (closed is).0, (closed is).1);
   died = λ is. (reason.none (died is).0, (died is).1);
   stopped = λ is. reason.stopped (stopped is);
@@ -103,34 +110,33 @@ fleet_reason e r ends w w' s s' d d' k k' closed died stopped stops memory door 
   write_fault = λ is. absurd (no_write is);
 }
 
--- the same ends
-pub reason_as : (r : FleetEnd) (ends ends' : List Served) (w w' : Option (List (List ℕ))) (s s' d d' k k' : ℕ) → ends ≡ ends' → HasFleetReason r ends w w' s s' d d' k k' → HasFleetReason r ends' w w' s s' d d' k k'
-reason_as r ends ends' w w' s s' d d' k k' same reason = subst (λ (l : List Served). HasFleetReason r l w w' s s' d d' k k') same reason
-
 -- what was before the accepting changed no more than how often the doors failed
-pub reason_from : (r : FleetEnd) (ends : List Served) (v w w' : Option (List (List ℕ))) (s s' c d d' k k' : ℕ) → w ≡ v → c ≤ d → HasFleetReason r ends w w' s s' d d' k k' → HasFleetReason r ends v w' s s' c d' k k'
-reason_from r ends v w w' s s' c d d' k k' same le reason = record {
-  closed = λ is. (subst (λ (o : Option (List (List ℕ))). IsNoneLeft o w') same (reason.closed is).0, (reason.closed is).1);
-  died = λ is. (subst (λ (o : Option (List (List ℕ))). IsNoneLeft o w') same (reason.died is).0, (reason.died is).1);
+reason_from : (before after : FleetDevices) (d : DoorsTold) (r : FleetEnd) (ends : List Served) → d.waiting ≡ before.doors.waiting → before.doors.faults ≤ d.faults → HasFleetReason (record before { doors = d }) after r ends → HasFleetReason before after r ends
+reason_from before after d r ends same le reason = record {
+  closed = λ is. (subst (λ (o : Option (List (List ℕ))). IsNoneLeft o after.doors.waiting) same (reason.closed is).0, (reason.closed is).1);
+  died = λ is. (subst (λ (o : Option (List (List ℕ))). IsNoneLeft o after.doors.waiting) same (reason.died is).0, (reason.died is).1);
   stopped = λ is. reason.stopped is;
   heeded = reason.heeded;
-  door_fault = λ is. later (reason.door_fault is);
+  door_fault = λ is. later before.doors.faults d.faults after.doors.faults le (reason.door_fault is);
   write_fault = λ is. reason.write_fault is;
 }
   where
-    later : Rose d d' → Rose c d'
-    later rose = omega (arith, le, rose)
+    later : (c d' e : ℕ) → c ≤ d' → Rose d' e → Rose c e
+    later c d' e up rose = omega (arith, up, rose)
 
 -- listening failed
-pub fault_reason : (r : FleetEnd) (ends : List Served) (w w' : Option (List (List ℕ))) (s s' d d' k k' : ℕ) → IsListenFault r d d' k k' → s' ≡ s → HasFleetReason r ends w w' s s' d d' k k'
-fault_reason r ends w w' s s' d d' k k' fault same = record {
-  closed = λ is. absurd (subst (λ (e : FleetEnd). IsListenFault e d d' k k') is fault);
-  died = λ is. absurd (subst (λ (e : FleetEnd). IsListenFault e d d' k k') is fault);
-  stopped = λ is. absurd (subst (λ (e : FleetEnd). IsListenFault e d d' k k') is fault);
+fault_reason : (before after : FleetDevices) (r : FleetEnd) (ends : List Served) → IsListenFault r before.doors.faults after.doors.faults before.output.faults after.output.faults → after.stops ≡ before.stops → HasFleetReason before after r ends
+fault_reason before after r ends fault same = record {
+  closed = λ is. absurd (at is);
+  died = λ is. absurd (at is);
+  stopped = λ is. absurd (at is);
   heeded = λ no_stop enough. same;
-  door_fault = λ is. subst (λ (e : FleetEnd). IsListenFault e d d' k k') is fault;
-  write_fault = λ is. subst (λ (e : FleetEnd). IsListenFault e d d' k k') is fault;
+  door_fault = λ is. at is;
+  write_fault = λ is. at is;
 }
+  where
+    at : {e : FleetEnd} → r ≡ e → IsListenFault e before.doors.faults after.doors.faults before.output.faults after.output.faults
+    at is = subst (λ (e : FleetEnd). IsListenFault e before.doors.faults after.doors.faults before.output.faults after.output.faults) is fault
 
 -- ---- what the halt was asked
 
@@ -139,55 +145,55 @@ told_end : (e a : AcceptEnd) → (e ≡ a) ⊎ (e ≡ accept_end.OutOfMemory) �
 told_end e a (inl is) none = sym is
 told_end e a (inr out) none = absurd (let one : 1 ≡ 0 = sym (ap lost_by out) ∙ none in omega (arith, one))
 
+-- an end of listening is one of three
+vain : (r : FleetEnd) (d d' k k' : ℕ) → IsListenFault r d d' k k' → (r ≡ end.DoorFault) ⊎ ((r ≡ end.WriteFault) ⊎ (r ≡ end.OutOfMemory))
+vain end.Closed d d' k k' fault = absurd fault
+vain end.Died d d' k k' fault = absurd fault
+vain end.Stopped d d' k k' fault = absurd fault
+vain end.DoorFault d d' k k' fault = inl refl
+vain end.WriteFault d d' k k' fault = inr (inl refl)
+vain end.OutOfMemory d d' k k' fault = inr (inr refl)
+
 module _ {H : Type 0} (answers : H → Bool → H → Type 0) where
-  pub fleet_asks : (e : AcceptEnd) (r : FleetEnd) (x y : Counts) (old new : H) → (r ≡ end.Closed → e ≡ accept_end.NoneLeft) → (r ≡ end.Died → e ≡ accept_end.NoneLeft) → (r ≡ end.Stopped → e ≡ accept_end.Stopped)
-      → AsksHalt answers e x y old new → FleetAsks answers r x y old new
-  fleet_asks e r x y old new closed died stopped a = record {
+  fleet_asks : (before after : FleetDevices) (old new : H) (e : AcceptEnd) (r : FleetEnd) → (r ≡ end.Closed → e ≡ accept_end.NoneLeft) → (r ≡ end.Died → e ≡ accept_end.NoneLeft) → (r ≡ end.Stopped → e ≡ accept_end.Stopped)
+      → (r ≡ end.DoorFault → e ≡ accept_end.DoorFault) → AsksHalt answers e before.doors.counts after.doors.counts old new → AsksAccepts answers before after old new r
+  fleet_asks before after old new e r closed died stopped door a = record {
     accepting = a.end;
     asked = a.asked;
     closed = λ is. told_end e a.end a.is (ap lost_by (closed is)) ∙ closed is;
     died = λ is. told_end e a.end a.is (ap lost_by (died is)) ∙ died is;
     stopped = λ is. told_end e a.end a.is (ap lost_by (stopped is)) ∙ stopped is;
+    door_fault = λ is. told_end e a.end a.is (ap lost_by (door is)) ∙ door is;
   }
 
   -- the port alone changed before
-  pub asks_from : (r : FleetEnd) (x y z : Counts) (old new : H) → y.returned ≡ x.returned → y.out ≡ x.out → FleetAsks answers r y z old new → FleetAsks answers r x z old new
-  asks_from r x y z old new returned out a = record {
+  asks_from : (before after : FleetDevices) (d : DoorsTold) (old new : H) (r : FleetEnd) → accepted d.counts ≡ accepted before.doors.counts → AsksAccepts answers (record before { doors = d }) after old new r → AsksAccepts answers before after old new r
+  asks_from before after d old new r same a = record {
     accepting = a.accepting;
-    asked = subst (λ n. AsksEach answers a.accepting (accepted z - n) old new) same a.asked;
+    asked = subst (λ n. AsksEach answers a.accepting (accepted after.doors.counts - n) old new) same a.asked;
     closed = a.closed;
     died = a.died;
     stopped = a.stopped;
+    door_fault = a.door_fault;
   }
-    where
-      same : accepted y ≡ accepted x
-      same = omega (arith, returned, out)
 
-  -- listening failed
-  pub asks_nothing : (r : FleetEnd) (x y : Counts) (old new : H) (d d' k k' : ℕ) → IsListenFault r d d' k k' → y.returned ≡ x.returned → y.out ≡ x.out → new ≡ old → FleetAsks answers r x y old new
-  asks_nothing r x y old new d d' k k' fault returned out same = record {
-    accepting = accept_end.OutOfMemory;
-    asked = subst (λ halt. Allows answers (accepted y - accepted x) old halt) (sym same) (subst (λ n. Allows answers n old old) none Allows.none);
-    closed = λ is. absurd (subst (λ (e : FleetEnd). IsListenFault e d d' k k') is fault);
-    died = λ is. absurd (subst (λ (e : FleetEnd). IsListenFault e d d' k k') is fault);
-    stopped = λ is. absurd (subst (λ (e : FleetEnd). IsListenFault e d d' k k') is fault);
-  }
-    where
-      none : 0 ≡ accepted y - accepted x
-      none = omega (arith, returned, out)
+-- ---- the line, at the end
 
-pub fault_listened : (r : FleetEnd) (asked : ℕ) (held held' : Option (List ℕ)) (now : Counts) (d d' k k' : ℕ) → IsListenFault r d d' k k' → (r ≡ end.DoorFault → Appends held held' []) → BeginsToListen asked held held' now
-    → HasListened r asked held held' now
-fault_listened r asked held held' now d d' k k' fault silent begun = record {
+fault_listened : (asked : ℕ) (before after : FleetDevices) (r : FleetEnd) → IsListenFault r before.doors.faults after.doors.faults before.output.faults after.output.faults → (r ≡ end.DoorFault → Appends before.output.held after.output.held [])
+    → BeginsToListen asked before.output.held after.output.held after.doors.counts → HasListened asked before after r
+fault_listened asked before after r fault silent begun = record {
   fault = λ is. inl (silent is);
-  closed = λ is. absurd (subst (λ (e : FleetEnd). IsListenFault e d d' k k') is fault);
-  died = λ is. absurd (subst (λ (e : FleetEnd). IsListenFault e d d' k k') is fault);
-  stopped = λ is. absurd (subst (λ (e : FleetEnd). IsListenFault e d d' k k') is fault);
+  closed = λ is. absurd (at is);
+  died = λ is. absurd (at is);
+  stopped = λ is. absurd (at is);
   begun = begun;
 }
+  where
+    at : {e : FleetEnd} → r ≡ e → IsListenFault e before.doors.faults after.doors.faults before.output.faults after.output.faults
+    at is = subst (λ (e : FleetEnd). IsListenFault e before.doors.faults after.doors.faults before.output.faults after.output.faults) is fault
 
-pub has_listened : (r : FleetEnd) (asked : ℕ) (held held' : Option (List ℕ)) (now : Counts) → Listens asked held held' now → HasListened r asked held held' now
-has_listened r asked held held' now l = record {
+has_listened : (asked : ℕ) (before after : FleetDevices) (r : FleetEnd) → Listens asked before.output.held after.output.held after.doors.counts → HasListened asked before after r
+has_listened asked before after r l = record {
   closed = λ is. l;
   died = λ is. l;
   stopped = λ is. l;
@@ -221,31 +227,87 @@ empty_tally tally ids rows cells = record {
 }
 
 -- the site's history is one in which all was served
-pub fleet_serves : (T U : Type 0) (c : Admission) (moments : Option (List ℕ)) (opened : List ℕ) (s : Seen) (name given : Named) (d : DividedStore) (back back' : Option (List Shut)) (faults faults' : ℕ) (ends : List Served) (tally : Tally)
-    → given ≡ name → EndsAt name opened s d → SiteWorked T U c moments opened s back back' faults faults' ends → IsTally d.content tally → FleetServes T U c moments (store_in given) back back' faults faults' ends tally
-fleet_serves T U c moments opened s name given d back back' faults faults' ends tally same e w t = record {
-  store = d.content;
-  stands = stands T U c moments opened s (store_in given) d.content back back' faults faults' ends e.history e.lawful e.fits (e.base_is ∙ sym (ap store_in same)) e.store_is e.own e.mine e.callers w;
-  tally_is = t;
-}
+fleet_stands : (terms : Terms) (before after : FleetDevices) (opened : List ℕ) (s : Seen) (name given : Named) (c : Admission) (moments : Option (List ℕ)) (d : DividedStore) (ends : List Served)
+    → given ≡ name → terms.base ≡ store_in given → terms.admission ≡ c → before.clock.moments ≡ moments → EndsAt name opened s d
+    → SiteWorked terms.inlets_tell terms.outlets_tell c moments opened s before.doors.back after.doors.back before.clock.faults after.clock.faults ends → FleetStands terms before after d.content ends
+fleet_stands terms before after opened s name given c moments d ends same base admits gave e w =
+    stands terms before after opened s d.content ends e.history e.lawful e.fits (e.base_is ∙ sym (base ∙ ap store_in same)) e.store_is e.own e.mine e.callers
+    (subst (λ (m : Option (List ℕ)). Worked terms.admission m) (sym gave) (subst (λ (a : Admission). Worked a moments) (sym admits) w))
+  where
+    Worked : Admission → Option (List ℕ) → Type 0
+    Worked a m = SiteWorked terms.inlets_tell terms.outlets_tell a m opened s before.doors.back after.doors.back before.clock.faults after.clock.faults ends
 
--- another name of the base, and of what was given back
-pub fleet_from : (T U : Type 0) (c : Admission) (moments : Option (List ℕ)) (base other : Store) (back back' back'' : Option (List Shut)) (faults faults' : ℕ) (ends : List Served) (tally : Tally)
-    → base ≡ other → back' ≡ back → FleetServes T U c moments base back' back'' faults faults' ends tally → FleetServes T U c moments other back back'' faults faults' ends tally
-fleet_from T U c moments base other back back' back'' faults faults' ends tally same still f =
-    subst (λ (b : Store). FleetServes T U c moments b back back'' faults faults' ends tally) same
-    (subst (λ (o : Option (List Shut)). FleetServes T U c moments base o back'' faults faults' ends tally) still f)
+-- ---- all of it
 
-pub fleet_over_ok : {D E : Type 0} (T U : Type 0) (c : Admission) (moments : Option (List ℕ)) (base other : Store) (back back' : Option (List Shut)) (faults faults' : ℕ) (ends : D → List Served) (tally : D → Tally) (r : Result D E)
-    → base ≡ other → IfOk r (λ s. FleetServes T U c moments base back back' faults faults' (ends s) (tally s)) → IfOk r (λ s. FleetServes T U c moments other back back' faults faults' (ends s) (tally s))
-fleet_over_ok T U c moments base other back back' faults faults' ends tally r same f = subst (λ (b : Store). IfOk r (λ s. FleetServes T U c moments b back back' faults faults' (ends s) (tally s))) same f
+module _ {H : Type 0} (answers : H → Bool → H → Type 0) where
+  -- a site's workers served connections
+  pub serves_kept : (terms : Terms) (before after : FleetDevices) (old new : H) (o : Outcome) (opened : List ℕ) (s : Seen) (name given : Named) (c : Admission) (moments : Option (List ℕ)) (d : DividedStore) (e : AcceptEnd) (ends : List Served) (rows : Option DividedStore)
+      → given ≡ name → terms.base ≡ store_in given → terms.admission ≡ c → before.clock.moments ≡ moments → EndsAt name opened s d
+      → SiteWorked terms.inlets_tell terms.outlets_tell c moments opened s before.doors.back after.doors.back before.clock.faults after.clock.faults o.ends → IsTally d.content o.tally → ends ≡ o.ends
+      → (o.end ≡ end.Closed → (e ≡ accept_end.NoneLeft) × (list_any is_die ends ≡ Bool.false)) → (o.end ≡ end.Died → (e ≡ accept_end.NoneLeft) × (list_any is_die ends ≡ Bool.true))
+      → (o.end ≡ end.Stopped → e ≡ accept_end.Stopped) → (e ≡ accept_end.Stopped → o.end ≡ end.Stopped) → (e ≡ accept_end.OutOfMemory → o.end ≡ end.OutOfMemory) → (o.end ≡ end.DoorFault → e ≡ accept_end.DoorFault) → o.end ≢ end.WriteFault
+      → SiteCounts e o.links (length o.ends) before.doors.counts after.doors.counts → HasReason e before.doors.waiting after.doors.waiting before.stops after.stops before.doors.faults after.doors.faults
+      → AsksHalt answers e before.doors.counts after.doors.counts old new → KeepsRows o.end d.content d.data_regions rows → ServesKept answers terms before after old new o given.data_regions rows
+  serves_kept terms before after old new o opened s name given c moments d e ends rows same base admits gave site w t are closed died stopped stops memory door no_write counted reason asked kept = record {
+    served = record {
+      serves = record { store = d.content; stands = fleet_stands terms before after opened s name given c moments d o.ends same base admits gave site w; tally_is = t };
+      counts = counts_links before after e o.end o.links (length o.ends) memory counted;
+      reason = subst (λ (l : List Served). HasFleetReason before after o.end l) are (fleet_reason before after e o.end ends closed died stopped stops memory door no_write reason);
+      asked = fleet_asks answers before after old new e o.end (λ is. (closed is).0) (λ is. (died is).0) stopped door asked;
+    };
+    keeps = subst (λ (n : ℕ). KeepsRows o.end d.content n rows) (site.regions_are ∙ ap (λ (x : Named). x.data_regions) (sym same)) kept;
+  }
 
--- nothing was served
-pub fleet_none : (T U : Type 0) (c : Admission) (moments : Option (List ℕ)) (back back' : Option (List Shut)) (faults faults' : ℕ) (ends : List Served) (tally : Tally) → back' ≡ back → faults' ≡ faults → ends ≡ [] → IsTally (no_cells three) tally
-    → FleetServes T U c moments (no_cells three) back back' faults faults' ends tally
-fleet_none T U c moments back back' faults faults' ends tally same still none t = record {
-  store = no_cells three;
-  stands = subst (λ (o : Option (List Shut)). FleetStands T U c moments (no_cells three) (no_cells three) back o faults faults' ends) (sym same) (subst (λ (n : ℕ). FleetStands T U c moments (no_cells three) (no_cells three) back back faults n ends) (sym still)
-      (none_back T U c moments (no_cells three) back faults ends (empty_base three) none));
-  tally_is = t;
-}
+  -- connections were served once the port was bound
+  pub keeps_links : (terms : Terms) (b : Store) (before after : FleetDevices) (d : DoorsTold) (old new : H) (o : Outcome) (n m : ℕ) (rows : Option DividedStore)
+      → b ≡ terms.base → n ≡ m → d.waiting ≡ before.doors.waiting → d.back ≡ before.doors.back → d.counts.returned ≡ before.doors.counts.returned → d.counts.out ≡ before.doors.counts.out → before.doors.faults ≤ d.faults
+      → Listens terms.port before.output.held after.output.held after.doors.counts → NoneFalls before after
+      → ServesKept answers (record terms { base = b }) (record before { doors = d }) after old new o n rows → FleetKeeps answers terms before after old new o m rows
+  keeps_links terms b before after d old new o n m rows same_base regions waiting back returned out le listens later k = record {
+    does = record {
+      serves = record { store = k.served.serves.store; stands = stands_from terms b before after d k.served.serves.store o.ends same_base back k.served.serves.stands; tally_is = k.served.serves.tally_is };
+      counts = counts_from before after d o.end o.links (length o.ends) returned out k.served.counts;
+      reason = reason_from before after d o.end o.ends waiting le k.served.reason;
+      listens = has_listened terms.port before after o.end listens;
+      asked = inl (listens, asks_from answers before after d old new o.end (same_accepted before.doors.counts d.counts returned out) k.served.asked);
+      later = later;
+    };
+    keeps = subst (λ (i : ℕ). KeepsRows o.end k.served.serves.store i rows) regions k.keeps;
+  }
+
+  -- no connection was served
+  pub keeps_none : (terms : Terms) (before after : FleetDevices) (old new : H) (o : Outcome) (r : FleetEnd) (tally : Tally) (n : ℕ) (rows kept : Option DividedStore)
+      → o ≡ outcome_none r tally → rows ≡ kept → KeepsRows r terms.base n kept → IsBase terms.base → IsTally terms.base tally
+      → after.doors.back ≡ before.doors.back → after.doors.counts.returned ≡ before.doors.counts.returned → after.doors.counts.out ≡ before.doors.counts.out → after.clock.faults ≡ before.clock.faults → new ≡ old → after.stops ≡ before.stops
+      → before.output.faults ≤ after.output.faults → before.doors.faults ≤ after.doors.faults → BeginsToListen terms.port before.output.held after.output.held after.doors.counts
+      → IsListenFault r before.doors.faults after.doors.faults before.output.faults after.output.faults → (r ≡ end.DoorFault → Appends before.output.held after.output.held []) → FleetKeeps answers terms before after old new o n rows
+  keeps_none terms before after old new o r tally n rows kept is same_rows k base t back returned out still unasked stops writes doors begun fault silent =
+      subst (λ (x : Outcome). FleetKeeps answers terms before after old new x n rows) (sym is) (record {
+        does = record {
+          serves = record { store = terms.base; stands = none_back terms before after [] base back still refl; tally_is = t };
+          counts = counts_none before after r returned same;
+          reason = fault_reason before after r [] fault stops;
+          listens = fault_listened terms.port before after r fault silent begun;
+          asked = inr (record { none = same; unasked = unasked; vain = vain r before.doors.faults after.doors.faults before.output.faults after.output.faults fault; unbound = silent });
+          later = record { writes = writes; clock = least before.clock.faults after.clock.faults still; doors = doors; stops = least before.stops after.stops stops };
+        };
+        keeps = subst (λ (x : Option DividedStore). KeepsRows r terms.base n x) (sym same_rows) k;
+      })
+    where
+      same : accepted after.doors.counts ≡ accepted before.doors.counts
+      same = same_accepted before.doors.counts after.doors.counts returned out
+
+      least : (x y : ℕ) → y ≡ x → x ≤ y
+      least x y eq = omega (arith, eq)
+
+  -- memory ran out before any was
+  pub keeps_starved : (terms : Terms) (before after : FleetDevices) (old new : H) (o : Outcome) (tally : Tally) (n : ℕ) (rows : Option DividedStore) → o ≡ outcome_none end.OutOfMemory tally → rows ≡ None → IsBase terms.base → IsTally terms.base tally
+      → after.doors.back ≡ before.doors.back → after.doors.counts.returned ≡ before.doors.counts.returned → after.doors.counts.out ≡ before.doors.counts.out → after.clock.faults ≡ before.clock.faults → new ≡ old → after.stops ≡ before.stops
+      → before.output.faults ≤ after.output.faults → before.doors.faults ≤ after.doors.faults → BeginsToListen terms.port before.output.held after.output.held after.doors.counts → FleetKeeps answers terms before after old new o n rows
+  keeps_starved terms before after old new o tally n rows is none base t back returned out still unasked stops writes doors begun =
+      keeps_none terms before after old new o end.OutOfMemory tally n rows None is none (record { none = λ e. refl; kept = λ other. absurd (other refl) }) base t back returned out still unasked stops writes doors begun tt
+      (λ e. let t : end.OutOfMemory ≡ end.DoorFault = e in absurd cc)
+
+  -- the same over another name of the base
+  pub does_from : (terms : Terms) (b : Store) (before after : FleetDevices) (old new : H) (o : Outcome) → b ≡ terms.base → FleetDoes answers (record terms { base = b }) before after old new o → FleetDoes answers terms before after old new o
+  does_from terms b before after old new o same f = subst (λ (x : Store). FleetDoes answers (record terms { base = x }) before after old new o) same f

@@ -13,6 +13,7 @@ use Rattle.tsd_daemon.specs.declared.served.Served.{Served}
 use Rattle.row_compactors.specs.Upkeep.{BroughtNothing, brings_new}
 use Rattle.conn_workers.specs.ServedLinks.{IsWithin, ServedInTurn}
 use Rattle.site_workers.specs.GatheredLinks.{AllInTurn, CallerLinks, Gathered, GivenBack, callers_of, links_of}
+use Rattle.tsd_fleet.specs.Devices.{FleetDevices, Terms}
 
 -- Of the callers that opened, so many served connections, and the others brought nothing new. One caller has the places of all, and has seen this.
 pub record SiteWorked (inlets_tell outlets_tell : Type 0) (c : Admission) (moments : Option (List ℕ)) (opened : List ℕ) (s : Seen) (back back' : Option (List Shut)) (faults faults' : ℕ) (ends : List Served) : Type 0 where
@@ -33,13 +34,13 @@ MadeServing inlets_tell outlets_tell c moments h callers place e =
 -- it. So no two connections share a place of the history, whoever served them. Those that were given back are as told; for want of memory the others may not be.
 -- Nothing is made up: each entry that counts an id, claims a cell or writes a point was made serving one of these connections. Every other entry is an opening, a
 -- read, a next row, a merge or a drop.
-pub record FleetStands (inlets_tell outlets_tell : Type 0) (c : Admission) (moments : Option (List ℕ)) (base store : Store) (back back' : Option (List Shut)) (faults faults' : ℕ) (ends : List Served) : Type 0 where
+pub record FleetStands (terms : Terms) (before after : FleetDevices) (store : Store) (ends : List Served) : Type 0 where
   pub history : History
   pub lawful : IsLawful history
-  pub base_is : base_of history ≡ base
+  pub base_is : base_of history ≡ terms.base
   pub store_is : store ≡ store_after history
   pub callers : List CallerLinks
   pub different : AreDifferent (callers_of callers)
-  pub served : AllInTurn inlets_tell outlets_tell c moments history callers
-  pub given : GivenBack back back' faults faults' ends (links_of callers)
-  pub nothing_else : (place : ℕ) (e : Entry) → entry_at history place ≡ Some e → brings_new e.step ≡ true → MadeServing inlets_tell outlets_tell c moments history callers place e
+  pub served : AllInTurn terms.inlets_tell terms.outlets_tell terms.admission before.clock.moments history callers
+  pub given : GivenBack before.doors.back after.doors.back before.clock.faults after.clock.faults ends (links_of callers)
+  pub nothing_else : (place : ℕ) (e : Entry) → entry_at history place ≡ Some e → brings_new e.step ≡ true → MadeServing terms.inlets_tell terms.outlets_tell terms.admission before.clock.moments history callers place e

@@ -1,13 +1,13 @@
 //! A fleet: connections that come through doors, served by workers over one store in memory.
-ghost use Rattle.std.specs.Prelude.{◌≡◌, ◌≤◌, ℕ, [], length, Err, IfOk, IfErr, OnErr};
-ghost use Rattle.std.specs.Io.KnownBytes.{Appends};
+ghost use Rattle.std.specs.Prelude.{◌≡◌, ◌≤◌, [], IfOk, OnErr};
 ghost use Rattle.row_key.specs.Made.{three};
 ghost use Rattle.cell_model.specs.Sound.{IsBase};
 ghost use Rattle.cell_model.specs.Store.{no_cells};
 ghost use Rattle.step_count.specs.CounterRule.{store_in};
 ghost use Rattle.point_put.specs.Admissions.{admission};
 ghost use Rattle.conn_workers.specs.ServedLinks.{AllTell};
-ghost use Rattle.tsd_fleet.specs.FleetServes.{BeginsToListen, CountsLinks, FleetAsks, FleetServes, HasFleetReason, HasListened, IsListenFault, IsTally, Listens};
+ghost use Rattle.tsd_fleet.specs.Devices.{OutputTold};
+ghost use Rattle.tsd_fleet.specs.FleetServes.{FleetDoes, FleetKeeps, IsTally, KeepsRows, ServesKept, outcome_none};
 
 use crate::fleet_end::{FleetEnd, fleet_end};
 use crate::listening::listen;
@@ -64,13 +64,24 @@ pub struct FleetDone<H> {
     pub tally: Tally,
 }
 
-/// What a store's workers did.
+/// What a fleet did, and the store that it left.
+#[derive(Drop)]
+pub struct FleetKept<H> {
+    /// What it did.
+    pub done: FleetDone<H>,
+
+    /// The store after its whole history. There is none exactly where the end is `OutOfMemory`.
+    pub rows: Option<Regions>,
+}
+
+/// What a store's workers did, and the store that they left.
 #[derive(Drop)]
 struct StoreServed {
     end: FleetEnd,
     links: u64,
     ends: Vec<Served>,
     tally: Tally,
+    rows: Option<Regions>,
 }
 
 /// Binds the port, writes `listening P` with the port that was bound, and serves connections over an empty store until no more come, or
@@ -101,44 +112,82 @@ pub fn serve<
     requires daemons { (1 ≤ fleet.now.daemons) × (fleet.now.daemons ≤ 8) }
     requires workers { (1 ≤ fleet.now.workers) × (fleet.now.workers ≤ 16) }
     requires regions { (1 ≤ fleet.now.regions) × (fleet.now.regions ≤ 16) }
+    ensures does { FleetDoes H.answers
+        (record { port = fleet.now.port; admission = admission config.now rule.now.patterns; base = no_cells three; inlets_tell = AllTell D.Inlet.taken; outlets_tell = AllTell D.Outlet.held })
+        (record { output = record { held = K.held output.old; faults = K.faults output.old }; clock = record { moments = C.moments clock.old; faults = C.faults clock.old }; doors = record { waiting = D.waiting doors.old; back = D.back doors.old; counts = D.counts doors.old; faults = D.faults doors.old }; stops = H.stops halt })
+        (record { output = record { held = K.held output.new; faults = K.faults output.new }; clock = record { moments = C.moments clock.new; faults = C.faults clock.new }; doors = record { waiting = D.waiting doors.new; back = D.back doors.new; counts = D.counts doors.new; faults = D.faults doors.new }; stops = H.stops result.halt })
+        halt result.halt (record { end = result.end; links = result.links; ends = result.ends.items; tally = result.tally }) }
+{
+    let empty = Listing::none(alloc, Widths::three());
+    let Ok(base) = Regions::of(alloc, empty, fleet.regions) else {
+        let kept = none_served(alloc, FleetEnd::OutOfMemory, halt, no_tally(), None);
+        return kept.done;
+    };
+    let kept = serve_from(
+        rt, alloc, fleet, base, gate, rule, config, output, clock, halt, doors,
+    );
+    kept.done
+}
 
-    // Over the store's one history each connection that was given back was served, with its end.
-    ensures serves { FleetServes (AllTell D.Inlet.taken) (AllTell D.Outlet.held) (admission config.now rule.now.patterns) (C.moments clock.old) (no_cells three)
-        (D.back doors.old) (D.back doors.new) (C.faults clock.old) (C.faults clock.new) result.ends.items result.tally }
-    ensures counts { CountsLinks result.end result.links (length result.ends.items) (D.counts doors.old) (D.counts doors.new) }
-
-    // Why it ended, and what was written.
-    ensures reason { HasFleetReason result.end result.ends.items (D.waiting doors.old) (D.waiting doors.new) (H.stops halt) (H.stops result.halt)
-        (D.faults doors.old) (D.faults doors.new) (K.faults output.old) (K.faults output.new) }
-    ensures listens { HasListened result.end fleet.now.port (K.held output.old) (K.held output.new) (D.counts doors.new) }
-
-    // The halt is asked once before each accept.
-    ensures asked { FleetAsks H.answers result.end (D.counts doors.old) (D.counts doors.new) halt result.halt }
-
-    // No count falls.
-    ensures stops_later { H.stops halt ≤ H.stops result.halt }
-    ensures clock_later { C.faults clock.old ≤ C.faults clock.new }
-    ensures doors_later { D.faults doors.old ≤ D.faults doors.new }
-    ensures writes_later { K.faults output.old ≤ K.faults output.new }
+/// The same over a store that is given, with which the history begins; its widths are those of the ids. The store that is left is handed
+/// back, unless the end is `OutOfMemory`.
+pub fn serve_from<
+    T: Threads + Wait + Sync,
+    G: Gate + Drop + Send + Sync,
+    K: Sink,
+    C: Clock + Send + Drop,
+    H: Halt + Drop,
+    D: Doors,
+>(
+    rt: &T,
+    alloc: Global,
+    fleet: &Fleet,
+    base: Regions,
+    gate: G,
+    rule: &UidRule,
+    config: &Config,
+    output: &mut K,
+    clock: &mut C,
+    halt: H,
+    doors: &mut D,
+) -> FleetKept<H>
+    requires daemons { (1 ≤ fleet.now.daemons) × (fleet.now.daemons ≤ 8) }
+    requires workers { (1 ≤ fleet.now.workers) × (fleet.now.workers ≤ 16) }
+    requires regions { (1 ≤ fleet.now.regions) × (fleet.now.regions ≤ 16) }
+    requires base { IsBase base.content }
+    requires divided { base.data_regions ≡ fleet.now.regions }
+    ensures keeps { FleetKeeps H.answers
+        (record { port = fleet.now.port; admission = admission config.now rule.now.patterns; base = base.content; inlets_tell = AllTell D.Inlet.taken; outlets_tell = AllTell D.Outlet.held })
+        (record { output = record { held = K.held output.old; faults = K.faults output.old }; clock = record { moments = C.moments clock.old; faults = C.faults clock.old }; doors = record { waiting = D.waiting doors.old; back = D.back doors.old; counts = D.counts doors.old; faults = D.faults doors.old }; stops = H.stops halt })
+        (record { output = record { held = K.held output.new; faults = K.faults output.new }; clock = record { moments = C.moments clock.new; faults = C.faults clock.new }; doors = record { waiting = D.waiting doors.new; back = D.back doors.new; counts = D.counts doors.new; faults = D.faults doors.new }; stops = H.stops result.done.halt })
+        halt result.done.halt (record { end = result.done.end; links = result.done.links; ends = result.done.ends.items; tally = result.done.tally })
+        base.data_regions result.rows }
 {
     let mut halt = halt;
-    match serve_listening(
-        rt, alloc, fleet, gate, rule, config, output, clock, &mut halt, doors,
+    let tally = base.tally();
+    match listen(alloc, fleet.port, doors, output) {
+        Ok(()) => {}
+        Err(end) => {
+            return none_served(alloc, end, halt, tally, unless_memory(end, base));
+        }
+    }
+    let Ok(parts) = SiteParts::make(alloc, base, gate) else {
+        return none_served(alloc, FleetEnd::OutOfMemory, halt, tally, None);
+    };
+    match serve_parts::<Brand, T, G, C, H, D>(
+        rt, alloc, fleet, parts, rule, config, clock, &mut halt, doors,
     ) {
-        Ok(served) => FleetDone {
-            end: served.end,
-            halt,
-            links: served.links,
-            ends: served.ends,
-            tally: served.tally,
+        Ok(served) => FleetKept {
+            done: FleetDone {
+                end: served.end,
+                halt,
+                links: served.links,
+                ends: served.ends,
+                tally: served.tally,
+            },
+            rows: served.rows,
         },
-        Err(end) => FleetDone {
-            end,
-            halt,
-            links: 0,
-            ends: Vec::new(alloc),
-            tally: no_tally(),
-        },
+        Err(_) => none_served(alloc, FleetEnd::OutOfMemory, halt, tally, None),
     }
 }
 
@@ -153,103 +202,42 @@ fn no_tally() -> Tally
     }
 }
 
-/// Does so. Err says that no connection was accepted.
-fn serve_listening<
-    T: Threads + Wait + Sync,
-    G: Gate + Drop + Send + Sync,
-    K: Sink,
-    C: Clock + Send + Drop,
-    H: Halt,
-    D: Doors,
->(
-    rt: &T,
+/// What a fleet did that served no connection.
+fn none_served<H: Drop>(
     alloc: Global,
-    fleet: &Fleet,
-    gate: G,
-    rule: &UidRule,
-    config: &Config,
-    output: &mut K,
-    clock: &mut C,
-    halt: &mut H,
-    doors: &mut D,
-) -> Result<StoreServed, FleetEnd>
-    requires daemons { (1 ≤ fleet.now.daemons) × (fleet.now.daemons ≤ 8) }
-    requires workers { fleet.now.workers ≤ 16 }
-    requires regions { (1 ≤ fleet.now.regions) × (fleet.now.regions ≤ 16) }
-    ensures serves { IfOk result (λ s. FleetServes (AllTell D.Inlet.taken) (AllTell D.Outlet.held) (admission config.now rule.now.patterns) (C.moments clock.old) (no_cells three)
-        (D.back doors.old) (D.back doors.new) (C.faults clock.old) (C.faults clock.new) s.ends.items s.tally) }
-    ensures counts { IfOk result (λ s. CountsLinks s.end s.links (length s.ends.items) (D.counts doors.old) (D.counts doors.new)) }
-    ensures reason { IfOk result (λ s. HasFleetReason s.end s.ends.items (D.waiting doors.old) (D.waiting doors.new) (H.stops halt.old) (H.stops halt.new)
-        (D.faults doors.old) (D.faults doors.new) (K.faults output.old) (K.faults output.new)) }
-    ensures listens { IfOk result (λ s. Listens fleet.now.port (K.held output.old) (K.held output.new) (D.counts doors.new)) }
-    ensures silent { result ≡ Err FleetEnd.DoorFault → Appends (K.held output.old) (K.held output.new) [] }
-    ensures begins { BeginsToListen fleet.now.port (K.held output.old) (K.held output.new) (D.counts doors.new) }
-    ensures failed { IfErr result (λ end. IsListenFault end (D.faults doors.old) (D.faults doors.new) (K.faults output.old) (K.faults output.new)) }
-    ensures asked { IfOk result (λ s. FleetAsks H.answers s.end (D.counts doors.old) (D.counts doors.new) halt.old halt.new) }
-    ensures stops_later { H.stops halt.old ≤ H.stops halt.new }
-    ensures clock_later { C.faults clock.old ≤ C.faults clock.new }
-    ensures doors_later { D.faults doors.old ≤ D.faults doors.new }
-    ensures writes_later { K.faults output.old ≤ K.faults output.new }
-    ensures back { OnErr result (D.back doors.new ≡ D.back doors.old) }
-    ensures returned { OnErr result ((D.counts doors.new).returned ≡ (D.counts doors.old).returned) }
-    ensures out { OnErr result ((D.counts doors.new).out ≡ (D.counts doors.old).out) }
-    ensures clock { OnErr result (clock.new ≡ clock.old) }
-    ensures halt { OnErr result (halt.new ≡ halt.old) }
+    end: FleetEnd,
+    halt: H,
+    tally: Tally,
+    rows: Option<Regions>,
+) -> FleetKept<H>
+    ensures outcome { (record { end = result.done.end; links = result.done.links; ends = result.done.ends.items; tally = result.done.tally }) ≡ outcome_none end tally }
+    ensures halt { result.done.halt ≡ halt }
+    ensures rows { result.rows ≡ rows }
 {
-    let Ok(regions) = Regions::of(alloc, Listing::none(alloc, Widths::three()), fleet.regions)
-    else {
-        return Err(FleetEnd::OutOfMemory);
-    };
-    match listen(alloc, fleet.port, doors, output) {
-        Ok(()) => {}
-        Err(end) => return Err(end),
-    }
-    match serve_regions(
-        rt, alloc, fleet, regions, gate, rule, config, clock, halt, doors,
-    ) {
-        Ok(served) => Ok(served),
-        Err(_) => Err(FleetEnd::OutOfMemory),
+    FleetKept {
+        done: FleetDone {
+            end,
+            halt,
+            links: 0,
+            ends: Vec::new(alloc),
+            tally,
+        },
+        rows,
     }
 }
 
-/// Serves connections over a store in regions.
-fn serve_regions<
-    T: Threads + Wait + Sync,
-    G: Gate + Drop + Send + Sync,
-    C: Clock + Send + Drop,
-    H: Halt,
-    D: Doors,
->(
-    rt: &T,
-    alloc: Global,
-    fleet: &Fleet,
-    regions: Regions,
-    gate: G,
-    rule: &UidRule,
-    config: &Config,
-    clock: &mut C,
-    halt: &mut H,
-    doors: &mut D,
-) -> Result<StoreServed, AllocError>
-    requires daemons { (1 ≤ fleet.now.daemons) × (fleet.now.daemons ≤ 8) }
-    requires workers { fleet.now.workers ≤ 16 }
-    requires base { IsBase regions.content }
-    ensures serves { IfOk result (λ s. FleetServes (AllTell D.Inlet.taken) (AllTell D.Outlet.held) (admission config.now rule.now.patterns) (C.moments clock.old) regions.content
-        (D.back doors.old) (D.back doors.new) (C.faults clock.old) (C.faults clock.new) s.ends.items s.tally) }
-    ensures counts { IfOk result (λ s. CountsLinks s.end s.links (length s.ends.items) (D.counts doors.old) (D.counts doors.new)) }
-    ensures port { IfOk result (λ s. (D.counts doors.new).port ≡ (D.counts doors.old).port) }
-    ensures reason { IfOk result (λ s. (writes writes_now : ℕ) → HasFleetReason s.end s.ends.items (D.waiting doors.old) (D.waiting doors.new) (H.stops halt.old) (H.stops halt.new)
-        (D.faults doors.old) (D.faults doors.new) writes writes_now) }
-    ensures asked { IfOk result (λ s. FleetAsks H.answers s.end (D.counts doors.old) (D.counts doors.new) halt.old halt.new) }
-    ensures stops_later { H.stops halt.old ≤ H.stops halt.new }
-    ensures clock_later { C.faults clock.old ≤ C.faults clock.new }
-    ensures doors_later { D.faults doors.old ≤ D.faults doors.new }
-    ensures doors { OnErr result (doors.new ≡ doors.old) }
-    ensures clock { OnErr result (clock.new ≡ clock.old) }
-    ensures halt { OnErr result (halt.new ≡ halt.old) }
+/// The rows, unless memory ran out.
+fn unless_memory(end: FleetEnd, rows: Regions) -> Option<Regions>
+    ensures { KeepsRows end rows.content rows.data_regions result }
 {
-    let parts = SiteParts::make(alloc, regions, gate)?;
-    serve_parts::<Brand, T, G, C, H, D>(rt, alloc, fleet, parts, rule, config, clock, halt, doors)
+    match end {
+        FleetEnd::OutOfMemory => None,
+        FleetEnd::Closed
+        | FleetEnd::Died
+        | FleetEnd::Stopped
+        | FleetEnd::DoorFault
+        | FleetEnd::WriteFault => Some(rows),
+    }
 }
 
 /// Serves connections over the parts of a site.
@@ -277,13 +265,13 @@ fn serve_parts<
     requires name { parts.name ≡ J.name }
     requires admission { admission config.now rule.now.patterns ≡ J.admission }
     requires moments { C.moments clock.old ≡ J.moments }
-    ensures serves { IfOk result (λ s. FleetServes (AllTell D.Inlet.taken) (AllTell D.Outlet.held) J.admission J.moments (store_in parts.name)
-        (D.back doors.old) (D.back doors.new) (C.faults clock.old) (C.faults clock.new) s.ends.items s.tally) }
-    ensures counts { IfOk result (λ s. CountsLinks s.end s.links (length s.ends.items) (D.counts doors.old) (D.counts doors.new)) }
+    ensures served { IfOk result (λ s. (told told' : OutputTold) → ServesKept H.answers
+        (record { port = fleet.now.port; admission = admission config.now rule.now.patterns; base = store_in parts.name; inlets_tell = AllTell D.Inlet.taken; outlets_tell = AllTell D.Outlet.held })
+        (record { output = told; clock = record { moments = C.moments clock.old; faults = C.faults clock.old }; doors = record { waiting = D.waiting doors.old; back = D.back doors.old; counts = D.counts doors.old; faults = D.faults doors.old }; stops = H.stops halt.old })
+        (record { output = told'; clock = record { moments = C.moments clock.new; faults = C.faults clock.new }; doors = record { waiting = D.waiting doors.new; back = D.back doors.new; counts = D.counts doors.new; faults = D.faults doors.new }; stops = H.stops halt.new })
+        halt.old halt.new (record { end = s.end; links = s.links; ends = s.ends.items; tally = s.tally })
+        parts.name.data_regions s.rows) }
     ensures port { IfOk result (λ s. (D.counts doors.new).port ≡ (D.counts doors.old).port) }
-    ensures reason { IfOk result (λ s. (writes writes_now : ℕ) → HasFleetReason s.end s.ends.items (D.waiting doors.old) (D.waiting doors.new) (H.stops halt.old) (H.stops halt.new)
-        (D.faults doors.old) (D.faults doors.new) writes writes_now) }
-    ensures asked { IfOk result (λ s. FleetAsks H.answers s.end (D.counts doors.old) (D.counts doors.new) halt.old halt.new) }
     ensures stops_later { H.stops halt.old ≤ H.stops halt.new }
     ensures clock_later { C.faults clock.old ≤ C.faults clock.new }
     ensures doors_later { D.faults doors.old ≤ D.faults doors.new }
@@ -305,10 +293,13 @@ fn serve_parts<
         doors,
     )?;
     let regions = site.end(openings, served.pass);
+    let end = fleet_end(served.end, &served.ends);
+    let tally = regions.tally();
     Ok(StoreServed {
-        end: fleet_end(served.end, &served.ends),
+        end,
         links: served.links,
-        tally: regions.tally(),
         ends: served.ends,
+        tally,
+        rows: unless_memory(end, regions),
     })
 }

@@ -6,5 +6,5 @@ pub mod fleet_end;
 mod listening;
 mod site_threads;
 
-pub use fleet::{Fleet, FleetDone, serve};
+pub use fleet::{Fleet, FleetDone, FleetKept, serve, serve_from};
 pub use fleet_end::FleetEnd;

@@ -1,5 +1,5 @@
 use Rattle.point_put.specs.Admissions.{admission}
-use Rattle.tsd_fleet.proofs.fleet.serve_regions.Given as goal
+use Rattle.tsd_fleet.proofs.fleet.serve_from.Given as goal
 
 abbrev pub ghosts-serve_parts-J-StepNames : goal.ghosts-serve_parts-J-StepNames
 ghosts-serve_parts-J-StepNames g a = record { counter = a.parts.counter; name = a.parts.name }
