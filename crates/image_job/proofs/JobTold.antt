@@ -1,6 +1,7 @@
 -- Of an image one thing is told.
-use Rattle.std.proofs.Common.{◌≡◌, inl, inr, ℕ, true, false, List, [], ◌∷◌, refl, sym, ap, subst, ◌∙◌}
-use Rattle.std.specs.Prelude.{Option, None, Some, Ok}
+use Rattle.std.proofs.Common.{◌≡◌, ◌≢◌, inl, inr, ℕ, true, false, List, [], ◌∷◌, refl, sym, ap, subst, ◌∙◌}
+use Rattle.std.specs.Prelude.{Option, None, Some, Result, Ok, Err}
+use Rattle.std.proofs.lemmas.Bool.{false≢true}
 use Rattle.std.specs.Io.KnownBytes.{Appends}
 use Rattle.cell_model.specs.declared.row.Listing.{Listing}
 use Rattle.cell_listing.specs.Grammar.{cells_text}
@@ -21,7 +22,7 @@ use Rattle.cell_image.specs.Images.{first_large}
 use Rattle.cell_image.specs.ImageTakes.{TakesImage}
 use Rattle.cell_image.specs.declared.image_fault.ImageFault.{ImageFault}
 use Rattle.cell_image.specs.declared.image_fault.ImageFault.TheVariants as fault
-use Rattle.image_job.specs.ImageJobs.{GivesRefusal, IsPacked, OverImage, Packed, Unpacked, is_want, packed_by}
+use Rattle.image_job.specs.ImageJobs.{Checks, GivesRefusal, IsPacked, LoadsImage, LoadsNone, OverImage, Packed, Unpacked, is_want, packed_by}
 use Rattle.image_job.specs.ImageTexts.{flaw_told, image_fault_text, large_told, refused_by}
 
 -- ---- the first fault
@@ -91,6 +92,54 @@ refuses_so (fault.NotRising place) held held' end not_want g = g
 refuses_so (fault.Trailing place) held held' end not_want g = g
 refuses_so fault.OutOfMemory held held' end not_want g = absurd cc
 
+-- a job that told a refusal isn't done
+pub never_done : (t : Told) (held held' : Option (List ℕ)) (end : ListingEnd) → t.refused ≡ true → Gives (λ (told : Told). told ≡ t) held held' end → end ≢ Done
+never_done t held held' end so g done =
+    let all = subst (λ (e : ListingEnd). Gives (λ (told : Told). told ≡ t) held held' e) done g in
+    false≢true (sym all.2 ∙ ap (λ (told : Told). told.refused) all.1 ∙ so)
+
+-- ---- what is loaded
 module _ (taken taken' left left' : Option (List ℕ)) where
-  pub over_listing : (held held' : Option (List ℕ)) (end : ListingEnd) (l : Listing) → TakesImage taken taken' left left' (Ok l) → Gives (Unpacked l) held held' end → OverImage Unpacked taken taken' left left' held held' end
-  over_listing held held' end l t g = record { bytes = t.input; takes = t.takes; leaves = t.leaves; ends = inr (inr (t.gives.0, t.gives.1, (l, t.gives.2, g))) }
+  -- of a listing that was taken and checked
+  pub loads_checked : (held held' : Option (List ℕ)) (l : Listing) (result : Result Listing ListingEnd) → TakesImage taken taken' left left' (Ok l) → Checks l held held' result → LoadsImage taken taken' left left' held held' result
+  loads_checked held held' l (Ok checked) t c =
+      subst (λ (m : Listing). LoadsImage taken taken' left left' held held' (Ok m)) (sym c.0)
+      (record { bytes = t.input; takes = t.takes; leaves = t.leaves; loads = (t.gives.0, t.gives.1, t.gives.2, c.1, c.2) })
+  loads_checked held held' l (Err end) t (inl none) =
+      subst (λ (e : ListingEnd). LoadsImage taken taken' left left' held held' (Err e)) (sym none.0) (record { bytes = t.input; takes = t.takes; leaves = t.leaves; loads = inl none.1 })
+  loads_checked held held' l (Err end) t (inr told) =
+      record { bytes = t.input; takes = t.takes; leaves = t.leaves; loads = inr (inr (t.gives.0, t.gives.1, (l, t.gives.2, told))) }
+
+  -- a listing that was loaded was given
+  pub over_loaded : (held mid held' : Option (List ℕ)) (end : ListingEnd) (l : Listing) → LoadsImage taken taken' left left' held mid (Ok l) → Gives (Unpacked l) mid held' end → OverImage Unpacked taken taken' left left' held held' end
+  over_loaded held mid held' end l t g = record {
+    bytes = t.bytes;
+    takes = t.takes;
+    leaves = t.leaves;
+    ends = inr (inr (t.loads.0, t.loads.1, (l, t.loads.2, subst (λ (h : Option (List ℕ)). Gives (Unpacked l) h held' end) t.loads.4 g)));
+  }
+
+  -- none was loaded, as was told
+  pub over_none : (held held' : Option (List ℕ)) (end : ListingEnd) → LoadsImage taken taken' left left' held held' (Err end) → OverImage Unpacked taken taken' left left' held held' end
+  over_none held held' end t = at t.loads
+    where
+      at : LoadsNone left' t.bytes held held' end → OverImage Unpacked taken taken' left left' held held' end
+      at (inl unread) = record { bytes = t.bytes; takes = t.takes; leaves = t.leaves; ends = inl unread }
+      at (inr (inl refused)) = record { bytes = t.bytes; takes = t.takes; leaves = t.leaves; ends = inr (inl refused) }
+      at (inr (inr flawed)) =
+          let l = flawed.2.0 in
+          let told = flawed.2.2 in
+          record {
+            bytes = t.bytes;
+            takes = t.takes;
+            leaves = t.leaves;
+            ends = inr (inr (
+              flawed.0,
+              flawed.1,
+              (
+                l,
+                flawed.2.1,
+                gives_so (Unpacked l) held held' (flaw_told told.0) end (inl (told.0, told.1, told.2, refl)) (flaw_unpacked l told.0 told.1 told.2) told.3,
+              ),
+            ));
+          }

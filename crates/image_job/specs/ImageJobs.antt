@@ -1,5 +1,5 @@
 -- What the jobs on images tell.
-use Rattle.std.specs.Prelude.{◌≡◌, ◌⊎◌, ℕ, ◌^◌, ◌<◌, Bool, true, false, List, [], ◌∷◌, length, Option, None, Some, Ok}
+use Rattle.std.specs.Prelude.{◌≡◌, ◌⊎◌, ℕ, ◌^◌, ◌<◌, Bool, true, false, List, [], ◌∷◌, length, Option, None, Some, Result, Ok, Err}
 use Rattle.std.specs.Io.KnownBytes.{Appends, Consumes, IsAtEnd}
 use Rattle.cell_model.specs.declared.row.Listing.{Listing}
 use Rattle.cell_listing.specs.Grammar.{cells_text}
@@ -67,6 +67,39 @@ pub record OverImage (Tells : Listing → Told → Type 0) (taken taken' left le
   pub ends : Unread bytes held held' end
       ⊎ (((why : ImageFault) × Refuses image_read left' bytes why × GivesRefusal why held held' end)
       ⊎ (IsAtEnd left' × (length bytes < 2 ^ 40) × ((l : Listing) × (image_read bytes ≡ Ok (width_bytes l.widths, l.lines)) × Gives (Tells l) held held' end)))
+
+-- ---- a listing that is loaded
+
+-- the listing has no fault and nothing was given, or its first fault's line was; or there was no memory
+abbrev pub Checks : Listing → (held held' : Option (List ℕ)) → Result Listing ListingEnd → Type 0
+Checks l held held' (Ok checked) = (checked ≡ l) × AreFaults (read_of l) [] × (held' ≡ held)
+Checks l held held' (Err end) =
+    ((end ≡ OutOfMemory) × (held' ≡ held))
+    ⊎ ((fault : ℕ × Flaw) × (faults : List (ℕ × Flaw)) × AreFaults (read_of l) (fault ∷ faults) × Gives (λ told. told ≡ flaw_told fault) held held' end)
+
+-- the bytes are the image of a listing without a fault, and nothing was given
+abbrev pub LoadsListing : Option (List ℕ) → List ℕ → (held held' : Option (List ℕ)) → Listing → Type 0
+LoadsListing left' bytes held held' l =
+    IsAtEnd left' × (length bytes < 2 ^ 40) × (image_read bytes ≡ Ok (width_bytes l.widths, l.lines)) × AreFaults (read_of l) [] × (held' ≡ held)
+
+-- the bytes weren't read as far as was needed, or they are no image, or of a listing with a fault: then the line of the fault was given
+abbrev pub LoadsNone : Option (List ℕ) → List ℕ → (held held' : Option (List ℕ)) → ListingEnd → Type 0
+LoadsNone left' bytes held held' end =
+    Unread bytes held held' end
+    ⊎ (((why : ImageFault) × Refuses image_read left' bytes why × GivesRefusal why held held' end)
+    ⊎ (IsAtEnd left' × (length bytes < 2 ^ 40) × ((l : Listing) × (image_read bytes ≡ Ok (width_bytes l.widths, l.lines))
+    × ((fault : ℕ × Flaw) × (faults : List (ℕ × Flaw)) × AreFaults (read_of l) (fault ∷ faults) × Gives (λ told. told ≡ flaw_told fault) held held' end))))
+
+abbrev pub Loads : Option (List ℕ) → List ℕ → (held held' : Option (List ℕ)) → Result Listing ListingEnd → Type 0
+Loads left' bytes held held' (Ok l) = LoadsListing left' bytes held held' l
+Loads left' bytes held held' (Err end) = LoadsNone left' bytes held held' end
+
+-- these bytes were taken, and a listing was loaded of them, or none
+pub record LoadsImage (taken taken' left left' held held' : Option (List ℕ)) (result : Result Listing ListingEnd) : Type 0 where
+  pub bytes : List ℕ
+  pub takes : Appends taken taken' bytes
+  pub leaves : Consumes left left' bytes
+  pub loads : Loads left' bytes held held' result
 
 -- ---- how it is shown
 

@@ -1,18 +1,22 @@
 -- What a fleet printed, and why its job ended.
-use Rattle.std.proofs.Common.{◌≡◌, ℕ, ◌≤◌, List, [], ◌++◌, take, drop, ◌⊎◌, inl, inr, refl, sym, subst, ap, ◌∙◌, take-append-drop, append-nil, arith}
-use Rattle.std.specs.Prelude.{◌≢◌, true, false, Option}
+use Rattle.std.proofs.Common.{◌≡◌, ℕ, ◌≤◌, List, [], ◌++◌, ◌⊎◌, inl, inr, refl, sym, subst, ap, ◌∙◌, append-nil, arith}
+use Rattle.std.specs.Prelude.{◌≢◌, Bool, true, false, ◌&&◌, Option, None, Some, Ok, Err}
 use Rattle.std.proofs.lemmas.List.{append_assoc}
 use Rattle.std.specs.Io.KnownBytes.{Appends}
-use Rattle.std.proofs.KnownBytes.{Appends-trans}
+use Rattle.std.proofs.KnownBytes.{Appends-nil, Appends-trans}
 use Rattle.tsd_io.specs.Causes.{Rose}
-use Rattle.tsd_doors.specs.Links.{Counts}
 use Rattle.link_workers.specs.Accepting.{IsNoneLeft}
 use Rattle.cell_model.specs.declared.answers.Tally.{Tally}
+use Rattle.cell_model.specs.Store.{Store}
+use Rattle.cell_region.specs.DividedStore.{DividedStore}
+use Rattle.listing_print.specs.declared.cell_giver.GiveFault.{GiveFault}
+use Rattle.listing_print.specs.declared.cell_giver.GiveFault.TheVariants as give
 use Rattle.tsd_daemon.specs.declared.served.Served.{Served}
 use Rattle.tsd_fleet.specs.declared.fleet_end.FleetEnd.{FleetEnd}
 use Rattle.tsd_fleet.specs.declared.fleet_end.FleetEnd.TheVariants as end
-use Rattle.tsd_fleet.specs.FleetServes.{BeginsToListen, CountsLinks, HasFleetReason, HasListened, IsFirstFront, Listens, listening_line}
-use Rattle.serve_job.specs.FleetRuns.{EndsJob, EndsSo, FleetCauses, FleetPrints, IsFleetFront, WriteCause, has_no_more, summary_lines}
+use Rattle.tsd_fleet.specs.Devices.{FleetDevices, NoneFalls, OutputTold, Terms}
+use Rattle.tsd_fleet.specs.FleetServes.{BeginsToListen, CountsLinks, FleetDoes, FleetKeeps, HasFleetReason, HasListened, IsFirstFront, Listens, Outcome, listening_line}
+use Rattle.serve_job.specs.FleetRuns.{EndsJob, EndsSo, FinishesJob, FleetCauses, FleetPrints, GivesLast, IsFleetFront, RanOutSaving, RunsFleet, WriteCause, has_no_more, is_too_large, last_lines}
 
 -- ---- the last lines
 
@@ -20,61 +24,163 @@ pub no_more : (e : FleetEnd) → (e ≡ end.Closed) ⊎ (e ≡ end.Died) → has
 no_more e (inl closed) = ap has_no_more closed
 no_more e (inr died) = ap has_no_more died
 
--- a front of them was printed
-pub front_lines : (served : FleetEnd) (held held' : Option (List ℕ)) (lines : List ℕ) (n : ℕ) → has_no_more served ≡ true → Appends held held' (take n lines) → EndsJob served end.WriteFault held held' lines
-front_lines served held held' lines n more gives = record {
-  printed = take n lines;
-  rest = drop n lines;
-  gives = gives;
-  front = take-append-drop n lines;
-  whole = λ is. let t : false ≡ true = is in absurd cc;
-  nothing = λ is. let t : true ≡ false = sym more ∙ is in absurd cc;
-  memory = λ is. let t : end.WriteFault ≡ end.OutOfMemory = is in absurd cc;
-  so = inr (more, inr refl);
+-- a fleet that no connection could come to any more printed nothing behind its first line
+pub finish_early : (served : FleetEnd) (save : Bool) (held : Option (List ℕ)) (links : ℕ) (tally : Tally) (store : Store) → has_no_more served ≡ false → FinishesJob served served false save held held links tally store
+finish_early served save held links tally store last = record {
+  job = record {
+    printed = [];
+    rest = last_lines links tally save store;
+    gives = Appends-nil held;
+    front = refl;
+    whole = λ is. let t : false ≡ true = sym last ∙ is in absurd cc;
+    nothing = λ is. refl;
+    memory = λ none is. refl;
+    so = inl refl;
+  };
+  refused_is = ap (λ (b : Bool). b && is_too_large save store) (sym last);
 }
+
+-- nothing was printed for want of memory
+pub finish_none : (served : FleetEnd) (save : Bool) (held : Option (List ℕ)) (links : ℕ) (tally : Tally) (store : Store) → has_no_more served ≡ true → FinishesJob served end.OutOfMemory false save held held links tally store
+finish_none served save held links tally store more = record {
+  job = record {
+    printed = [];
+    rest = last_lines links tally save store;
+    gives = Appends-nil held;
+    front = refl;
+    whole = λ is. let t : false ≡ true = is in absurd cc;
+    nothing = λ is. refl;
+    memory = λ none is. refl;
+    so = inr (more, inl refl);
+  };
+  refused_is = refl;
+}
+
+-- the rows that are left are those that were handed back
+pub finish_kept : (served result : FleetEnd) (refused save : Bool) (held held' : Option (List ℕ)) (links : ℕ) (tally : Tally) (rows : Option DividedStore) (d left : DividedStore) → has_no_more served ≡ true → rows ≡ Some d
+    → (served ≢ end.OutOfMemory → rows ≡ Some left) → FinishesJob served result refused save held held' links tally d.content → FinishesJob served result refused save held held' links tally left.content
+finish_kept served result refused save held held' links tally rows d left more is kept f =
+    subst (λ (x : DividedStore). FinishesJob served result refused save held held' links tally x.content) (ap value (sym is ∙ kept (λ memory. let t : false ≡ true = sym (ap has_no_more memory) ∙ more in absurd cc))) f
+  where
+    value : Option DividedStore → DividedStore
+    value None = d
+    value (Some x) = x
+
+-- all was printed
+pub finish_whole : (served : FleetEnd) (refused save : Bool) (held held' : Option (List ℕ)) (links : ℕ) (tally : Tally) (store : Store) → has_no_more served ≡ true → GivesLast (last_lines links tally save store) save store held held' (Ok refused)
+    → FinishesJob served served refused save held held' links tally store
+finish_whole served refused save held held' links tally store more gave = record {
+  job = record {
+    printed = last_lines links tally save store;
+    rest = [];
+    gives = gave.0;
+    front = append-nil (last_lines links tally save store);
+    whole = λ is. refl;
+    nothing = λ is. let t : true ≡ false = sym more ∙ is in absurd cc;
+    memory = λ none is. let t : false ≡ true = sym (ap has_no_more is) ∙ more in absurd cc;
+    so = inl refl;
+  };
+  refused_is = gave.1 ∙ ap (λ (b : Bool). b && is_too_large save store) (sym more);
+}
+
+-- a front was printed, and the output failed
+failed_so : (served : FleetEnd) (save : Bool) (held held' : Option (List ℕ)) (links : ℕ) (tally : Tally) (store : Store) → has_no_more served ≡ true → GivesLast (last_lines links tally save store) save store held held' (Err give.Failed)
+    → FinishesJob served end.WriteFault false save held held' links tally store
+failed_so served save held held' links tally store more f = record {
+  job = record {
+    printed = f.front;
+    rest = f.rest;
+    gives = f.gives;
+    front = sym f.text_is;
+    whole = λ is. let t : false ≡ true = is in absurd cc;
+    nothing = λ is. let t : true ≡ false = sym more ∙ is in absurd cc;
+    memory = λ none is. let t : end.WriteFault ≡ end.OutOfMemory = is in absurd cc;
+    so = inr (more, inr refl);
+  };
+  refused_is = refl;
+}
+
+-- memory ran out
+starved_so : (served : FleetEnd) (save : Bool) (held held' : Option (List ℕ)) (links : ℕ) (tally : Tally) (store : Store) → has_no_more served ≡ true → GivesLast (last_lines links tally save store) save store held held' (Err give.OutOfMemory)
+    → FinishesJob served end.OutOfMemory false save held held' links tally store
+starved_so served true held held' links tally store more gave = record {
+  job = record {
+    printed = gave.0.front;
+    rest = gave.0.rest;
+    gives = gave.0.gives;
+    front = sym gave.0.text_is;
+    whole = λ is. let t : false ≡ true = is in absurd cc;
+    nothing = λ is. let t : true ≡ false = sym more ∙ is in absurd cc;
+    memory = λ none is. let t : true ≡ false = none in absurd cc;
+    so = inr (more, inl refl);
+  };
+  refused_is = refl;
+}
+starved_so served false held held' links tally store more gave = record {
+  job = record {
+    printed = [];
+    rest = last_lines links tally false store;
+    gives = gave.1 refl;
+    front = refl;
+    whole = λ is. let t : false ≡ true = is in absurd cc;
+    nothing = λ is. refl;
+    memory = λ none is. refl;
+    so = inr (more, inl refl);
+  };
+  refused_is = refl;
+}
+
+module _ (served : FleetEnd) (save : Bool) (held held' : Option (List ℕ)) (links : ℕ) (tally : Tally) (store : Store) (fault : GiveFault) (more : has_no_more served ≡ true) (f : GivesLast (last_lines links tally save store) save store held held' (Err fault)) where
+  pub finish_failed : fault ≡ give.Failed → FinishesJob served end.WriteFault false save held held' links tally store
+  finish_failed is = failed_so served save held held' links tally store more (subst (λ (e : GiveFault). GivesLast (last_lines links tally save store) save store held held' (Err e)) is f)
+
+  pub finish_starved : fault ≡ give.OutOfMemory → FinishesJob served end.OutOfMemory false save held held' links tally store
+  finish_starved is = starved_so served save held held' links tally store more (subst (λ (e : GiveFault). GivesLast (last_lines links tally save store) save store held held' (Err e)) is f)
 
 -- ---- what the job printed
 
--- nothing was printed behind the first line, but where no more came or the output failed
-early_by : {served result : FleetEnd} {held held' : Option (List ℕ)} {lines : List ℕ} (e : EndsJob served result held held' lines) → EndsSo served result → has_no_more result ≡ false → result ≢ end.WriteFault → e.printed ≡ []
-early_by e (inl same) last not_write = e.nothing (sym (ap has_no_more same) ∙ last)
-early_by e (inr (more, inl memory)) last not_write = e.memory memory
-early_by e (inr (more, inr write)) last not_write = absurd (not_write write)
+-- nothing was printed behind the first line, but where no more came, the output failed, or memory ran out while a store was saved
+early_by : {served result : FleetEnd} {save : Bool} {held held' : Option (List ℕ)} {lines : List ℕ} (e : EndsJob served result save held held' lines) → EndsSo served result → has_no_more result ≡ false → result ≢ end.WriteFault
+    → (RanOutSaving save result → ⊥) → e.printed ≡ []
+early_by e (inl same) last not_write enough = e.nothing (sym (ap has_no_more same) ∙ last)
+early_by {save = true} e (inr (more, inl memory)) last not_write enough = absurd (enough (refl, memory))
+early_by {save = false} e (inr (more, inl memory)) last not_write enough = e.memory refl memory
+early_by e (inr (more, inr write)) last not_write enough = absurd (not_write write)
 
-early : {served result : FleetEnd} {held held' : Option (List ℕ)} {lines : List ℕ} (e : EndsJob served result held held' lines) → has_no_more result ≡ false → result ≢ end.WriteFault → e.printed ≡ []
-early e last not_write = early_by e e.so last not_write
+early : {served result : FleetEnd} {save : Bool} {held held' : Option (List ℕ)} {lines : List ℕ} (e : EndsJob served result save held held' lines) → has_no_more result ≡ false → result ≢ end.WriteFault → (RanOutSaving save result → ⊥) → e.printed ≡ []
+early e last not_write enough = early_by e e.so last not_write enough
 
 -- behind the line of the port
-after_line : {served result : FleetEnd} (links : ℕ) (tally : Tally) {held held' held2 : Option (List ℕ)} (asked : ℕ) (now : Counts) → Listens asked held held' now
-    → EndsJob served result held' held2 (summary_lines links tally) → FleetPrints result links tally asked now.port held held2
-after_line {result = result} links tally {held = held} {held' = held'} {held2 = held2} asked now l e =
-    let line : has_no_more result ≡ false → result ≢ end.WriteFault → listening_line l.0 ++ e.printed ≡ listening_line l.0 = λ last not_write. ap (λ (x : List ℕ). listening_line l.0 ++ x) (early e last not_write) ∙ append-nil (listening_line l.0) in
+after_line : {served result : FleetEnd} {save : Bool} (before after : FleetDevices) (o : OutputTold) (asked : ℕ) (lines : List ℕ) → Listens asked before.output.held after.output.held after.doors.counts
+    → EndsJob served result save after.output.held o.held lines → FleetPrints asked lines save before (record after { output = o }) result
+after_line {result = result} {save = save} before after o asked lines l e =
+    let line : has_no_more result ≡ false → result ≢ end.WriteFault → (RanOutSaving save result → ⊥) → listening_line l.0 ++ e.printed ≡ listening_line l.0 =
+    λ last not_write enough. ap (λ (x : List ℕ). listening_line l.0 ++ x) (early e last not_write enough) ∙ append-nil (listening_line l.0) in
     record {
       printed = listening_line l.0 ++ e.printed;
-      gives = Appends-trans held held' held2 (listening_line l.0) e.printed l.2 e.gives;
+      gives = Appends-trans before.output.held after.output.held o.held (listening_line l.0) e.printed l.2 e.gives;
       front = inr (l.0, e.rest, l.1, append_assoc (listening_line l.0) e.printed e.rest ∙ ap (λ (x : List ℕ). listening_line l.0 ++ x) e.front);
       whole = λ is. (l.0, l.1, ap (λ (x : List ℕ). listening_line l.0 ++ x) (e.whole is));
-      first = λ last not_write. inr (l.0, [], l.1, append-nil (listening_line l.0 ++ e.printed) ∙ line last not_write);
-      stopped = λ is. (l.0, l.1, line (ap has_no_more is) (λ write. let t : end.Stopped ≡ end.WriteFault = sym is ∙ write in absurd cc));
+      first = λ last not_write enough. inr (l.0, [], l.1, append-nil (listening_line l.0 ++ e.printed) ∙ line last not_write enough);
+      stopped = λ is. (l.0, l.1, line (ap has_no_more is) (λ write. let t : end.Stopped ≡ end.WriteFault = sym is ∙ write in absurd cc) (λ out. let t : end.Stopped ≡ end.OutOfMemory = sym is ∙ out.1 in absurd cc));
     }
 
 -- a front of the first line is one of all lines
-front_of_all : (given : List ℕ) (links : ℕ) (tally : Tally) (asked : ℕ) (now : Counts) → IsFirstFront given asked now.port → IsFleetFront given asked now.port links tally
-front_of_all given links tally asked now (inl nothing) = inl nothing
-front_of_all given links tally asked now (inr (port, rest, is, line)) =
-    inr (port, rest ++ summary_lines links tally, is, sym (append_assoc given rest (summary_lines links tally)) ∙ ap (λ (x : List ℕ). x ++ summary_lines links tally) line)
+front_of_all : (given lines : List ℕ) (asked : ℕ) (bound : Option ℕ) → IsFirstFront given asked bound → IsFleetFront given asked bound lines
+front_of_all given lines asked bound (inl nothing) = inl nothing
+front_of_all given lines asked bound (inr (port, rest, is, line)) = inr (port, rest ++ lines, is, sym (append_assoc given rest lines) ∙ ap (λ (x : List ℕ). x ++ lines) line)
 
 -- where not even that was written whole
-after_front : {served result : FleetEnd} (links : ℕ) (tally : Tally) {held held' held2 : Option (List ℕ)} (asked : ℕ) (now : Counts) → BeginsToListen asked held held' now
-    → (e : EndsJob served result held' held2 (summary_lines links tally)) → e.printed ≡ [] → has_no_more result ≡ false → result ≢ end.Stopped → FleetPrints result links tally asked now.port held held2
-after_front links tally {held = held} {held' = held'} {held2 = held2} asked now (given, gives, begun) e none more no_stop =
+after_front : {served result : FleetEnd} {save : Bool} (before after : FleetDevices) (o : OutputTold) (asked : ℕ) (lines : List ℕ) → BeginsToListen asked before.output.held after.output.held after.doors.counts
+    → (e : EndsJob served result save after.output.held o.held lines) → e.printed ≡ [] → has_no_more result ≡ false → result ≢ end.Stopped → FleetPrints asked lines save before (record after { output = o }) result
+after_front before after o asked lines (given, gives, begun) e none more no_stop =
     let all : given ++ e.printed ≡ given = ap (λ (x : List ℕ). given ++ x) none ∙ append-nil given in
     record {
       printed = given;
-      gives = subst (Appends held held2) all (Appends-trans held held' held2 given e.printed gives e.gives);
-      front = front_of_all given links tally asked now begun;
+      gives = subst (Appends before.output.held o.held) all (Appends-trans before.output.held after.output.held o.held given e.printed gives e.gives);
+      front = front_of_all given lines asked after.doors.counts.port begun;
       whole = λ is. let t : false ≡ true = sym more ∙ is in absurd cc;
-      first = λ last not_write. begun;
+      first = λ last not_write enough. begun;
       stopped = λ is. absurd (no_stop is);
     }
 
@@ -83,14 +189,14 @@ same_end : {served result : FleetEnd} → EndsSo served result → has_no_more s
 same_end (inl same) last = same
 same_end (inr (more, why)) last = let t : false ≡ true = sym last ∙ more in absurd cc
 
-pub prints : (served result : FleetEnd) (links : ℕ) (tally : Tally) (held held' held2 : Option (List ℕ)) (asked : ℕ) (now : Counts) → HasListened served asked held held' now
-    → EndsJob served result held' held2 (summary_lines links tally) → FleetPrints result links tally asked now.port held held2
-prints end.Closed result links tally held held' held2 asked now l e = after_line links tally asked now (l.closed refl) e
-prints end.Died result links tally held held' held2 asked now l e = after_line links tally asked now (l.died refl) e
-prints end.Stopped result links tally held held' held2 asked now l e = after_line links tally asked now (l.stopped refl) e
-prints end.DoorFault result links tally held held' held2 asked now l e = after_front links tally asked now l.begun e (e.nothing refl) (ap has_no_more (same_end e.so refl)) (λ is. let t : end.DoorFault ≡ end.Stopped = sym (same_end e.so refl) ∙ is in absurd cc)
-prints end.WriteFault result links tally held held' held2 asked now l e = after_front links tally asked now l.begun e (e.nothing refl) (ap has_no_more (same_end e.so refl)) (λ is. let t : end.WriteFault ≡ end.Stopped = sym (same_end e.so refl) ∙ is in absurd cc)
-prints end.OutOfMemory result links tally held held' held2 asked now l e = after_front links tally asked now l.begun e (e.nothing refl) (ap has_no_more (same_end e.so refl)) (λ is. let t : end.OutOfMemory ≡ end.Stopped = sym (same_end e.so refl) ∙ is in absurd cc)
+prints : (served : FleetEnd) {result : FleetEnd} {save : Bool} (before after : FleetDevices) (o : OutputTold) (asked : ℕ) (lines : List ℕ) → HasListened asked before after served → EndsJob served result save after.output.held o.held lines
+    → FleetPrints asked lines save before (record after { output = o }) result
+prints end.Closed before after o asked lines l e = after_line before after o asked lines (l.closed refl) e
+prints end.Died before after o asked lines l e = after_line before after o asked lines (l.died refl) e
+prints end.Stopped before after o asked lines l e = after_line before after o asked lines (l.stopped refl) e
+prints end.DoorFault before after o asked lines l e = after_front before after o asked lines l.begun e (e.nothing refl) (ap has_no_more (same_end e.so refl)) (λ is. let t : end.DoorFault ≡ end.Stopped = sym (same_end e.so refl) ∙ is in absurd cc)
+prints end.WriteFault before after o asked lines l e = after_front before after o asked lines l.begun e (e.nothing refl) (ap has_no_more (same_end e.so refl)) (λ is. let t : end.WriteFault ≡ end.Stopped = sym (same_end e.so refl) ∙ is in absurd cc)
+prints end.OutOfMemory before after o asked lines l e = after_front before after o asked lines l.begun e (e.nothing refl) (ap has_no_more (same_end e.so refl)) (λ is. let t : end.OutOfMemory ≡ end.Stopped = sym (same_end e.so refl) ∙ is in absurd cc)
 
 -- ---- how it ended
 
@@ -100,10 +206,10 @@ ended want (inl same) not_memory not_write is = sym same ∙ is
 ended want (inr (more, inl memory)) not_memory not_write is = absurd (not_memory (sym is ∙ memory))
 ended want (inr (more, inr write)) not_memory not_write is = absurd (not_write (sym is ∙ write))
 
-pub ended_closed : {served result : FleetEnd} → EndsSo served result → result ≡ end.Closed → served ≡ end.Closed
+ended_closed : {served result : FleetEnd} → EndsSo served result → result ≡ end.Closed → served ≡ end.Closed
 ended_closed e is = ended end.Closed e (λ t. absurd cc) (λ t. absurd cc) is
 
-pub ended_died : {served result : FleetEnd} → EndsSo served result → result ≡ end.Died → served ≡ end.Died
+ended_died : {served result : FleetEnd} → EndsSo served result → result ≡ end.Died → served ≡ end.Died
 ended_died e is = ended end.Died e (λ t. absurd cc) (λ t. absurd cc) is
 
 ended_stopped : {served result : FleetEnd} → EndsSo served result → result ≡ end.Stopped → served ≡ end.Stopped
@@ -118,21 +224,20 @@ other_before it may_have (inl same) other is = other (same ∙ is)
 other_before it may_have (inr (more, why)) other is = let t : true ≡ false = sym more ∙ ap has_no_more is ∙ may_have in absurd cc
 
 -- want of memory stays one
-pub counted : {served result : FleetEnd} {links ends : ℕ} (before now : Counts) → EndsSo served result → CountsLinks served links ends before now → CountsLinks result links ends before now
-counted before now e c = record {
+counted : {served result : FleetEnd} {links ends : ℕ} (before after : FleetDevices) (o : OutputTold) → EndsSo served result → CountsLinks before after served links ends → CountsLinks before (record after { output = o }) result links ends
+counted before after o e c = record {
   links_are = c.links_are;
   returned = c.returned;
   all = λ no_memory. c.all (λ memory. no_memory (same_end e (ap has_no_more memory) ∙ memory));
 }
 
-none_left : (result : FleetEnd) {served : FleetEnd} {ends : List Served} (waiting waiting' : Option (List (List ℕ))) {stops stops' doors doors' writes writes' : ℕ}
-    → EndsSo served result → HasFleetReason served ends waiting waiting' stops stops' doors doors' writes writes' → has_no_more result ≡ true → IsNoneLeft waiting waiting'
-none_left end.Closed waiting waiting' e r is = (r.closed (ended_closed e refl)).0
-none_left end.Died waiting waiting' e r is = (r.died (ended_died e refl)).0
-none_left end.Stopped waiting waiting' e r is = let t : false ≡ true = is in absurd cc
-none_left end.DoorFault waiting waiting' e r is = let t : false ≡ true = is in absurd cc
-none_left end.WriteFault waiting waiting' e r is = let t : false ≡ true = is in absurd cc
-none_left end.OutOfMemory waiting waiting' e r is = let t : false ≡ true = is in absurd cc
+none_left : (result : FleetEnd) {served : FleetEnd} {ends : List Served} (before after : FleetDevices) → EndsSo served result → HasFleetReason before after served ends → has_no_more result ≡ true → IsNoneLeft before.doors.waiting after.doors.waiting
+none_left end.Closed before after e r is = (r.closed (ended_closed e refl)).0
+none_left end.Died before after e r is = (r.died (ended_died e refl)).0
+none_left end.Stopped before after e r is = let t : false ≡ true = is in absurd cc
+none_left end.DoorFault before after e r is = let t : false ≡ true = is in absurd cc
+none_left end.WriteFault before after e r is = let t : false ≡ true = is in absurd cc
+none_left end.OutOfMemory before after e r is = let t : false ≡ true = is in absurd cc
 
 -- the output failed before or now
 rose_by_now : (before mid now : ℕ) → Rose before mid → mid ≤ now → Rose before now
@@ -145,13 +250,57 @@ write_rose : (served : FleetEnd) (before mid now : ℕ) → before ≤ mid → m
 write_rose served before mid now earlier later fault (inl is) = rose_by_now before mid now (fault is) later
 write_rose served before mid now earlier later fault (inr rose) = rose_since before mid now earlier rose
 
-pub causes : (served result : FleetEnd) {ends : List Served} (waiting waiting' : Option (List (List ℕ))) (stops stops' doors doors' writes mid writes' : ℕ)
-    → EndsSo served result → WriteCause served result mid writes' → writes ≤ mid → HasFleetReason served ends waiting waiting' stops stops' doors doors' writes mid
-    → FleetCauses result waiting waiting' stops stops' doors doors' writes writes'
-causes served result waiting waiting' stops stops' doors doors' writes mid writes' e w later r = record {
-  none_left = none_left result waiting waiting' e r;
-  stopped = λ is. r.stopped (ended_stopped e is);
-  heeded = λ no_stop enough. r.heeded (other_before end.Stopped refl e no_stop) (other_before end.OutOfMemory refl e enough);
-  door_fault = λ is. r.door_fault (ended_door_fault e is);
-  write_fault = λ is. write_rose served writes mid writes' later w.later r.write_fault (w.cause is);
-}
+-- no count fell
+falls_none : (before after : FleetDevices) (o : OutputTold) → NoneFalls before after → after.output.faults ≤ o.faults → NoneFalls before (record after { output = o })
+falls_none before after o n later = record { writes = up before.output.faults after.output.faults o.faults n.writes later; clock = n.clock; doors = n.doors; stops = n.stops }
+  where
+    up : (x y z : ℕ) → x ≤ y → y ≤ z → x ≤ z
+    up x y z first then_ = omega (arith, first, then_)
+
+-- ---- all of it
+
+module _ {H : Type 0} (answers : H → Bool → H → Type 0) where
+  pub causes : (terms : Terms) (before after : FleetDevices) (w : OutputTold) (old new : H) (o : Outcome) (result : FleetEnd) → FleetDoes answers terms before after old new o → EndsSo o.end result → WriteCause o.end result after.output.faults w.faults
+      → FleetCauses before (record after { output = w }) result
+  causes terms before after w old new o result d e c = record {
+    none_left = none_left result before after e d.reason;
+    stopped = λ is. d.reason.stopped (ended_stopped e is);
+    heeded = λ no_stop enough. d.reason.heeded (other_before end.Stopped refl e no_stop) (other_before end.OutOfMemory refl e enough);
+    door_fault = λ is. d.reason.door_fault (ended_door_fault e is);
+    write_fault = λ is. write_rose o.end before.output.faults after.output.faults w.faults d.later.writes c.later d.reason.write_fault (c.cause is);
+    later = falls_none before after w d.later c.later;
+  }
+
+  pub runs : (terms : Terms) (save : Bool) (before after : FleetDevices) (w : OutputTold) (old new : H) (o : Outcome) (n : ℕ) (rows : Option DividedStore) (result : FleetEnd) (refused : Bool) → FleetKeeps answers terms before after old new o n rows
+      → ((left : DividedStore) → (o.end ≢ end.OutOfMemory → rows ≡ Some left) → FinishesJob o.end result refused save after.output.held w.held o.links o.tally left.content)
+      → RunsFleet terms save before (record after { output = w }) result refused
+  runs terms save before after w old new o n rows result refused k finish =
+      let d = k.does in
+      let f = finish (record { data_regions = n; content = d.serves.store }) k.keeps.kept in
+      let e = f.job in
+      let s = d.serves.stands in
+      record {
+        ends = o.ends;
+        links = o.links;
+        tally = o.tally;
+        serves = record {
+          store = d.serves.store;
+          stands = record {
+            history = s.history;
+            lawful = s.lawful;
+            base_is = s.base_is;
+            store_is = s.store_is;
+            callers = s.callers;
+            different = s.different;
+            served = s.served;
+            given = s.given;
+            nothing_else = s.nothing_else;
+          };
+          tally_is = d.serves.tally_is;
+        };
+        counted = counted before after w e.so d.counts;
+        closed = λ is. (d.reason.closed (ended_closed e.so is)).1;
+        died = λ is. (d.reason.died (ended_died e.so is)).1;
+        prints = prints o.end before after w terms.port (last_lines o.links o.tally save d.serves.store) d.listens e;
+        refused_is = f.refused_is;
+      }

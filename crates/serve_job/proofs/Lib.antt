@@ -1,1 +1,2 @@
-pub mod JobLemmas
+mod JobLemmas
+mod SavedLemmas

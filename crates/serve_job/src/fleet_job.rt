@@ -1,33 +1,43 @@
-//! A fleet over an empty store of its own, from the line of its port to its last lines.
-ghost use Rattle.std.specs.Prelude.{◌≡◌, ◌≤◌, IfOk};
+//! A fleet over a store of its own, from the line of its port to its last lines.
+ghost use Rattle.std.specs.Prelude.{◌≡◌, ◌≢◌, ◌≤◌, true, Some};
+ghost use Rattle.cell_model.specs.Sound.{IsBase};
+ghost use Rattle.cell_region.specs.DividedStore.{DividedStore};
 ghost use Rattle.point_put.specs.Admissions.{admission};
 ghost use Rattle.conn_workers.specs.ServedLinks.{AllTell};
-ghost use Rattle.serve_job.specs.FleetRuns.{EndsJob, FleetCauses, RunsFleet, WriteCause, summary_lines};
+ghost use Rattle.serve_job.specs.FleetRuns.{FinishesJob, FleetCauses, RunsFleet, WriteCause, has_no_more};
 
-use crate::summary::summary_lines;
+use crate::last_lines::give_last;
 use cell_model::Tally;
+use cell_region::Regions;
 use cell_store::NoGate;
+use listing_print::GiveFault;
 use point_put::Config;
 use std::alloc::Global;
 use std::sync::Wait;
 use std::thread::Threads;
 use tsd_doors::doors::Doors;
-use tsd_fleet::{Fleet, FleetEnd, serve};
+use tsd_fleet::{Fleet, FleetDone, FleetEnd, FleetKept, serve_from};
 use tsd_hooks::UidRule;
 use tsd_io::clock::Clock;
-use tsd_io::give_all::give_all;
 use tsd_io::halt::Halt;
 use tsd_io::ports::Sink;
 
-/// How a fleet's job ended, and the halt, as its last ask left it.
+/// How a fleet's job ended.
 #[derive(Drop)]
 pub struct Finished<H> {
+    /// Why it ended.
     pub end: FleetEnd,
+
+    /// Whether the store was to be saved, and has a cell that is too large for an image.
+    pub refused: bool,
+
+    /// The halt, as its last ask left it.
     pub halt: H,
 }
 
-/// Serves the connections of a fleet as `serve` does. Where no more come it prints how many were accepted, and the numbers of the store
-/// that they left: `links N`, `ids A B C`, `rows R`, `cells C`, a line each. Where the output fails then, the end is `WriteFault`.
+/// Serves the connections of a fleet as `serve_from` does. Where no more come it prints how many were accepted, and the numbers of the
+/// store that they left: `links N`, `ids A B C`, `rows R`, `cells C`, a line each. A store that is to be saved follows: `image N`, and the
+/// N bytes of its image, or `image: cell N too large` where it has none. Where the output fails then, the end is `WriteFault`.
 pub fn serve_fleet<
     T: Threads + Wait + Sync,
     K: Sink,
@@ -38,6 +48,8 @@ pub fn serve_fleet<
     rt: &T,
     alloc: Global,
     fleet: &Fleet,
+    base: Regions,
+    save: bool,
     rule: &UidRule,
     config: &Config,
     output: &mut K,
@@ -48,47 +60,96 @@ pub fn serve_fleet<
     requires daemons { (1 ≤ fleet.now.daemons) × (fleet.now.daemons ≤ 8) }
     requires workers { (1 ≤ fleet.now.workers) × (fleet.now.workers ≤ 16) }
     requires regions { (1 ≤ fleet.now.regions) × (fleet.now.regions ≤ 16) }
-    ensures runs { RunsFleet result.end fleet.now.port (AllTell D.Inlet.taken) (AllTell D.Outlet.held) (admission config.now rule.now.patterns) (C.moments clock.old)
-        (D.back doors.old) (D.back doors.new) (D.counts doors.old) (D.counts doors.new) (C.faults clock.old) (C.faults clock.new)
-        (K.held output.old) (K.held output.new) }
-    ensures causes { FleetCauses result.end (D.waiting doors.old) (D.waiting doors.new) (H.stops halt) (H.stops result.halt)
-        (D.faults doors.old) (D.faults doors.new) (K.faults output.old) (K.faults output.new) }
-    ensures stops_later { H.stops halt ≤ H.stops result.halt }
-    ensures clock_later { C.faults clock.old ≤ C.faults clock.new }
-    ensures doors_later { D.faults doors.old ≤ D.faults doors.new }
-    ensures writes_later { K.faults output.old ≤ K.faults output.new }
+    requires base { IsBase base.content }
+    requires divided { base.data_regions ≡ fleet.now.regions }
+    ensures runs { RunsFleet
+        (record { port = fleet.now.port; admission = admission config.now rule.now.patterns; base = base.content; inlets_tell = AllTell D.Inlet.taken; outlets_tell = AllTell D.Outlet.held }) save
+        (record { output = record { held = K.held output.old; faults = K.faults output.old }; clock = record { moments = C.moments clock.old; faults = C.faults clock.old }; doors = record { waiting = D.waiting doors.old; back = D.back doors.old; counts = D.counts doors.old; faults = D.faults doors.old }; stops = H.stops halt })
+        (record { output = record { held = K.held output.new; faults = K.faults output.new }; clock = record { moments = C.moments clock.new; faults = C.faults clock.new }; doors = record { waiting = D.waiting doors.new; back = D.back doors.new; counts = D.counts doors.new; faults = D.faults doors.new }; stops = H.stops result.halt })
+        result.end result.refused }
+    ensures causes { FleetCauses
+        (record { output = record { held = K.held output.old; faults = K.faults output.old }; clock = record { moments = C.moments clock.old; faults = C.faults clock.old }; doors = record { waiting = D.waiting doors.old; back = D.back doors.old; counts = D.counts doors.old; faults = D.faults doors.old }; stops = H.stops halt })
+        (record { output = record { held = K.held output.new; faults = K.faults output.new }; clock = record { moments = C.moments clock.new; faults = C.faults clock.new }; doors = record { waiting = D.waiting doors.new; back = D.back doors.new; counts = D.counts doors.new; faults = D.faults doors.new }; stops = H.stops result.halt })
+        result.end }
 {
-    let done = serve(
-        rt, alloc, fleet, NoGate, rule, config, output, clock, halt, doors,
+    let FleetKept { done, rows } = serve_from(
+        rt, alloc, fleet, base, NoGate, rule, config, output, clock, halt, doors,
     );
-    let end = finish(alloc, done.end, done.links, &done.tally, output);
-    Finished {
+    let FleetDone {
         end,
-        halt: done.halt,
+        halt,
+        links,
+        ends: _,
+        tally,
+    } = done;
+    let finished = finish(alloc, end, links, &tally, save, rows, output);
+    Finished {
+        end: finished.end,
+        refused: finished.refused,
+        halt,
     }
 }
 
-/// Prints the last lines where no more connections came, and answers how the job ended.
+/// How a job ended behind the serving.
+#[derive(Clone, Copy, Debug, PartialEq, Eq)]
+struct JobEnd {
+    end: FleetEnd,
+    refused: bool,
+}
+
+/// Prints the last lines where no more connections came, and behind them the store where it is to be saved, and answers how the job ended.
 fn finish<K: Sink>(
     alloc: Global,
     end: FleetEnd,
     links: u64,
     tally: &Tally,
+    save: bool,
+    rows: Option<Regions>,
     output: &mut K,
-) -> FleetEnd
-    ensures prints { EndsJob end result (K.held output.old) (K.held output.new) (summary_lines links tally.now) }
-    ensures cause { WriteCause end result (K.faults output.old) (K.faults output.new) }
+) -> JobEnd
+    ensures prints { (left : DividedStore) → (end ≢ FleetEnd.OutOfMemory → rows ≡ Some left) → FinishesJob end result.end result.refused save (K.held output.old) (K.held output.new) links tally.now left.content }
+    ensures cause { WriteCause end result.end (K.faults output.old) (K.faults output.new) }
 {
     match end {
-        FleetEnd::Closed | FleetEnd::Died => {
-            let Ok(lines) = summary_lines(alloc, links, tally) else {
-                return FleetEnd::OutOfMemory;
-            };
-            match give_all(output, &lines) {
-                Ok(()) => end,
-                Err(_) => FleetEnd::WriteFault,
-            }
-        }
-        _ => end,
+        FleetEnd::Closed | FleetEnd::Died => match rows {
+            Some(rows) => print_last(alloc, end, links, tally, save, &rows, output),
+            None => JobEnd {
+                end: FleetEnd::OutOfMemory,
+                refused: false,
+            },
+        },
+        _ => JobEnd {
+            end,
+            refused: false,
+        },
+    }
+}
+
+/// Prints the last lines of a fleet that no more connections came to.
+fn print_last<K: Sink>(
+    alloc: Global,
+    end: FleetEnd,
+    links: u64,
+    tally: &Tally,
+    save: bool,
+    rows: &Regions,
+    output: &mut K,
+) -> JobEnd
+    requires more { has_no_more end ≡ true }
+    ensures prints { FinishesJob end result.end result.refused save (K.held output.old) (K.held output.new) links tally.now rows.now.content }
+    ensures cause { WriteCause end result.end (K.faults output.old) (K.faults output.new) }
+{
+    match give_last(alloc, links, tally, save, rows, output) {
+        Ok(refused) => JobEnd { end, refused },
+        Err(fault) => match fault {
+            GiveFault::Failed => JobEnd {
+                end: FleetEnd::WriteFault,
+                refused: false,
+            },
+            GiveFault::OutOfMemory => JobEnd {
+                end: FleetEnd::OutOfMemory,
+                refused: false,
+            },
+        },
     }
 }

@@ -42,7 +42,7 @@ fn write_points(tally: &Tally, text: &mut Vec<u8>) -> Result<(), AllocError>
 
 /// Writes a number behind its label.
 #[tactic(auto, using(std::proofs::lemmas::List::append_assoc))]
-fn write_count(label: &[u8], count: u64, text: &mut Vec<u8>) -> Result<(), AllocError>
+pub(crate) fn write_count(label: &[u8], count: u64, text: &mut Vec<u8>) -> Result<(), AllocError>
     ensures { OnOk result (text.new.items ≡ text.old.items ++ label.now ++ decimal count) }
 {
     text.extend_from_slice(label)?;

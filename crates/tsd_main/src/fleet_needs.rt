@@ -1,11 +1,9 @@
 //! What a fleet needs of the system before it begins. What is wanting is told on standard error.
-ghost use Rattle.std.specs.Prelude.{IfOk, IfSome};
 ghost use Rattle.command_words.specs.PlainAsked.{IsFleet};
 
 use crate::cause_lines::tell_cause;
 use crate::thread_trial::threads_given;
-use command_words::{Asked, Serve, read_words};
-use std::alloc::{AllocError, Global};
+use command_words::Serve;
 use std::env;
 use std::env::VarError;
 use std::net::IpAddr;
@@ -16,16 +14,6 @@ use tsd_run::status::Status;
 
 /// The variable of the environment that names the address of a fleet.
 const ADDRESS: &str = "TSD_ADDRESS";
-
-/// What the words ask of a fleet, if they ask for one.
-pub fn fleet_of<'a>(alloc: Global, words: &'a [String]) -> Result<Option<Serve<'a>>, AllocError>
-    ensures { IfOk result (λ found. IfSome found IsFleet) }
-{
-    match read_words(alloc, words)? {
-        Some(Asked::Serve { serve }) => Ok(Some(serve)),
-        _ => Ok(None),
-    }
-}
 
 /// The address for a fleet, or none for all interfaces, where the system gives it threads enough too.
 ///

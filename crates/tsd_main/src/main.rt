@@ -6,7 +6,8 @@ mod fleet_needs;
 mod thread_trial;
 
 use crate::cause_lines::{tell_bind_error, tell_cause};
-use crate::fleet_needs::{fleet_address, fleet_of};
+use crate::fleet_needs::fleet_address;
+use command_words::read_fleet;
 use std::alloc::{AllocError, Global};
 use std::env;
 use std::io::ErrorKind;
@@ -25,7 +26,7 @@ fn main(rt: HostRuntime) -> ExitCode {
     let (Ok(words), Ok(net)) = (words(&rt), net) else {
         return memory_end(&rt);
     };
-    let Ok(fleet) = fleet_of(rt.alloc(), &words) else {
+    let Ok(fleet) = read_fleet(rt.alloc(), &words) else {
         return memory_end(&rt);
     };
     let address = match &fleet {

@@ -1,41 +1,192 @@
--- Fleets that served as the words say, or for whose rule for new names, or for whose words, there was no memory.
-use Rattle.std.proofs.Common.{◌≡◌, ℕ, List, refl, subst, inl, inr}
-use Rattle.std.specs.Prelude.{Option, None, Some}
-use Rattle.tsd_doors.specs.Links.{Counts, Shut}
-use Rattle.point_put.specs.Admissions.{Admission}
-use Rattle.tsd_fleet.specs.declared.fleet_end.FleetEnd.{FleetEnd}
-use Rattle.serve_job.specs.FleetRuns.{RunsFleet}
-use Rattle.command_words.specs.CommandWords.{Serve, Asked}
+-- Fleets that served as the words say, from the store that they begin with, and runs for which there was no memory.
+use Rattle.std.proofs.Common.{◌≡◌, ◌≢◌, ◌≤◌, inl, inr, ℕ, Bool, true, false, List, [], refl, sym, ap, subst, ◌∙◌, arith}
+use Rattle.std.specs.Prelude.{Option, None, Some, MatchOption, Ok}
+use Rattle.tsd_io.specs.Causes.{Rose}
+use Rattle.row_key.specs.Made.{three}
+use Rattle.row_key.specs.declared.widths.Widths.{Widths}
+use Rattle.cell_model.specs.Listed.{store_of}
+use Rattle.cell_model.specs.Sound.{IsBase}
+use Rattle.cell_model.specs.Store.{Store, no_cells}
+use Rattle.cell_model.specs.declared.row.Listing.{Listing}
+use Rattle.cell_laws.proofs.CallerLemmas.{empty_base}
+use Rattle.tsd_fleet.specs.Devices.{ClockTold, DoorsTold, FleetDevices, OutputTold}
+use Rattle.command_words.specs.CommandWords.{Serve, Asked, fleet_asked}
 use Rattle.command_words.specs.CommandWords.Asked.{BatchAsked, StdioAsked, ServeAsked, ImportAsked, DumpAsked, FsckAsked, FixAsked, WeaveAsked, PackAsked, UnpackAsked}
+use Rattle.image_job.specs.ImageJobs.{LoadsImage}
 use Rattle.tsd_run.specs.declared.status.Status.{Status}
-use Rattle.tsd_run.specs.declared.status.Status.TheVariants.{Memory}
-use Rattle.tsd_run.specs.FleetStatuses.{RunsAny, ServesFleet, status_of}
-use Rattle.tsd_run.specs.Runs.{Runs, admission_of}
+use Rattle.tsd_run.specs.declared.status.Status.TheVariants.{Done, ReadFault, WriteFault, Memory, Stopped, DoorFault, ClockFault}
+use Rattle.tsd_run.specs.FleetStatuses.{BeginsWith, LacksStore, ServesFleet, ServesOver, asks_clock}
+use Rattle.tsd_run.specs.RunCauses.{HasFleetCauses, HasLoneCauses}
+use Rattle.tsd_run.specs.RunDevices.{Devices, InputTold, LoneDevices, fleet, lone}
+use Rattle.tsd_run.specs.RunPromises.{Ran, RanAlone, RanFleet}
+use Rattle.tsd_run.specs.Runs.{RunsAlone, is_stdio}
 use Rattle.tsd_run.proofs.StdioLemmas.{runs_unread}
 
--- a fleet served as the words say
-pub served_by : (s : Serve) (c : Admission) (result : FleetEnd) (status : Status) {inlets_tell outlets_tell : Type 0} {moments : Option (List ℕ)} {back : Option (List Shut)} (back' : Option (List Shut)) {counts : Counts} (counts' : Counts) {faults : ℕ} (faults' : ℕ) {held : Option (List ℕ)} (held' : Option (List ℕ))
-    → c ≡ admission_of s.names s.appends → status ≡ status_of result → RunsFleet result s.port inlets_tell outlets_tell c moments back back' counts counts' faults faults' held held'
-    → ServesFleet s inlets_tell outlets_tell moments back back' counts counts' faults faults' held held' status
-served_by s c result status {inlets_tell = inlets_tell} {outlets_tell = outlets_tell} {moments = moments} {back = back} back' {counts = counts} counts' {faults = faults} faults' {held = held} held' same is runs =
-    inr (result, is, subst (λ (a : Admission). RunsFleet result s.port inlets_tell outlets_tell a moments back back' counts counts' faults faults' held held') same runs)
+-- ---- what devices tell, part by part
 
--- there was no memory for the rule for new names
-pub unserved : (s : Serve) (status : Status) {inlets_tell outlets_tell : Type 0} {moments : Option (List ℕ)} {back : Option (List Shut)} {counts : Counts} {faults : ℕ} {held : Option (List ℕ)}
-    → status ≡ Memory → ServesFleet s inlets_tell outlets_tell moments back back counts counts faults faults held held status
-unserved s status is = inl (is, refl, refl, refl)
+abbrev pub lone_of : InputTold → OutputTold → ClockTold → ℕ → LoneDevices
+lone_of i o k stops = record { input = i; output = o; clock = k; stops = stops }
 
--- there was no memory for the words
-pub unread : (inlets_tell outlets_tell : Type 0) (taken left held moments : Option (List ℕ)) (back : Option (List Shut)) (counts : Counts) (faults : ℕ) (asked : Option Asked)
-    → RunsAny asked (Runs asked taken taken left left held held moments moments Memory) (λ (s : Serve). ServesFleet s inlets_tell outlets_tell moments back back counts counts faults faults held held Memory)
-unread inlets_tell outlets_tell taken left held moments back counts faults (Some (ServeAsked s)) = unserved s Memory refl
-unread inlets_tell outlets_tell taken left held moments back counts faults (Some (BatchAsked batch)) = runs_unread taken left held moments (Some (BatchAsked batch))
-unread inlets_tell outlets_tell taken left held moments back counts faults (Some (StdioAsked s)) = runs_unread taken left held moments (Some (StdioAsked s))
-unread inlets_tell outlets_tell taken left held moments back counts faults (Some (ImportAsked i)) = runs_unread taken left held moments (Some (ImportAsked i))
-unread inlets_tell outlets_tell taken left held moments back counts faults (Some (DumpAsked widths)) = runs_unread taken left held moments (Some (DumpAsked widths))
-unread inlets_tell outlets_tell taken left held moments back counts faults (Some (FsckAsked widths)) = runs_unread taken left held moments (Some (FsckAsked widths))
-unread inlets_tell outlets_tell taken left held moments back counts faults (Some (FixAsked widths)) = runs_unread taken left held moments (Some (FixAsked widths))
-unread inlets_tell outlets_tell taken left held moments back counts faults (Some (WeaveAsked w)) = runs_unread taken left held moments (Some (WeaveAsked w))
-unread inlets_tell outlets_tell taken left held moments back counts faults (Some (PackAsked widths)) = runs_unread taken left held moments (Some (PackAsked widths))
-unread inlets_tell outlets_tell taken left held moments back counts faults (Some UnpackAsked) = runs_unread taken left held moments (Some UnpackAsked)
-unread inlets_tell outlets_tell taken left held moments back counts faults None = runs_unread taken left held moments None
+abbrev pub fleet_of : OutputTold → ClockTold → DoorsTold → ℕ → FleetDevices
+fleet_of o k d stops = record { output = o; clock = k; doors = d; stops = stops }
+
+abbrev pub devices_of : InputTold → OutputTold → ClockTold → DoorsTold → ℕ → Devices
+devices_of i o k d stops = record { input = i; output = o; clock = k; doors = d; stops = stops }
+
+-- ---- statuses
+
+memory_done : Memory ≡ Done → ⊥
+memory_done e = cc
+
+memory_read : Memory ≡ ReadFault → ⊥
+memory_read e = cc
+
+memory_write : Memory ≡ WriteFault → ⊥
+memory_write e = cc
+
+memory_clock : Memory ≡ ClockFault → ⊥
+memory_clock e = cc
+
+memory_stop : Memory ≡ Stopped → ⊥
+memory_stop e = cc
+
+memory_door : Memory ≡ DoorFault → ⊥
+memory_door e = cc
+
+-- ---- there was no memory
+
+memory_causes : (d : LoneDevices) → HasLoneCauses d d Memory
+memory_causes d = record {
+  reads_later = omega arith;
+  writes_later = omega arith;
+  clock_later = omega arith;
+  stops_later = omega arith;
+  read_fault = λ e. absurd (memory_read e);
+  write_fault = λ e. absurd (memory_write e);
+  clock_fault = λ e. absurd (memory_clock e);
+  stopped = λ e. absurd (memory_stop e);
+}
+
+-- for the words of a command that waits for nobody
+pub alone_unread : (asked : Option Asked) (i : InputTold) (o : OutputTold) (k : ClockTold) (stops stops' : ℕ) (status : Status) → status ≡ Memory → stops' ≡ stops → RanAlone asked (lone_of i o k stops) (lone_of i o k stops') status
+alone_unread asked i o k stops stops' status is same =
+    subst (λ (p : Status × ℕ). RanAlone asked (lone_of i o k stops) (lone_of i o k p.1) p.0) (λ j. (sym is j, sym same j)) (record { runs = runs_unread (lone_of i o k stops) asked; causes = memory_causes (lone_of i o k stops) })
+
+matches : (o : Option Serve) (A : Type 0) (F : Serve → Type 0) → A → ((s : Serve) → F s) → MatchOption o A F
+matches None A F a f = a
+matches (Some s) A F a f = f s
+
+unserved : (s : Serve) (inlets_tell outlets_tell : Type 0) (d : Devices) → ServesFleet s inlets_tell outlets_tell d d Memory
+unserved s inlets_tell outlets_tell d = inr (inr (refl, refl, inl refl), record { doors = refl; clock = refl; stops = refl })
+
+-- for any words
+pub unread : (asked : Option Asked) (inlets_tell outlets_tell : Type 0) (i : InputTold) (o : OutputTold) (k : ClockTold) (d : DoorsTold) (stops stops' : ℕ) (status : Status) → status ≡ Memory → stops' ≡ stops
+    → Ran asked inlets_tell outlets_tell (devices_of i o k d stops) (devices_of i o k d stops') status
+unread asked inlets_tell outlets_tell i o k d stops stops' status is same =
+    let all = devices_of i o k d stops in
+    subst (λ (p : Status × ℕ). Ran asked inlets_tell outlets_tell (devices_of i o k d stops) (devices_of i o k d p.1) p.0) (λ j. (sym is j, sym same j)) (record {
+      runs = matches (fleet_asked asked) (RunsAlone asked (lone all) (lone all) Memory) (λ s. ServesFleet s inlets_tell outlets_tell all all Memory) (runs_unread (lone all) asked) (λ s. unserved s inlets_tell outlets_tell all);
+      causes = record { lone_causes = memory_causes (lone all); doors_later = omega arith; door_fault = λ e. absurd (memory_door e) };
+      ends = λ some. record { none_left = λ e. absurd (memory_done e); heeded = λ n enough. absurd (enough refl) };
+    })
+
+-- ---- the store that a fleet begins with
+
+pub none_made : (l : Listing) (w : Widths) → l ≡ record { widths = w; lines = [] } → w ≡ three → l ≡ record { widths = three; lines = [] }
+none_made l w is same = is ∙ ap (λ (x : Widths). record { widths = x; lines = [] }) same
+
+no_store : (l : Listing) → l ≡ record { widths = three; lines = [] } → store_of l ≡ no_cells three
+no_store l is = ap store_of is
+
+pub begins_empty : (image : Bool) (i : InputTold) (l : Listing) → image ≡ false → l ≡ record { widths = three; lines = [] } → BeginsWith image i i (store_of l)
+begins_empty image i l none is = subst (λ (b : Bool). BeginsWith b i i (store_of l)) (sym none) (refl, no_store l is)
+
+pub base_empty : (l : Listing) → l ≡ record { widths = three; lines = [] } → IsBase (store_of l)
+base_empty l is = subst IsBase (sym (no_store l is)) (empty_base three)
+
+pub begins_loaded : (image : Bool) (i i' : InputTold) (held held' : Option (List ℕ)) (l : Listing) → image ≡ true → LoadsImage i.taken i'.taken i.left i'.left held held' (Ok l) → BeginsWith image i i' (store_of l)
+begins_loaded image i i' held held' l so t = subst (λ (b : Bool). BeginsWith b i i' (store_of l)) (sym so) (record {
+  bytes = t.bytes;
+  takes = t.takes;
+  leaves = t.leaves;
+  ended = t.loads.0;
+  short = t.loads.1;
+  listing = l;
+  reads = t.loads.2;
+  base_is = refl;
+})
+
+-- ---- a fleet, from the store that it begins with
+
+module _ (s : Serve) (inlets_tell outlets_tell : Type 0) where
+  pub ran_served : (i i' : InputTold) (o mid o' : OutputTold) (k k' : ClockTold) (d d' : DoorsTold) (stops stops' : ℕ) (base : Store) (status : Status) → mid ≡ o → BeginsWith s.image i i' base → i.faults ≤ i'.faults
+      → ServesOver s inlets_tell outlets_tell base (fleet_of mid k d stops) (fleet_of o' k' d' stops') status → HasFleetCauses (fleet_of mid k d stops) (fleet_of o' k' d' stops') status
+      → RanFleet s inlets_tell outlets_tell (devices_of i o k d stops) (devices_of i' o' k' d' stops') status
+  ran_served i i' o mid o' k k' d d' stops stops' base status same begins reads over causes =
+      let so = subst (λ (m : OutputTold). HasFleetCauses (fleet_of m k d stops) (fleet_of o' k' d' stops') status) same causes in
+      record {
+        serves = inl (base, begins, subst (λ (m : OutputTold). ServesOver s inlets_tell outlets_tell base (fleet_of m k d stops) (fleet_of o' k' d' stops') status) same over);
+        causes = record {
+          lone_causes = record {
+            reads_later = reads;
+            writes_later = so.later.writes;
+            clock_later = so.later.clock;
+            stops_later = so.later.stops;
+            read_fault = λ is. absurd (so.no_read is);
+            write_fault = so.write_fault;
+            clock_fault = λ is. absurd (so.no_clock is);
+            stopped = so.stopped;
+          };
+          doors_later = so.later.doors;
+          door_fault = so.door_fault;
+        };
+        ends = record { none_left = so.none_left; heeded = so.heeded };
+      }
+
+  pub ran_without : (i i' : InputTold) (o o' : OutputTold) (k : ClockTold) (d : DoorsTold) (stops : ℕ) (status : Status) → LacksStore s.image i i' o.held o'.held status → i.faults ≤ i'.faults → o.faults ≤ o'.faults
+      → (status ≡ ReadFault → Rose i.faults i'.faults) → (status ≡ WriteFault → Rose o.faults o'.faults) → status ≢ Done → status ≢ ClockFault → status ≢ Stopped → status ≢ DoorFault
+      → RanFleet s inlets_tell outlets_tell (devices_of i o k d stops) (devices_of i' o' k d stops) status
+  ran_without i i' o o' k d stops status lacks reads writes read_fault write_fault not_done no_clock no_stop no_door = record {
+    serves = inr (lacks, record { doors = refl; clock = refl; stops = refl });
+    causes = record {
+      lone_causes = record {
+        reads_later = reads;
+        writes_later = writes;
+        clock_later = omega arith;
+        stops_later = omega arith;
+        read_fault = read_fault;
+        write_fault = write_fault;
+        clock_fault = λ is. absurd (no_clock is);
+        stopped = λ is. absurd (no_stop is);
+      };
+      doors_later = omega arith;
+      door_fault = λ is. absurd (no_door is);
+    };
+    ends = record { none_left = λ is. absurd (not_done is); heeded = λ n m. refl };
+  }
+
+-- ---- any words
+
+module _ (asked : Option Asked) (inlets_tell outlets_tell : Type 0) where
+  -- a fleet is asked for
+  pub ran_fleet : (before after : Devices) (status : Status) (s : Serve) → Some s ≡ fleet_asked asked → RanFleet s inlets_tell outlets_tell before after status → Ran asked inlets_tell outlets_tell before after status
+  ran_fleet before after status s is ran = record {
+    runs = subst (λ (o : Option Serve). MatchOption o (RunsAlone asked (lone before) (lone after) status) (λ f. ServesFleet f inlets_tell outlets_tell before after status)) is ran.serves;
+    causes = ran.causes;
+    ends = λ some. ran.ends;
+  }
+
+-- ---- which devices are asked
+
+pub alone_asks : (asked : Option Asked) → None ≡ fleet_asked asked → is_stdio asked ≡ asks_clock asked
+alone_asks (Some (ServeAsked f)) is = absurd cc
+alone_asks (Some (BatchAsked batch)) is = refl
+alone_asks (Some (StdioAsked c)) is = refl
+alone_asks (Some (ImportAsked i)) is = refl
+alone_asks (Some (DumpAsked widths)) is = refl
+alone_asks (Some (FsckAsked widths)) is = refl
+alone_asks (Some (FixAsked widths)) is = refl
+alone_asks (Some (WeaveAsked w)) is = refl
+alone_asks (Some (PackAsked widths)) is = refl
+alone_asks (Some UnpackAsked) is = refl
+alone_asks None is = refl

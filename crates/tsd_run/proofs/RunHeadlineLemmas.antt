@@ -1,12 +1,13 @@
 -- The headline follows of what a run says.
-use Rattle.std.proofs.Common.{◌≡◌, inl, inr, ℕ, ◌+◌, ◌≤◌, Bool, true, false, List, [], refl, sym, ap, subst, ◌∙◌, arith, rules}
-use Rattle.std.specs.Prelude.{All, Option, None, Some, nat_le, if◌then◌else◌, option_and_then}
+use Rattle.std.proofs.Common.{◌≡◌, ◌≢◌, inl, inr, ℕ, ◌+◌, ◌≤◌, Bool, true, false, List, [], ◌++◌, refl, sym, ap, subst, ◌∙◌, arith, rules}
+use Rattle.std.specs.Prelude.{All, Option, None, Some, MatchOption, nat_le, if◌then◌else◌, option_and_then}
 use Rattle.std.specs.Io.KnownBytes.{Appends}
 use Rattle.std.proofs.lemmas.List.{append-nil}
 use Rattle.std.proofs.lemmas.List.Elements.{All-nil}
 use Rattle.row_key.specs.Made.{three}
-use Rattle.tsd_doors.specs.Links.{Counts, Shut}
+use Rattle.tsd_doors.specs.Links.{Shut}
 use Rattle.link_workers.specs.Returns.{AllEnd}
+use Rattle.cell_model.specs.declared.answers.Tally.{Tally}
 use Rattle.cell_model.specs.History.{History, base_of, len, first}
 use Rattle.cell_model.specs.History.History.{Base, Then}
 use Rattle.cell_model.specs.IdRows.{NameOf, IsResolved, id_number, name_row}
@@ -26,17 +27,20 @@ use Rattle.tsd_daemon.proofs.CallerLemmas.{one_id_each, served_headline}
 use Rattle.conn_workers.specs.ServedLinks.{LinkServed, OnlyServed, ServedInTurn, ServedLink}
 use Rattle.conn_workers.specs.ServedLinks.ServedInTurn.{none_yet as none_served, then_served}
 use Rattle.site_workers.specs.GatheredLinks.{AllInTurn, CallerLinks}
+use Rattle.tsd_fleet.specs.Devices.{DoorsTold, FleetDevices}
 use Rattle.tsd_fleet.specs.FleetServes.{IsTally, listening_line}
 use Rattle.tsd_fleet.specs.declared.fleet_end.FleetEnd.{FleetEnd}
 use Rattle.tsd_fleet.specs.declared.fleet_end.FleetEnd.TheVariants as end
-use Rattle.serve_job.specs.FleetRuns.{has_no_more}
-use Rattle.command_words.specs.CommandWords.{Asked, Serve, Stdio}
+use Rattle.serve_job.specs.FleetRuns.{RunsFleet, has_no_more, last_lines}
+use Rattle.command_words.specs.CommandWords.{Asked, Serve, Stdio, fleet_asked}
 use Rattle.command_words.specs.CommandWords.Asked.{BatchAsked, StdioAsked, ServeAsked, ImportAsked, DumpAsked, FsckAsked, FixAsked, WeaveAsked, PackAsked, UnpackAsked}
 use Rattle.tsd_run.specs.declared.status.Status.{Status}
 use Rattle.tsd_run.specs.declared.status.Status.TheVariants.{Done, Memory}
-use Rattle.tsd_run.specs.FleetStatuses.{RunsAny, ServesFleet, status_of}
-use Rattle.tsd_run.specs.RunHeadlines.{FleetHeadline, IsOwnHistory, LinkHeadline, RunHeadline, StdioHeadline}
-use Rattle.tsd_run.specs.Runs.{Runs, ServesStdio, admission_of}
+use Rattle.tsd_run.specs.FleetStatuses.{BeginsWith, LacksStore, ServesFleet, ServesOver, TakesStore, fleet_status, terms_of}
+use Rattle.tsd_run.specs.RunDevices.{Devices, LoneDevices, fleet, lone}
+use Rattle.tsd_run.specs.RunHeadlines.{BeginsSo, FleetHeadline, IsOwnHistory, LinkHeadline, LoneHeadline, RunHeadline, StdioHeadline}
+use Rattle.tsd_run.specs.RunPromises.{RanAlone, Runs}
+use Rattle.tsd_run.specs.Runs.{RunsAlone, ServesStdio, admission_of}
 use Rattle.tsd_run.proofs.PlainBatches.{batch_headline}
 
 -- ---- a store of one's own
@@ -80,39 +84,42 @@ stdio_headline s status input output times w =
       headline = served_headline _ alone.history 1 1 (len alone.history) input output times w.0 alone.lawful alone.served;
     }
 
--- ---- runs
+-- ---- what waits for nobody
 
-module _ (taken taken' left left' held held' moments moments' : Option (List ℕ)) (status : Status) where
-  pub run_headline : (asked : Option Asked) → Runs asked taken taken' left left' held held' moments moments' status → RunHeadline asked taken taken' left left' held held' moments moments' status
-  run_headline (Some (BatchAsked batch)) p = record {
-    input = p.0.input;
-    output = p.0.output;
-    times = [];
-    takes = p.0.bytes.takes;
-    leaves = p.0.bytes.leaves;
-    gives = p.0.gives;
-    ticks = p.1;
-    so = batch_headline batch p.0.input p.0.ended p.0.output status [] p.0.answers;
-  }
-  run_headline (Some (StdioAsked s)) p = record {
-    input = p.input;
-    output = p.output;
-    times = p.times;
-    takes = p.takes;
-    leaves = p.leaves;
-    gives = p.gives;
-    ticks = p.ticks;
-    so = stdio_headline s status p.input p.output p.times p.so;
-  }
-  run_headline (Some (ServeAsked s)) p = tt
-  run_headline (Some (ImportAsked i)) p = tt
-  run_headline (Some (DumpAsked widths)) p = tt
-  run_headline (Some (FsckAsked widths)) p = tt
-  run_headline (Some (FixAsked widths)) p = tt
-  run_headline (Some (WeaveAsked w)) p = tt
-  run_headline (Some (PackAsked widths)) p = tt
-  run_headline (Some UnpackAsked) p = tt
-  run_headline None p = tt
+pub lone_headline : (before after : LoneDevices) (status : Status) (asked : Option Asked) → RunsAlone asked before after status → LoneHeadline asked before after status
+lone_headline before after status (Some (BatchAsked batch)) p = record {
+  input = p.0.input;
+  output = p.0.output;
+  times = [];
+  takes = p.0.bytes.takes;
+  leaves = p.0.bytes.leaves;
+  gives = p.0.gives;
+  ticks = p.1;
+  so = batch_headline batch p.0.input p.0.ended p.0.output status [] p.0.answers;
+}
+lone_headline before after status (Some (StdioAsked s)) p = record {
+  input = p.input;
+  output = p.output;
+  times = p.times;
+  takes = p.takes;
+  leaves = p.leaves;
+  gives = p.gives;
+  ticks = p.ticks;
+  so = stdio_headline s status p.input p.output p.times p.so;
+}
+lone_headline before after status (Some (ServeAsked s)) p = tt
+lone_headline before after status (Some (ImportAsked i)) p = tt
+lone_headline before after status (Some (DumpAsked widths)) p = tt
+lone_headline before after status (Some (FsckAsked widths)) p = tt
+lone_headline before after status (Some (FixAsked widths)) p = tt
+lone_headline before after status (Some (WeaveAsked w)) p = tt
+lone_headline before after status (Some (PackAsked widths)) p = tt
+lone_headline before after status (Some UnpackAsked) p = tt
+lone_headline before after status None p = tt
+
+-- of the words that ask for it
+pub ran_headline : (before after : LoneDevices) (status : Status) (asked other : Option Asked) → asked ≡ other → RanAlone asked before after status → LoneHeadline other before after status
+ran_headline before after status asked other same ran = subst (λ (a : Option Asked). LoneHeadline a before after status) same (lone_headline before after status asked ran.runs)
 
 -- ---- a fleet
 
@@ -140,55 +147,80 @@ nothing_back : (back : Option (List Shut)) → AllEnd back back []
 nothing_back None = tt
 nothing_back (Some all) = ap Some (sym (append-nil all))
 
-ended_done : (result : FleetEnd) → Done ≡ status_of result → has_no_more result ≡ true
-ended_done end.Closed is = refl
-ended_done end.Died is = refl
-ended_done end.Stopped is = absurd cc
-ended_done end.DoorFault is = absurd cc
-ended_done end.WriteFault is = absurd cc
-ended_done end.OutOfMemory is = absurd cc
+ended_done : (ended : FleetEnd) (refused : Bool) → Done ≡ fleet_status ended refused → has_no_more ended ≡ true
+ended_done ended true is = absurd cc
+ended_done end.Closed false is = refl
+ended_done end.Died false is = refl
+ended_done end.Stopped false is = absurd cc
+ended_done end.DoorFault false is = absurd cc
+ended_done end.WriteFault false is = absurd cc
+ended_done end.OutOfMemory false is = absurd cc
 
 done_memory : Done ≡ Memory → ⊥
 done_memory e = cc
 
-module _ (inlets_tell outlets_tell : Type 0) (moments : Option (List ℕ)) (back back' : Option (List Shut)) (counts counts' : Counts) (faults faults' : ℕ) (held held' : Option (List ℕ)) (status : Status) where
-  pub fleet_headline : (s : Serve) → ServesFleet s inlets_tell outlets_tell moments back back' counts counts' faults faults' held held' status → FleetHeadline inlets_tell outlets_tell moments back back' held held' status
-  fleet_headline s (inl w) = record {
+module _ (s : Serve) (inlets_tell outlets_tell : Type 0) (before after : Devices) (status : Status) where
+  empty_begins : (image : Bool) → BeginsSo image before.input after.input [] (Base (no_cells three))
+  empty_begins true = inl refl
+  empty_begins false = own_history (no_cells three) (no_cell three) (Base (no_cells three)) (empty_base three) refl
+
+  -- no connection was served
+  idle_headline : after.doors.back ≡ before.doors.back → status ≢ Done → FleetHeadline s inlets_tell outlets_tell before after status
+  idle_headline same not_done = record {
     history = Base (no_cells three);
-    own = own_history (no_cells three) (no_cell three) (Base (no_cells three)) (empty_base three) refl;
+    lawful = empty_base three;
     ids = one_id_each (Base (no_cells three)) (empty_base three);
     callers = [];
-    given_back = subst (λ (b : Option (List Shut)). AllEnd back b []) (sym w.2) (nothing_back back);
-    each = All-nil (λ (k : CallerLinks). InTurn (LinkHeadline inlets_tell outlets_tell moments (Base (no_cells three))) 0 k.links k.last);
-    printed = λ is. absurd (done_memory (sym is ∙ w.0));
+    begins = empty_begins s.image;
+    given_back = subst (λ (b : Option (List Shut)). AllEnd before.doors.back b []) (sym same) (nothing_back before.doors.back);
+    each = All-nil (λ (k : CallerLinks). InTurn (LinkHeadline inlets_tell outlets_tell before.clock.moments (Base (no_cells three))) 0 k.links k.last);
+    printed = λ is. absurd (not_done is);
   }
-  fleet_headline s (inr w) =
-      let runs = w.2 in
+
+  store_begins : (image : Bool) (base : Store) (callers : List CallerLinks) (h : History) → IsLawful h → base_of h ≡ base → BeginsWith image before.input after.input base → BeginsSo image before.input after.input callers h
+  store_begins true base callers h lawful is takes = inr (subst (TakesStore before.input after.input) (sym is) takes)
+  store_begins false base callers h lawful is empty = own_history (no_cells three) (no_cell three) h lawful (is ∙ empty.1)
+
+  served_so : (base : Store) (ended : FleetEnd) (refused : Bool) → BeginsWith s.image before.input after.input base → status ≡ fleet_status ended refused
+      → RunsFleet (terms_of s inlets_tell outlets_tell base) s.save (fleet before) (fleet after) ended refused → FleetHeadline s inlets_tell outlets_tell before after status
+  served_so base ended refused begins status_is runs =
       let stands = runs.serves.stands in
       record {
         history = stands.history;
-        own = own_history (no_cells three) (no_cell three) stands.history stands.lawful stands.base_is;
+        lawful = stands.lawful;
         ids = one_id_each stands.history stands.lawful;
         callers = stands.callers;
+        begins = store_begins s.image base stands.callers stands.history stands.lawful stands.base_is begins;
         given_back = stands.given.doors;
-        each = all_headline inlets_tell outlets_tell (admission_of s.names s.appends) moments stands.history stands.lawful stands.callers stands.served;
+        each = all_headline inlets_tell outlets_tell (admission_of s.names s.appends) before.clock.moments stands.history stands.lawful stands.callers stands.served;
         printed = λ is.
-            let all = runs.prints.whole (ended_done w.0 (sym is ∙ w.1)) in
-            (runs.tally, subst (λ (store : Store). IsTally store runs.tally) stands.store_is runs.serves.tally_is, (runs.links, listening_line all.0, subst (Appends held held') all.2 runs.prints.gives));
+            let all = runs.prints.whole (ended_done ended refused (sym is ∙ status_is)) in
+            subst
+            (λ (store : Store). (tally : Tally) × IsTally store tally × ((links : ℕ) × (front : List ℕ) × Appends before.output.held after.output.held (front ++ last_lines links tally s.save store)))
+            stands.store_is
+            (runs.tally, runs.serves.tally_is, (runs.links, listening_line all.0, subst (Appends before.output.held after.output.held) all.2 runs.prints.gives));
       }
 
--- the headline of any run
-module _ (inlets_tell outlets_tell : Type 0) (taken taken' left left' held held' moments moments' : Option (List ℕ)) (back back' : Option (List Shut)) (counts counts' : Counts) (faults faults' : ℕ) (status : Status) where
-  pub any_headline : (asked : Option Asked) → RunsAny asked (Runs asked taken taken' left left' held held' moments moments' status) (λ (s : Serve). ServesFleet s inlets_tell outlets_tell moments back back' counts counts' faults faults' held held' status)
-      → RunsAny asked (RunHeadline asked taken taken' left left' held held' moments moments' status) (λ (s : Serve). FleetHeadline inlets_tell outlets_tell moments back back' held held' status)
-  any_headline (Some (ServeAsked s)) serves = fleet_headline inlets_tell outlets_tell moments back back' counts counts' faults faults' held held' status s serves
-  any_headline (Some (BatchAsked batch)) runs = run_headline taken taken' left left' held held' moments moments' status (Some (BatchAsked batch)) runs
-  any_headline (Some (StdioAsked s)) runs = run_headline taken taken' left left' held held' moments moments' status (Some (StdioAsked s)) runs
-  any_headline (Some (ImportAsked i)) runs = run_headline taken taken' left left' held held' moments moments' status (Some (ImportAsked i)) runs
-  any_headline (Some (DumpAsked widths)) runs = run_headline taken taken' left left' held held' moments moments' status (Some (DumpAsked widths)) runs
-  any_headline (Some (FsckAsked widths)) runs = run_headline taken taken' left left' held held' moments moments' status (Some (FsckAsked widths)) runs
-  any_headline (Some (FixAsked widths)) runs = run_headline taken taken' left left' held held' moments moments' status (Some (FixAsked widths)) runs
-  any_headline (Some (WeaveAsked w)) runs = run_headline taken taken' left left' held held' moments moments' status (Some (WeaveAsked w)) runs
-  any_headline (Some (PackAsked widths)) runs = run_headline taken taken' left left' held held' moments moments' status (Some (PackAsked widths)) runs
-  any_headline (Some UnpackAsked) runs = run_headline taken taken' left left' held held' moments moments' status (Some UnpackAsked) runs
-  any_headline None runs = run_headline taken taken' left left' held held' moments moments' status None runs
+  over_headline : (base : Store) → BeginsWith s.image before.input after.input base → ServesOver s inlets_tell outlets_tell base (fleet before) (fleet after) status → FleetHeadline s inlets_tell outlets_tell before after status
+  over_headline base begins (inl w) = served_so base w.0 w.1 begins w.2 w.3
+  over_headline base begins (inr none) = idle_headline (ap (λ (d : FleetDevices). d.doors.back) none.1) (λ is. done_memory (sym is ∙ none.0))
+
+  lacks_done : LacksStore s.image before.input after.input before.output.held after.output.held status → status ≢ Done
+  lacks_done (inl w) = w.2
+  lacks_done (inr w) = λ is. done_memory (sym is ∙ w.0)
+
+  pub fleet_headline : ServesFleet s inlets_tell outlets_tell before after status → FleetHeadline s inlets_tell outlets_tell before after status
+  fleet_headline (inl w) = over_headline w.0 w.1 w.2
+  fleet_headline (inr w) = idle_headline (ap (λ (d : DoorsTold). d.back) w.1.doors) (lacks_done w.0)
+
+-- ---- any words
+
+matched : (o : Option Serve) (A A2 : Type 0) (F F2 : Serve → Type 0) → (A → A2) → ((s : Serve) → F s → F2 s) → MatchOption o A F → MatchOption o A2 F2
+matched None A A2 F F2 a f m = a m
+matched (Some s) A A2 F F2 a f m = f s m
+
+pub run_headline : (asked : Option Asked) (inlets_tell outlets_tell : Type 0) (before after : Devices) (status : Status) → Runs asked inlets_tell outlets_tell before after status → RunHeadline asked inlets_tell outlets_tell before after status
+run_headline asked inlets_tell outlets_tell before after status runs =
+    matched (fleet_asked asked) (RunsAlone asked (lone before) (lone after) status) (LoneHeadline asked (lone before) (lone after) status)
+    (λ s. ServesFleet s inlets_tell outlets_tell before after status) (λ s. FleetHeadline s inlets_tell outlets_tell before after status)
+    (lone_headline (lone before) (lone after) status asked) (λ s. fleet_headline s inlets_tell outlets_tell before after status) runs

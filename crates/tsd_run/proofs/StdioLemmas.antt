@@ -21,7 +21,8 @@ use Rattle.import_job.specs.declared.import_end.ImportEnd.TheVariants as importe
 use Rattle.import_job.proofs.CallerLemmas.{not_begun}
 use Rattle.tsd_run.specs.declared.status.Status.{Status}
 use Rattle.tsd_run.specs.declared.status.Status.TheVariants.{Memory}
-use Rattle.tsd_run.specs.Runs.{HasStatus, Runs, RunsOver, RunsPrinted, RunsUnpack, ServesStdio, admission_of}
+use Rattle.tsd_run.specs.RunDevices.{LoneDevices}
+use Rattle.tsd_run.specs.Runs.{HasStatus, RunsAlone, RunsOver, RunsPrinted, RunsUnpack, ServesStdio, admission_of}
 use Rattle.tsd_run.proofs.RunLemmas.{nothing_taken}
 
 -- of these kinds and with these patterns names are given ids as the words say
@@ -67,16 +68,23 @@ module _ (taken left held moments : Option (List ℕ)) where
   unread_image : RunsUnpack taken taken left left held held Memory
   unread_image = (listing.OutOfMemory, record { bytes = []; takes = Appends-nil taken; leaves = Consumes-nil left; ends = inl refl }, refl)
 
+module _ (d : LoneDevices) where
+  printed_none : (batch : Option Batch) → RunsPrinted batch d.input.taken d.input.taken d.input.left d.input.left d.output.held d.output.held Memory
+  printed_none batch = unread_printed d.input.taken d.input.left d.output.held d.clock.moments batch
+
+  listing_none : (Tells : ListingRead → Told → Type 0) (widths : Widths) → RunsOver Tells widths d.input.taken d.input.taken d.input.left d.input.left d.output.held d.output.held Memory
+  listing_none Tells widths = unread_listing d.input.taken d.input.left d.output.held d.clock.moments Tells widths
+
   -- there was no memory for the words
-  pub runs_unread : (asked : Option Asked) → Runs asked taken taken left left held held moments moments Memory
-  runs_unread (Some (BatchAsked batch)) = (unread_printed (Some batch), refl)
-  runs_unread (Some (StdioAsked s)) = unserved s Memory refl
-  runs_unread (Some (ServeAsked s)) = (unread_printed None, refl)
-  runs_unread (Some (ImportAsked i)) = ((imported.OutOfMemory, not_begun i.widths i.compact taken left held, refl), refl)
-  runs_unread (Some (DumpAsked widths)) = (unread_listing Dumped widths, refl)
-  runs_unread (Some (FsckAsked widths)) = (unread_listing Checked widths, refl)
-  runs_unread (Some (FixAsked widths)) = (unread_listing Fixed widths, refl)
+  pub runs_unread : (asked : Option Asked) → RunsAlone asked d d Memory
+  runs_unread (Some (BatchAsked batch)) = (printed_none (Some batch), refl)
+  runs_unread (Some (StdioAsked s)) = unserved d.input.taken d.input.left d.output.held d.clock.moments s Memory refl
+  runs_unread (Some (ServeAsked s)) = (printed_none None, refl)
+  runs_unread (Some (ImportAsked i)) = ((imported.OutOfMemory, not_begun i.widths i.compact d.input.taken d.input.left d.output.held, refl), refl)
+  runs_unread (Some (DumpAsked widths)) = (listing_none Dumped widths, refl)
+  runs_unread (Some (FsckAsked widths)) = (listing_none Checked widths, refl)
+  runs_unread (Some (FixAsked widths)) = (listing_none Fixed widths, refl)
   runs_unread (Some (WeaveAsked w)) = (refl, refl, refl, refl)
-  runs_unread (Some (PackAsked widths)) = (unread_listing Packed widths, refl)
-  runs_unread (Some UnpackAsked) = (unread_image, refl)
-  runs_unread None = (unread_printed None, refl)
+  runs_unread (Some (PackAsked widths)) = (listing_none Packed widths, refl)
+  runs_unread (Some UnpackAsked) = (unread_image d.input.taken d.input.left d.output.held d.clock.moments, refl)
+  runs_unread None = (printed_none None, refl)

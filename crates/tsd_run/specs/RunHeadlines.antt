@@ -1,11 +1,10 @@
 -- The headline of a run, by its command.
-use Rattle.std.specs.Prelude.{◌≡◌, ◌↔◌, ℕ, All, Contains, List, ◌++◌, map, Option, None, Some, Result, Ok, Err}
+use Rattle.std.specs.Prelude.{◌≡◌, ◌↔◌, ◌⊎◌, ℕ, Bool, true, false, All, Contains, List, [], ◌++◌, map, Option, Some, MatchOption, Result, Ok, Err}
 use Rattle.std.specs.Io.KnownBytes.{Appends}
 use Rattle.tsd_base.specs.Points.{DataPoint}
-use Rattle.tsd_doors.specs.Links.{Shut}
 use Rattle.link_workers.specs.Returns.{AllEnd}
 use Rattle.cell_model.specs.declared.answers.Tally.{Tally}
-use Rattle.cell_model.specs.History.{History, first, len, store_after}
+use Rattle.cell_model.specs.History.{History, base_of, first, len, store_after}
 use Rattle.cell_model.specs.IdRows.{NameOf, IsResolved}
 use Rattle.cell_model.specs.Lawful.{IsLawful}
 use Rattle.cell_model.specs.Readings.{Reading, Accepted, OneValued, reading_of}
@@ -18,8 +17,8 @@ use Rattle.query_run.specs.AskedQueries.{wanted}
 use Rattle.query_run.specs.QueryAnswers.{answer}
 use Rattle.query_run.specs.declared.fault.AskFault.{AskFault}
 use Rattle.query_run.specs.declared.fault.AskFault.TheVariants.{Duplicate}
-use Rattle.command_words.specs.CommandWords.{Batch, Asked}
-use Rattle.command_words.specs.CommandWords.Asked.{BatchAsked, StdioAsked, ServeAsked, ImportAsked, DumpAsked, FsckAsked, FixAsked, WeaveAsked, PackAsked, UnpackAsked}
+use Rattle.command_words.specs.CommandWords.{Batch, Asked, Serve, fleet_asked}
+use Rattle.command_words.specs.CommandWords.Asked.{BatchAsked, StdioAsked}
 use Rattle.batch_job.specs.PointLines.{points_of}
 use Rattle.tsd_daemon.specs.declared.served.Served.{Served}
 use Rattle.tsd_daemon.specs.ServedConns.{Passes}
@@ -28,11 +27,13 @@ use Rattle.tsd_daemon.specs.Headline.{Headline, OneIdEach}
 use Rattle.conn_workers.specs.ServedLinks.{GaveSome, ServedLink}
 use Rattle.site_workers.specs.GatheredLinks.{CallerLinks, links_of}
 use Rattle.tsd_fleet.specs.FleetServes.{IsTally}
-use Rattle.serve_job.specs.FleetRuns.{summary_lines}
+use Rattle.serve_job.specs.FleetRuns.{last_lines}
 use Rattle.tsd_run.specs.declared.status.Status.{Status}
 use Rattle.tsd_run.specs.declared.status.Status.TheVariants.{Done, Refused}
 use Rattle.tsd_run.specs.BatchQueries.{query_of}
+use Rattle.tsd_run.specs.FleetStatuses.{TakesStore}
 use Rattle.tsd_run.specs.Outcomes.{replied}
+use Rattle.tsd_run.specs.RunDevices.{Devices, InputTold, LoneDevices, lone}
 use Rattle.tsd_run.specs.Runs.{HasStatus}
 
 -- ---- a batch
@@ -84,28 +85,34 @@ pub record LinkHeadline (inlets_tell outlets_tell : Type 0) (moments : Option (L
   pub clock : GaveSome moments times
   pub headline : Headline h from to input output times link.1
 
--- In one such history each connection that was given back has the headline, each caller's one after the other, and the last lines tell the numbers of the store after it.
-pub record FleetHeadline (inlets_tell outlets_tell : Type 0) (moments : Option (List ℕ)) (back back' : Option (List Shut)) (held held' : Option (List ℕ)) (status : Status) : Type 0 where
+-- What the history of a fleet begins with. Without an image it has no name and no point at first. With one it begins with the store of the listing that was taken, or no connection was served.
+abbrev pub BeginsSo : Bool → (before after : InputTold) → List CallerLinks → History → Type 0
+BeginsSo false before after callers h = IsOwnHistory h
+BeginsSo true before after callers h = (callers ≡ []) ⊎ TakesStore before after (base_of h)
+
+-- In one lawful history each connection that was given back has the headline, each caller's one after the other, and the last lines tell the numbers of the store after it. Where it is saved its image
+-- comes behind them.
+pub record FleetHeadline (s : Serve) (inlets_tell outlets_tell : Type 0) (before after : Devices) (status : Status) : Type 0 where
   pub history : History
-  pub own : IsOwnHistory history
+  pub lawful : IsLawful history
   pub ids : OneIdEach history
   pub callers : List CallerLinks
-  pub given_back : AllEnd back back' (map (λ (l : ServedLink). l.0) (links_of callers))
-  pub each : All (λ (k : CallerLinks). InTurn (LinkHeadline inlets_tell outlets_tell moments history) 0 k.links k.last) callers
-  pub printed : status ≡ Done → (tally : Tally) × IsTally (store_after history) tally × ((links : ℕ) × (front : List ℕ) × Appends held held' (front ++ summary_lines links tally))
+  pub begins : BeginsSo s.image before.input after.input callers history
+  pub given_back : AllEnd before.doors.back after.doors.back (map (λ (l : ServedLink). l.0) (links_of callers))
+  pub each : All (λ (k : CallerLinks). InTurn (LinkHeadline inlets_tell outlets_tell before.clock.moments history) 0 k.links k.last) callers
+  pub printed : status ≡ Done → (tally : Tally) × IsTally (store_after history) tally × ((links : ℕ) × (front : List ℕ) × Appends before.output.held after.output.held (front ++ last_lines links tally s.save (store_after history)))
 
 -- ---- a run
 
 -- of the commands that wait for nobody
-abbrev pub RunHeadline : Option Asked → (taken taken' left left' held held' moments moments' : Option (List ℕ)) → Status → Type 0
-RunHeadline (Some (BatchAsked batch)) taken taken' left left' held held' moments moments' status = Passes taken taken' left left' held held' moments moments' (BatchHeadline batch status)
-RunHeadline (Some (StdioAsked s)) taken taken' left left' held held' moments moments' status = Passes taken taken' left left' held held' moments moments' (StdioHeadline status)
-RunHeadline (Some (ServeAsked s)) taken taken' left left' held held' moments moments' status = Unit {0}
-RunHeadline (Some (ImportAsked i)) taken taken' left left' held held' moments moments' status = Unit {0}
-RunHeadline (Some (DumpAsked widths)) taken taken' left left' held held' moments moments' status = Unit {0}
-RunHeadline (Some (FsckAsked widths)) taken taken' left left' held held' moments moments' status = Unit {0}
-RunHeadline (Some (FixAsked widths)) taken taken' left left' held held' moments moments' status = Unit {0}
-RunHeadline (Some (WeaveAsked w)) taken taken' left left' held held' moments moments' status = Unit {0}
-RunHeadline (Some (PackAsked widths)) taken taken' left left' held held' moments moments' status = Unit {0}
-RunHeadline (Some UnpackAsked) taken taken' left left' held held' moments moments' status = Unit {0}
-RunHeadline None taken taken' left left' held held' moments moments' status = Unit {0}
+abbrev pub LoneHeadline : Option Asked → (before after : LoneDevices) → Status → Type 0
+LoneHeadline (Some (BatchAsked batch)) before after status =
+    Passes before.input.taken after.input.taken before.input.left after.input.left before.output.held after.output.held before.clock.moments after.clock.moments (BatchHeadline batch status)
+LoneHeadline (Some (StdioAsked s)) before after status =
+    Passes before.input.taken after.input.taken before.input.left after.input.left before.output.held after.output.held before.clock.moments after.clock.moments (StdioHeadline status)
+LoneHeadline other before after status = Unit {0}
+
+-- of any words
+abbrev pub RunHeadline : Option Asked → (inlets_tell outlets_tell : Type 0) → (before after : Devices) → Status → Type 0
+RunHeadline asked inlets_tell outlets_tell before after status =
+    MatchOption (fleet_asked asked) (LoneHeadline asked (lone before) (lone after) status) (λ s. FleetHeadline s inlets_tell outlets_tell before after status)

@@ -25,11 +25,12 @@ use Rattle.listing_job.specs.declared.listing_end.ListingEnd.TheVariants as list
 use Rattle.listing_job.specs.ListingJobs.{Checked, Dumped, Fixed, OverListing, Told}
 use Rattle.image_job.specs.ImageJobs.{OverImage, Packed, Unpacked}
 use Rattle.listing_print.specs.GivenTexts.{GaveFront}
-use Rattle.weave_counts.specs.declared.script_counts.Woven.{Woven}
-use Rattle.weave_counts.specs.WovenCounts.{CountsWoven, woven_text}
+use Rattle.weave_script.specs.declared.script_counts.Woven.{Woven}
+use Rattle.weave_script.specs.WovenCounts.{CountsWoven, woven_text}
 use Rattle.tsd_run.specs.Inputs.{IsUnrefused}
 use Rattle.tsd_run.specs.Outcomes.{Outcome, outcome}
 use Rattle.tsd_run.specs.OutputText.{outcome_of}
+use Rattle.tsd_run.specs.RunDevices.{LoneDevices}
 
 -- The input so far decides the outcome: it has ended, or whatever comes doesn't matter.
 abbrev pub Decides : Option Batch → List ℕ → Bool → Outcome → Type 0
@@ -166,16 +167,16 @@ Weaves count held held' WriteFault = (woven : Woven) × CountsWoven count woven 
 Weaves count held held' Memory = held' ≡ held
 Weaves count held held' _ = ⊥
 
--- What a run of these words took and gave, the moments that its clock gives before and after, and its status. Words that are no command print the usage line, and so do those of a fleet, which waits for others.
-abbrev pub Runs : Option Asked → (taken taken' left left' held held' moments moments' : Option (List ℕ)) → Status → Type 0
-Runs (Some (BatchAsked batch)) taken taken' left left' held held' moments moments' status = RunsPrinted (Some batch) taken taken' left left' held held' status × (moments' ≡ moments)
-Runs (Some (StdioAsked s)) taken taken' left left' held held' moments moments' status = Passes taken taken' left left' held held' moments moments' (ServesStdio s status)
-Runs (Some (ServeAsked s)) taken taken' left left' held held' moments moments' status = RunsPrinted None taken taken' left left' held held' status × (moments' ≡ moments)
-Runs (Some (ImportAsked i)) taken taken' left left' held held' moments moments' status = RunsImport i taken taken' left left' held held' status × (moments' ≡ moments)
-Runs (Some (DumpAsked widths)) taken taken' left left' held held' moments moments' status = RunsOver Dumped widths taken taken' left left' held held' status × (moments' ≡ moments)
-Runs (Some (FsckAsked widths)) taken taken' left left' held held' moments moments' status = RunsOver Checked widths taken taken' left left' held held' status × (moments' ≡ moments)
-Runs (Some (FixAsked widths)) taken taken' left left' held held' moments moments' status = RunsOver Fixed widths taken taken' left left' held held' status × (moments' ≡ moments)
-Runs (Some (WeaveAsked w)) taken taken' left left' held held' moments moments' status = Weaves w.count held held' status × (taken' ≡ taken) × (left' ≡ left) × (moments' ≡ moments)
-Runs (Some (PackAsked widths)) taken taken' left left' held held' moments moments' status = RunsOver Packed widths taken taken' left left' held held' status × (moments' ≡ moments)
-Runs (Some UnpackAsked) taken taken' left left' held held' moments moments' status = RunsUnpack taken taken' left left' held held' status × (moments' ≡ moments)
-Runs None taken taken' left left' held held' moments moments' status = RunsPrinted None taken taken' left left' held held' status × (moments' ≡ moments)
+-- What a command that waits for nobody took and gave, the moments that its clock gives before and after, and its status. Words that are no command print the usage line, and so do those of a fleet, which waits for others.
+abbrev pub RunsAlone : Option Asked → (before after : LoneDevices) → Status → Type 0
+RunsAlone (Some (BatchAsked batch)) before after status = RunsPrinted (Some batch) before.input.taken after.input.taken before.input.left after.input.left before.output.held after.output.held status × (after.clock.moments ≡ before.clock.moments)
+RunsAlone (Some (StdioAsked s)) before after status = Passes before.input.taken after.input.taken before.input.left after.input.left before.output.held after.output.held before.clock.moments after.clock.moments (ServesStdio s status)
+RunsAlone (Some (ServeAsked s)) before after status = RunsPrinted None before.input.taken after.input.taken before.input.left after.input.left before.output.held after.output.held status × (after.clock.moments ≡ before.clock.moments)
+RunsAlone (Some (ImportAsked i)) before after status = RunsImport i before.input.taken after.input.taken before.input.left after.input.left before.output.held after.output.held status × (after.clock.moments ≡ before.clock.moments)
+RunsAlone (Some (DumpAsked widths)) before after status = RunsOver Dumped widths before.input.taken after.input.taken before.input.left after.input.left before.output.held after.output.held status × (after.clock.moments ≡ before.clock.moments)
+RunsAlone (Some (FsckAsked widths)) before after status = RunsOver Checked widths before.input.taken after.input.taken before.input.left after.input.left before.output.held after.output.held status × (after.clock.moments ≡ before.clock.moments)
+RunsAlone (Some (FixAsked widths)) before after status = RunsOver Fixed widths before.input.taken after.input.taken before.input.left after.input.left before.output.held after.output.held status × (after.clock.moments ≡ before.clock.moments)
+RunsAlone (Some (WeaveAsked w)) before after status = Weaves w.count before.output.held after.output.held status × (after.input.taken ≡ before.input.taken) × (after.input.left ≡ before.input.left) × (after.clock.moments ≡ before.clock.moments)
+RunsAlone (Some (PackAsked widths)) before after status = RunsOver Packed widths before.input.taken after.input.taken before.input.left after.input.left before.output.held after.output.held status × (after.clock.moments ≡ before.clock.moments)
+RunsAlone (Some UnpackAsked) before after status = RunsUnpack before.input.taken after.input.taken before.input.left after.input.left before.output.held after.output.held status × (after.clock.moments ≡ before.clock.moments)
+RunsAlone None before after status = RunsPrinted None before.input.taken after.input.taken before.input.left after.input.left before.output.held after.output.held status × (after.clock.moments ≡ before.clock.moments)

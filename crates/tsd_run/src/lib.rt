@@ -1,6 +1,7 @@
 //! Everything that the program does, over any input and output.
 #![tactic(auto)]
 
+mod fleet_base;
 mod input;
 mod new_names;
 mod on_image;

@@ -73,6 +73,7 @@ pub(crate) fn dump<S: Source, K: Sink>(
 /// The status of how a job on a listing or on an image ended.
 pub(crate) fn status_of(end: ListingEnd) -> Status
     ensures status { result ≡ listing_status end }
+    ensures done { result ≡ Status.Done → end ≡ ListingEnd.Done }
     ensures read_fault { result ≡ Status.ReadFault → end ≡ ListingEnd.ReadFault }
     ensures write_fault { result ≡ Status.WriteFault → end ≡ ListingEnd.WriteFault }
     ensures no_clock { result ≢ Status.ClockFault }

@@ -16,8 +16,10 @@ ghost use Rattle.tsd_run.specs.Outcomes.{refused_line, refused_query as plain_re
 ghost use Rattle.tsd_run.specs.OutputText.{outcome_of};
 ghost use Rattle.tsd_run.specs.BatchQueries.{IsQueryOf};
 ghost use Rattle.tsd_run.specs.RunFaults.{RunCause};
-ghost use Rattle.tsd_run.specs.RunHeadlines.{RunHeadline};
-ghost use Rattle.tsd_run.specs.Runs.{HasStatus, Runs, RunsPrinted, ServesStdio, Works, is_stdio};
+ghost use Rattle.tsd_run.specs.RunCauses.{HasLoneCauses};
+ghost use Rattle.tsd_run.specs.RunHeadlines.{LoneHeadline};
+ghost use Rattle.tsd_run.specs.RunPromises.{RanAlone};
+ghost use Rattle.tsd_run.specs.Runs.{HasStatus, RunsPrinted, ServesStdio, Works, is_stdio};
 
 use crate::input::{BadLine, read_points};
 use crate::new_names::{config_of, patterns_of};
@@ -73,7 +75,7 @@ struct Decided<H> {
 ///
 /// `batch START END M [--ms]` reads points, one a line, to the end of the input, and prints the answer of the sub query M
 /// from START to END, both included, as one JSON array, with times in seconds, or in milliseconds with `--ms`. START and END
-/// are times as `query_times::query_times::read_fixed_time` reads them. The first thing that is wrong is told: the query,
+/// are times as `query_requests::query_times::read_fixed_time` reads them. The first thing that is wrong is told: the query,
 /// then the first line that is refused, then too many buckets, a name that no point has, two values of one series at one
 /// time, or a sum outside `i64`.
 ///
@@ -107,20 +109,34 @@ pub fn run_alone<S: Source, K: Sink, C: Clock, H: Halt + Drop>(
     halt: H,
 ) -> Ended<H>
     // What a batch prints is the plain aggregation of its points, and so is each reply to a query of a connection.
-    ensures headline { RunHeadline (asked_of (map string_bytes words.now)) (S.taken input.old) (S.taken input.new) (S.left input.old) (S.left input.new) (K.held output.old) (K.held output.new) (C.moments clock.old) (C.moments clock.new) result.status }
+    ensures headline { LoneHeadline (asked_of (map string_bytes words.now))
+        (record {
+          input = record { taken = S.taken input.old; left = S.left input.old; faults = S.faults input.old };
+          output = record { held = K.held output.old; faults = K.faults output.old };
+          clock = record { moments = C.moments clock.old; faults = C.faults clock.old };
+          stops = H.stops halt;
+        })
+        (record {
+          input = record { taken = S.taken input.new; left = S.left input.new; faults = S.faults input.new };
+          output = record { held = K.held output.new; faults = K.faults output.new };
+          clock = record { moments = C.moments clock.new; faults = C.faults clock.new };
+          stops = H.stops result.halt;
+        }) result.status }
 
-    // The status, the bytes taken and given, and the moments of the clock.
-    ensures runs { Runs (asked_of (map string_bytes words.now)) (S.taken input.old) (S.taken input.new) (S.left input.old) (S.left input.new) (K.held output.old) (K.held output.new) (C.moments clock.old) (C.moments clock.new) result.status }
-
-    // The causes of faults.
-    ensures reads_later { S.faults input.old ≤ S.faults input.new }
-    ensures writes_later { K.faults output.old ≤ K.faults output.new }
-    ensures clock_later { C.faults clock.old ≤ C.faults clock.new }
-    ensures stops_later { H.stops halt ≤ H.stops result.halt }
-    ensures read_fault { result.status ≡ Status.ReadFault → Rose (S.faults input.old) (S.faults input.new) }
-    ensures write_fault { result.status ≡ Status.WriteFault → Rose (K.faults output.old) (K.faults output.new) }
-    ensures clock_fault { result.status ≡ Status.ClockFault → Rose (C.faults clock.old) (C.faults clock.new) }
-    ensures stopped { result.status ≡ Status.Stopped → Rose (H.stops halt) (H.stops result.halt) }
+    // The status, the bytes taken and given, and the moments of the clock, and the causes of faults.
+    ensures ran { RanAlone (asked_of (map string_bytes words.now))
+        (record {
+          input = record { taken = S.taken input.old; left = S.left input.old; faults = S.faults input.old };
+          output = record { held = K.held output.old; faults = K.faults output.old };
+          clock = record { moments = C.moments clock.old; faults = C.faults clock.old };
+          stops = H.stops halt;
+        })
+        (record {
+          input = record { taken = S.taken input.new; left = S.left input.new; faults = S.faults input.new };
+          output = record { held = K.held output.new; faults = K.faults output.new };
+          clock = record { moments = C.moments clock.new; faults = C.faults clock.new };
+          stops = H.stops result.halt;
+        }) result.status }
 
     // No command but `stdio` asks the clock.
     ensures clock { is_stdio (asked_of (map string_bytes words.now)) ≡ false → clock.new ≡ clock.old }
@@ -143,7 +159,7 @@ pub(crate) fn no_memory<H: Halt + Drop>(halt: H) -> Ended<H>
 }
 
 /// Does what words ask for.
-pub(crate) fn act<S: Source, K: Sink, C: Clock, H: Halt + Drop>(
+fn act<S: Source, K: Sink, C: Clock, H: Halt + Drop>(
     alloc: Global,
     asked: Option<Asked<'_>>,
     input: &mut S,
@@ -152,15 +168,19 @@ pub(crate) fn act<S: Source, K: Sink, C: Clock, H: Halt + Drop>(
     halt: H,
 ) -> Ended<H>
     requires range { IfSome asked InRange }
-    ensures runs { Runs (what_asked asked.entry) (S.taken input.old) (S.taken input.new) (S.left input.old) (S.left input.new) (K.held output.old) (K.held output.new) (C.moments clock.old) (C.moments clock.new) result.status }
-    ensures reads_later { S.faults input.old ≤ S.faults input.new }
-    ensures writes_later { K.faults output.old ≤ K.faults output.new }
-    ensures clock_later { C.faults clock.old ≤ C.faults clock.new }
-    ensures stops_later { H.stops halt ≤ H.stops result.halt }
-    ensures read_fault { result.status ≡ Status.ReadFault → Rose (S.faults input.old) (S.faults input.new) }
-    ensures write_fault { result.status ≡ Status.WriteFault → Rose (K.faults output.old) (K.faults output.new) }
-    ensures clock_fault { result.status ≡ Status.ClockFault → Rose (C.faults clock.old) (C.faults clock.new) }
-    ensures stopped { result.status ≡ Status.Stopped → Rose (H.stops halt) (H.stops result.halt) }
+    ensures ran { RanAlone (what_asked asked.entry)
+        (record {
+          input = record { taken = S.taken input.old; left = S.left input.old; faults = S.faults input.old };
+          output = record { held = K.held output.old; faults = K.faults output.old };
+          clock = record { moments = C.moments clock.old; faults = C.faults clock.old };
+          stops = H.stops halt;
+        })
+        (record {
+          input = record { taken = S.taken input.new; left = S.left input.new; faults = S.faults input.new };
+          output = record { held = K.held output.new; faults = K.faults output.new };
+          clock = record { moments = C.moments clock.new; faults = C.faults clock.new };
+          stops = H.stops result.halt;
+        }) result.status }
     ensures clock { is_stdio (what_asked asked.entry) ≡ false → clock.new ≡ clock.old }
 {
     match asked {
@@ -205,14 +225,19 @@ fn serve<S: Source, K: Sink, C: Clock, H: Halt + Drop>(
     halt: H,
 ) -> Ended<H>
     ensures serves { Passes (S.taken input.old) (S.taken input.new) (S.left input.old) (S.left input.new) (K.held output.old) (K.held output.new) (C.moments clock.old) (C.moments clock.new) (ServesStdio (plain_stdio stdio.now) result.status) }
-    ensures reads_later { S.faults input.old ≤ S.faults input.new }
-    ensures writes_later { K.faults output.old ≤ K.faults output.new }
-    ensures clock_later { C.faults clock.old ≤ C.faults clock.new }
-    ensures stops_later { H.stops halt ≤ H.stops result.halt }
-    ensures read_fault { result.status ≡ Status.ReadFault → Rose (S.faults input.old) (S.faults input.new) }
-    ensures write_fault { result.status ≡ Status.WriteFault → Rose (K.faults output.old) (K.faults output.new) }
-    ensures clock_fault { result.status ≡ Status.ClockFault → Rose (C.faults clock.old) (C.faults clock.new) }
-    ensures stopped { result.status ≡ Status.Stopped → Rose (H.stops halt) (H.stops result.halt) }
+    ensures causes { HasLoneCauses
+        (record {
+          input = record { taken = S.taken input.old; left = S.left input.old; faults = S.faults input.old };
+          output = record { held = K.held output.old; faults = K.faults output.old };
+          clock = record { moments = C.moments clock.old; faults = C.faults clock.old };
+          stops = H.stops halt;
+        })
+        (record {
+          input = record { taken = S.taken input.new; left = S.left input.new; faults = S.faults input.new };
+          output = record { held = K.held output.new; faults = K.faults output.new };
+          clock = record { moments = C.moments clock.new; faults = C.faults clock.new };
+          stops = H.stops result.halt;
+        }) result.status }
 {
     let Ok(patterns) = patterns_of(alloc, &stdio.names.patterns) else {
         return no_memory(halt);
@@ -244,14 +269,19 @@ fn serve_by<S: Source, K: Sink, C: Clock, H: Halt + Drop>(
 ) -> Ended<H>
     requires rule { rule.now.patterns ≡ plain_patterns stdio.now.names.patterns }
     ensures serves { Passes (S.taken input.old) (S.taken input.new) (S.left input.old) (S.left input.new) (K.held output.old) (K.held output.new) (C.moments clock.old) (C.moments clock.new) (ServesStdio (plain_stdio stdio.now) result.status) }
-    ensures reads_later { S.faults input.old ≤ S.faults input.new }
-    ensures writes_later { K.faults output.old ≤ K.faults output.new }
-    ensures clock_later { C.faults clock.old ≤ C.faults clock.new }
-    ensures stops_later { H.stops halt ≤ H.stops result.halt }
-    ensures read_fault { result.status ≡ Status.ReadFault → Rose (S.faults input.old) (S.faults input.new) }
-    ensures write_fault { result.status ≡ Status.WriteFault → Rose (K.faults output.old) (K.faults output.new) }
-    ensures clock_fault { result.status ≡ Status.ClockFault → Rose (C.faults clock.old) (C.faults clock.new) }
-    ensures stopped { result.status ≡ Status.Stopped → Rose (H.stops halt) (H.stops result.halt) }
+    ensures causes { HasLoneCauses
+        (record {
+          input = record { taken = S.taken input.old; left = S.left input.old; faults = S.faults input.old };
+          output = record { held = K.held output.old; faults = K.faults output.old };
+          clock = record { moments = C.moments clock.old; faults = C.faults clock.old };
+          stops = H.stops halt;
+        })
+        (record {
+          input = record { taken = S.taken input.new; left = S.left input.new; faults = S.faults input.new };
+          output = record { held = K.held output.new; faults = K.faults output.new };
+          clock = record { moments = C.moments clock.new; faults = C.faults clock.new };
+          stops = H.stops result.halt;
+        }) result.status }
 {
     let config = config_of(&stdio.names, stdio.appends);
     let Finished { served, halt } = serve_alone(

@@ -1,15 +1,16 @@
 //! The command `weave`.
 ghost use Rattle.std.specs.Prelude.{◌≡◌, ◌≢◌, ◌≤◌, IfOk};
 ghost use Rattle.tsd_io.specs.Causes.{Rose};
-ghost use Rattle.weave_counts.specs.declared.script_counts.Woven.{Woven};
-ghost use Rattle.weave_counts.specs.WovenCounts.{CountsWoven, woven_text};
+ghost use Rattle.weave_script.specs.declared.script_counts.Woven.{Woven};
+ghost use Rattle.weave_script.specs.WovenCounts.{CountsWoven, woven_text};
 ghost use Rattle.tsd_run.specs.Runs.{Weaves};
 
 use crate::status::Status;
 use listing_print::give_text;
 use std::alloc::{AllocError, Global};
 use tsd_io::ports::{Failed, Sink};
-use weave_counts::{weave, woven_text};
+use weave_script::counts_text::woven_text;
+use weave_script::script_counts::weave;
 
 /// Prints the summary of what the script of a seed leaves.
 pub(crate) fn run_weave<K: Sink>(alloc: Global, seed: u64, count: u32, output: &mut K) -> Status
