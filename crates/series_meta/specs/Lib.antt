@@ -1,0 +1,5 @@
+pub mod MetaFaults
+pub mod LookupTexts
+pub mod HourWalks
+pub mod SeriesRows
+pub mod LatestPoints

@@ -1,0 +1,14 @@
+//! What is told of series.
+
+use qual_codec::Bytes;
+
+/// The last point of a series.
+#[derive(Debug, Drop)]
+pub struct Last {
+    /// The identifier of the series: the bytes of its metric's id, and then those of each tag's ids, rising by the key's.
+    pub tsuid: Bytes,
+    /// Its time, in milliseconds.
+    pub time: u64,
+    /// Its value.
+    pub value: i64,
+}
