@@ -5,6 +5,7 @@ ghost use Rattle.tsd_doors.specs.MemLinks.{IsFresh};
 use std::alloc::{AllocError, Global};
 use test_readers::devices::tell_output;
 use test_readers::text::{Bad, bytes, number};
+use test_readers::told::Told;
 use tsd_doors::mem_doors::{MemDoors, new_link};
 use tsd_io::memory::{MemSink, MemSource};
 
@@ -63,14 +64,12 @@ fn add_link(
 }
 
 /// Adds what each connection that was given back holds, and how many of its bytes are left.
-pub fn tell_back(out: &mut String, doors: &MemDoors) -> Result<(), Bad> {
+pub fn tell_back(out: &mut Told, doors: &MemDoors) {
     for (inlet, outlet) in doors.back() {
-        if !out.as_bytes().ends_with(b"\n") {
-            out.push_str("\n")?;
-        }
-        let left = inlet.left().len();
-        writeln!(out, "given back, {left} bytes left")?;
-        tell_output(out, outlet.held())?;
+        out.end_line();
+        out.add("given back, ");
+        out.number(inlet.left().len() as u64);
+        out.add(" bytes left\n");
+        tell_output(out, outlet.held());
     }
-    Ok(())
 }

@@ -5,10 +5,10 @@ use std::alloc::Global;
 use std::sync::Wait;
 use std::thread::Threads;
 use test_readers::case_lines::Line;
-use test_readers::cell_cases::tell_hex;
 use test_readers::devices::{Devices, Pieces, tell_output};
 use test_readers::report::Report;
-use test_readers::text::{Bad, bytes, hex, number};
+use test_readers::text::{Bad, bytes, first_word, number};
+use test_readers::told::Told;
 use tsd_doors::mem_doors::MemDoors;
 use tsd_io::clock::MemClock;
 use tsd_io::halt::MemHalt;
@@ -38,7 +38,9 @@ struct Parts {
 fn words_of(alloc: Global, text: &str) -> Result<Vec<String>, Bad> {
     let mut words = Vec::new(alloc);
     for word in text.split_ascii_whitespace() {
-        let word = String::from_utf8(bytes(alloc, word)?).map_err(|_| Bad::Line("no text"))?;
+        let Ok(word) = String::from_utf8(bytes(alloc, word)?) else {
+            return Err(Bad::Line("no text"));
+        };
         words.push(word)?;
     }
     Ok(words)
@@ -59,20 +61,26 @@ fn parts_of(alloc: Global, around: &Surroundings, source: MemSource) -> Result<P
     })
 }
 
-/// Tells what was printed: an image by its bytes in hexadecimal digits, and anything else as it is.
-fn tell_printed(out: &mut String, printed: &[u8]) -> Result<(), Bad> {
-    if printed.starts_with(MARK) {
-        out.push_str("image ")?;
-        return tell_hex(out, printed);
+/// Tells what was printed: lines as they are, and an image, which may stand behind lines, by its bytes in hexadecimal digits.
+fn tell_printed(out: &mut Told, printed: &[u8]) {
+    match printed.windows(MARK.len()).position(|bytes| bytes == MARK) {
+        Some(place) => {
+            let (lines, image) = printed.split_at(place);
+            tell_output(out, lines);
+            out.add("image ");
+            out.hex(image);
+        }
+        None => tell_output(out, printed),
     }
-    tell_output(out, printed)
 }
 
 /// Tells a status, what was printed, and the connections given back.
-fn tell_run(out: &mut String, status: u8, printed: &[u8], doors: &MemDoors) -> Result<(), Bad> {
-    writeln!(out, "status {status}")?;
-    tell_printed(out, printed)?;
-    tell_back(out, doors)
+fn tell_run(out: &mut Told, status: u8, printed: &[u8], doors: &MemDoors) {
+    out.add("status ");
+    out.number(u64::from(status));
+    out.add("\n");
+    tell_printed(out, printed);
+    tell_back(out, doors);
 }
 
 /// Runs these words, and tells what that gives.
@@ -81,8 +89,8 @@ fn run_words<T: Threads + Wait + Sync>(
     alloc: Global,
     words: &[String],
     parts: Parts,
-    out: &mut String,
-) -> Result<(), Bad> {
+    out: &mut Told,
+) {
     let Parts {
         mut source,
         mut sink,
@@ -100,7 +108,7 @@ fn run_words<T: Threads + Wait + Sync>(
         halt,
         &mut doors,
     );
-    tell_run(out, ended.status.number(), sink.held(), &doors)
+    tell_run(out, ended.status.number(), sink.held(), &doors);
 }
 
 /// Runs these words over all that surrounds them, and tells the status, what was printed, and the connections given back.
@@ -110,7 +118,7 @@ fn run_over<T: Threads + Wait + Sync>(
     around: &Surroundings,
     text: &str,
     pieces: Pieces,
-    out: &mut String,
+    out: &mut Told,
 ) -> Result<(), Bad> {
     let source = around.devices.source(alloc, pieces)?;
     run_source(rt, alloc, around, text, source, out)
@@ -123,11 +131,12 @@ fn run_source<T: Threads + Wait + Sync>(
     around: &Surroundings,
     text: &str,
     source: MemSource,
-    out: &mut String,
+    out: &mut Told,
 ) -> Result<(), Bad> {
     let words = words_of(alloc, text)?;
     let parts = parts_of(alloc, around, source)?;
-    run_words(rt, alloc, &words, parts, out)
+    run_words(rt, alloc, &words, parts, out);
+    Ok(())
 }
 
 /// Whether a run over the input in these pieces gives this.
@@ -139,17 +148,19 @@ fn gives<T: Threads + Wait + Sync>(
     pieces: Pieces,
     wanted: &str,
 ) -> Result<bool, Bad> {
-    let mut out = String::new(alloc);
+    let mut out = Told::of(alloc);
     run_over(rt, alloc, around, text, pieces, &mut out)?;
-    Ok(out.as_str() == wanted)
+    out.end()?;
+    Ok(out.text() == wanted)
 }
 
-/// The first and the last place of `N` or `M-N`, the first one being 1 where it isn't named.
-fn places_of(text: &str) -> Result<(u64, u64), Bad> {
-    match text.split_once('-') {
-        Some((first, last)) => Ok((number(first)?, number(last)?)),
-        None => Ok((1, number(text)?)),
-    }
+/// The first place of `N` or `M-N` and the one behind the last, the first one being 1 where it isn't named.
+fn places_of(text: &str) -> Result<(usize, usize), Bad> {
+    let (first, last) = match text.split_once('-') {
+        Some((first, last)) => (number(first)?, last),
+        None => (1, text),
+    };
+    Ok((first as usize, number(last)?.saturating_add(1) as usize))
 }
 
 /// `run_pieces PLACES WORDS`: runs these words over the input as it is, over the input cut once at each of these places, and byte by
@@ -159,20 +170,22 @@ fn run_pieces<T: Threads + Wait + Sync>(
     alloc: Global,
     around: &Surroundings,
     rest: &str,
-    out: &mut String,
+    out: &mut Told,
 ) -> Result<(), Bad> {
-    let (places, text) = rest.split_once(' ').ok_or(Bad::Line("no words"))?;
+    let (places, text) = first_word(rest);
     run_over(rt, alloc, around, text, Pieces::Written, out)?;
-    let (first, last) = places_of(places)?;
-    for place in first..=last {
-        let pieces = Pieces::CutAt(place as usize);
-        if !gives(rt, alloc, around, text, pieces, out.as_str())? {
-            writeln!(out, "cut at {place} gives something else")?;
+    let (first, behind) = places_of(places)?;
+    for place in first..behind {
+        let pieces = Pieces::CutAt(place);
+        if !gives(rt, alloc, around, text, pieces, out.text())? {
+            out.add("cut at ");
+            out.number(place as u64);
+            out.add(" gives something else\n");
             return Ok(());
         }
     }
-    if !gives(rt, alloc, around, text, Pieces::Bytes, out.as_str())? {
-        writeln!(out, "byte by byte gives something else")?;
+    if !gives(rt, alloc, around, text, Pieces::Bytes, out.text())? {
+        out.add("byte by byte gives something else\n");
     }
     Ok(())
 }
@@ -193,33 +206,21 @@ fn run_flips<T: Threads + Wait + Sync>(
     alloc: Global,
     around: &Surroundings,
     rest: &str,
-    out: &mut String,
+    out: &mut Told,
 ) -> Result<(), Bad> {
-    let (mask, text) = rest.split_once(' ').ok_or(Bad::Line("no words"))?;
+    let (mask, text) = first_word(rest);
     let mask = (number(mask)? % 256) as u8;
     let whole = around.devices.source(alloc, Pieces::Written)?;
     let input = whole.left();
     for place in 0..input.len() {
-        writeln!(out, "byte {place}")?;
+        out.add("byte ");
+        out.number(place as u64);
+        out.add("\n");
         let source = flipped(alloc, input, place, mask)?;
         run_source(rt, alloc, around, text, source, out)?;
-        if !out.as_bytes().ends_with(b"\n") {
-            out.push_str("\n")?;
-        }
+        out.end_line();
     }
     Ok(())
-}
-
-/// The text that stands for bytes in hexadecimal digits.
-fn quoted(alloc: Global, digits: &str) -> Result<String, Bad> {
-    let bytes = hex(alloc, digits)?;
-    let mut text = String::new(alloc);
-    text.push('"')?;
-    for byte in &bytes {
-        write!(text, "\\x{byte:02x}")?;
-    }
-    text.push('"')?;
-    Ok(text)
 }
 
 /// Does a line, and tells what it gives.
@@ -227,47 +228,54 @@ fn do_line<T: Threads + Wait + Sync>(
     rt: &T,
     alloc: Global,
     around: &mut Surroundings,
-    line: &Line,
-    out: &mut String,
+    line: &Line<'_>,
+    out: &mut Told,
 ) -> Result<(), Bad> {
-    let rest = line.rest.as_str();
-    match line.verb.as_str() {
+    match line.verb {
         "case" | "setup" => Ok(()),
-        "run" => run_over(rt, alloc, around, rest, Pieces::Written, out),
-        "run_pieces" => run_pieces(rt, alloc, around, rest, out),
-        "run_flips" => run_flips(rt, alloc, around, rest, out),
-        "image" => {
-            let text = quoted(alloc, rest)?;
-            around.devices.change(alloc, "tail", text.as_str())?;
-            Ok(())
-        }
-        verb => {
-            if around.devices.change(alloc, verb, rest)?
-                || around.links.change(alloc, verb, rest)?
-            {
-                Ok(())
-            } else {
-                Err(Bad::Line("no verb of a run"))
-            }
-        }
+        "run" => run_over(rt, alloc, around, line.rest, Pieces::Written, out),
+        "run_pieces" => run_pieces(rt, alloc, around, line.rest, out),
+        "run_flips" => run_flips(rt, alloc, around, line.rest, out),
+        verb => change(alloc, around, verb, line.rest),
     }
 }
 
-/// Does the lines of a case.
+/// Does a line that changes what surrounds a run.
+fn change(alloc: Global, around: &mut Surroundings, verb: &str, rest: &str) -> Result<(), Bad> {
+    if around.links.change(alloc, verb, rest)? {
+        Ok(())
+    } else {
+        around.devices.change(alloc, verb, rest)
+    }
+}
+
+/// Does these lines, and reports what differs.
+fn do_lines<T: Threads + Wait + Sync>(
+    rt: &T,
+    alloc: Global,
+    around: &mut Surroundings,
+    lines: &[Line<'_>],
+    report: &mut Report,
+) {
+    for line in lines {
+        let mut out = Told::of(alloc);
+        let done = do_line(rt, alloc, around, line, &mut out);
+        report.settle(line, done, &out);
+    }
+}
+
+/// Does the lines of a case, those of the setup first.
 pub fn case<T: Threads + Wait + Sync>(
     rt: &T,
     alloc: Global,
-    lines: &[Line],
+    setup: &[Line<'_>],
+    lines: &[Line<'_>],
     report: &mut Report,
-) -> Result<(), Bad> {
+) {
     let mut around = Surroundings {
         devices: Devices::of(alloc),
         links: MemLinks::none(alloc),
     };
-    for line in lines {
-        let mut out = String::new(alloc);
-        let done = do_line(rt, alloc, &mut around, line, &mut out);
-        report.settle(line, done, out.as_str())?;
-    }
-    Ok(())
+    do_lines(rt, alloc, &mut around, setup, report);
+    do_lines(rt, alloc, &mut around, lines, report);
 }

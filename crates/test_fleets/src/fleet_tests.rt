@@ -198,18 +198,6 @@ fn data_points_stand_in_as_many_regions_as_asked(rt: HostRuntime) -> Result<(), 
     Ok(())
 }
 
-// A connection takes 1,000 bytes, and each of these replies has 69.
-#[test]
-fn want_of_room_ends_that_connection_alone(rt: HostRuntime) -> Result<(), AllocError> {
-    let helps =
-        b"help\nhelp\nhelp\nhelp\nhelp\nhelp\nhelp\nhelp\nhelp\nhelp\nhelp\nhelp\nhelp\nhelp\nhelp\n";
-    let mut doors = two_links(rt.alloc(), helps, b"help\n")?;
-    let done = run_fleet(&rt, rt.alloc(), 1, NoGate, &mut doors)?;
-    assert!(rt; done.end == FleetEnd::Closed);
-    assert!(rt; done.ends.as_slice() == [Served::WriteFault, Served::End].as_slice());
-    Ok(())
-}
-
 /// How many points each of four workers puts.
 const EACH: u32 = 100_000;
 

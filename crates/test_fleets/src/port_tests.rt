@@ -33,6 +33,13 @@ fn client(rt: &HostRuntime, port: u16) -> io::Result<TcpStream> {
     Ok(client)
 }
 
+/// Two clients, one behind the other.
+fn two_clients(rt: &HostRuntime, port: u16) -> io::Result<(TcpStream, TcpStream)> {
+    let one = client(rt, port)?;
+    let other = client(rt, port)?;
+    Ok((one, other))
+}
+
 /// Whether these bytes come next.
 fn is_told(from: &mut impl Read, wanted: &[u8]) -> bool {
     let mut heard = [0; 64];
@@ -47,11 +54,21 @@ fn is_answered(client: &mut TcpStream) -> bool {
 }
 
 /// Whether nothing is replied for a while.
-fn waits(client: &mut TcpStream) -> io::Result<bool> {
-    client.set_read_timeout(Some(Duration::from_millis(WHILE)))?;
+fn waits(client: &mut TcpStream) -> bool {
+    let short = client.set_read_timeout(Some(Duration::from_millis(WHILE)));
     let none = client.read(&mut [0]).is_err();
-    client.set_read_timeout(Some(Duration::from_secs(PATIENCE)))?;
-    Ok(none)
+    let long = client.set_read_timeout(Some(Duration::from_secs(PATIENCE)));
+    none && short.is_ok() && long.is_ok()
+}
+
+/// Whether this could be said.
+fn says(client: &mut TcpStream, text: &[u8]) -> bool {
+    client.write_all(text).is_ok()
+}
+
+/// Whether this could be said, and the reply of `version` comes then.
+fn asks(client: &mut TcpStream, text: &[u8]) -> bool {
+    says(client, text) && is_answered(client)
 }
 
 /// The port that the program tells first.
@@ -70,34 +87,41 @@ fn port_of(told: &mut UnixStream) -> io::Result<u16> {
     Ok(port)
 }
 
-/// Whether four clients of two daemons with one worker each are answered as they are to be, and the program ends then.
+/// Whether four clients of two daemons with one worker each are answered as they are to be, to the request that ends the program.
 ///
 /// The first two are served at once. The third waits for the first one's end, and the fourth for the second one's.
+fn are_answered(
+    first: TcpStream,
+    second: TcpStream,
+    third: &mut TcpStream,
+    fourth: &mut TcpStream,
+) -> bool {
+    let (mut first, mut second) = (first, second);
+    let mut all = asks(&mut first, b"put m 1 1 h=a\nversion\n");
+    all &= asks(&mut second, b"put m 1 1 h=b\nversion\n");
+    all &= says(third, b"put m 1 1 h=c\nversion\n");
+    all &= says(fourth, b"put m 1 1 h=d\nversion\n");
+    drop(second);
+    all &= is_answered(fourth);
+    all &= waits(third);
+    all &= asks(&mut first, b"put m 1 1 h=a\nversion\n");
+    drop(first);
+    all &= is_answered(third);
+    all &= says(fourth, b"diediedie\n");
+    all & is_told(fourth, b"Cleaning up and exiting now.\n")
+}
+
+/// Whether the clients are answered so, the third of them behind the request to end too, and the program tells what they put.
 fn are_served(rt: &HostRuntime, told: &mut UnixStream) -> io::Result<bool> {
     told.set_read_timeout(Some(Duration::from_secs(PATIENCE)))?;
     let port = port_of(told)?;
-    let mut first = client(rt, port)?;
-    first.write_all(b"put m 1 1 h=a\nversion\n")?;
-    let mut all = is_answered(&mut first);
-    let mut second = client(rt, port)?;
-    second.write_all(b"put m 1 1 h=b\nversion\n")?;
-    all &= is_answered(&mut second);
-    let mut third = client(rt, port)?;
-    third.write_all(b"put m 1 1 h=c\nversion\n")?;
-    let mut fourth = client(rt, port)?;
-    fourth.write_all(b"put m 1 1 h=d\nversion\n")?;
-    drop(second);
-    all &= is_answered(&mut fourth) && waits(&mut third)?;
-    first.write_all(b"put m 1 1 h=a\nversion\n")?;
-    all &= is_answered(&mut first);
-    drop(first);
-    all &= is_answered(&mut third);
-    fourth.write_all(b"diediedie\n")?;
-    all &= is_told(&mut fourth, b"Cleaning up and exiting now.\n");
-    third.write_all(b"put m 1 1 h=c\nversion\n")?;
-    all &= is_answered(&mut third);
+    let (first, second) = two_clients(rt, port)?;
+    let (mut third, mut fourth) = two_clients(rt, port)?;
+    let answered = are_answered(first, second, &mut third, &mut fourth);
+    let still = asks(&mut third, b"put m 1 1 h=c\nversion\n");
     drop(third);
-    Ok(all && is_told(told, b"links 4\nids 1 1 4\nrows 4\ncells 4\n"))
+    let tells = is_told(told, b"links 4\nids 1 1 4\nrows 4\ncells 4\n");
+    Ok(answered & still & tells)
 }
 
 /// The words of the program.

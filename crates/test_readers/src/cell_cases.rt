@@ -4,17 +4,10 @@ ghost use Rattle.std.specs.Prelude.{All, OnOk};
 ghost use Rattle.qual_codec.specs.CellDots.{ReadsByItems};
 
 use crate::text::{Bad, first_word, hex, widths};
+use crate::told::Told;
 use qual_codec::{CellFault, CellRef, Dot, MergeFault, Merged, is_column, merge_cells, read_cell};
 use row_key::{KeyFault, RowKey, Widths, read_key, write_key};
 use std::alloc::Global;
-
-/// Adds bytes in hexadecimal.
-pub fn tell_hex(out: &mut String, bytes: &[u8]) -> Result<(), Bad> {
-    for byte in bytes {
-        write!(out, "{byte:02x}")?;
-    }
-    Ok(())
-}
 
 fn key_fault_text(fault: KeyFault) -> &'static str {
     match fault {
@@ -26,23 +19,24 @@ fn key_fault_text(fault: KeyFault) -> &'static str {
     }
 }
 
-fn tell_key(out: &mut String, key: &RowKey) -> Result<(), Bad> {
-    let metric = key.metric;
-    let base = key.base;
-    write!(out, "{metric} {base}")?;
-    for (name, value) in key.pairs.as_slice() {
-        write!(out, " {name}={value}")?;
+fn tell_key(out: &mut Told, key: &RowKey) {
+    out.number(u64::from(key.metric));
+    out.add(" ");
+    out.number(u64::from(key.base));
+    for &(name, value) in key.pairs.as_slice() {
+        out.add(" ");
+        out.number(u64::from(name));
+        out.add("=");
+        out.number(u64::from(value));
     }
-    Ok(())
 }
 
 /// Adds how a key is written, where that isn't these bytes.
-fn tell_written(out: &mut String, written: &[u8], row: &[u8]) -> Result<(), Bad> {
-    if written == row {
-        return Ok(());
+fn tell_written(out: &mut Told, written: &[u8], row: &[u8]) {
+    if written != row {
+        out.add(", written ");
+        out.hex(written);
     }
-    out.push_str(", written ")?;
-    tell_hex(out, written)
 }
 
 /// The widths of a word with commas, or else three bytes for each kind, and the bytes in hexadecimal.
@@ -56,60 +50,67 @@ fn widths_and_row(alloc: Global, text: &str) -> Result<(Widths, Vec<u8>), Bad> {
 }
 
 /// `key [M,K,V] HEX`: metric, base and pairs, or the fault. A key that is written with other bytes is told with them.
-pub fn key(alloc: Global, text: &str, out: &mut String) -> Result<(), Bad> {
+pub fn key(alloc: Global, text: &str, out: &mut Told) -> Result<(), Bad> {
     let (widths, row) = widths_and_row(alloc, text)?;
     match read_key(row.as_slice(), widths) {
         Ok(key) => {
-            tell_key(out, &key)?;
-            let written = write_key(&key, widths);
-            tell_written(out, written.as_slice(), row.as_slice())
+            tell_key(out, &key);
+            tell_written(out, write_key(&key, widths).as_slice(), row.as_slice());
         }
-        Err(fault) => Ok(out.push_str(key_fault_text(fault))?),
+        Err(fault) => out.add(key_fault_text(fault)),
     }
+    Ok(())
 }
 
 /// Adds a data point: its value, its offset, and the bytes of its value.
-fn tell_dot(out: &mut String, dot: &Dot) -> Result<(), Bad> {
-    let value = dot.value;
-    let len = dot.item.len;
-    let (offset, unit) = if dot.item.fine {
-        (dot.item.offset, "ms")
-    } else {
-        (dot.item.offset / 1000, "s")
-    };
-    Ok(write!(out, "{value} at {offset} {unit} in {len}")?)
+fn tell_dot(out: &mut Told, dot: &Dot) {
+    let offset = u64::from(dot.item.offset);
+    out.signed(dot.value);
+    out.add(" at ");
+    out.number(if dot.item.fine { offset } else { offset / 1000 });
+    out.add(if dot.item.fine { " ms in " } else { " s in " });
+    out.number(u64::from(dot.item.len));
 }
 
-fn tell_cell_fault(out: &mut String, fault: CellFault) -> Result<(), Bad> {
+/// Adds a number between two texts.
+fn tell_number(out: &mut Told, before: &str, number: usize, behind: &str) {
+    out.add(before);
+    out.number(number as u64);
+    out.add(behind);
+}
+
+fn tell_bad_length(out: &mut Told, len: u8, at: usize) {
+    out.add("bad length ");
+    out.number(u64::from(len));
+    tell_number(out, " at ", at, "");
+}
+
+fn tell_cell_fault(out: &mut Told, fault: CellFault) {
     match fault {
-        CellFault::OddLength => out.push_str("odd length")?,
-        CellFault::CutItem { at } => write!(out, "cut item at {at}")?,
-        CellFault::OffsetTooLarge { at } => write!(out, "offset too large at {at}")?,
-        CellFault::FloatFlag { at } => write!(out, "float flag at {at}")?,
-        CellFault::ReservedBits { at } => write!(out, "reserved bits at {at}")?,
-        CellFault::BadLength { at, len } => write!(out, "bad length {len} at {at}")?,
-        CellFault::NotRising { at } => write!(out, "not rising at {at}")?,
-        CellFault::ValueShort { need } => write!(out, "value short, {need} needed")?,
-        CellFault::ValueLong { need } => write!(out, "value long, {need} needed")?,
-        CellFault::BadTail { found } => write!(out, "bad tail {found}")?,
-        CellFault::OutOfMemory => return Err(Bad::OutOfMemory),
+        CellFault::OddLength => out.add("odd length"),
+        CellFault::CutItem { at } => tell_number(out, "cut item at ", at, ""),
+        CellFault::OffsetTooLarge { at } => tell_number(out, "offset too large at ", at, ""),
+        CellFault::FloatFlag { at } => tell_number(out, "float flag at ", at, ""),
+        CellFault::ReservedBits { at } => tell_number(out, "reserved bits at ", at, ""),
+        CellFault::BadLength { at, len } => tell_bad_length(out, len, at),
+        CellFault::NotRising { at } => tell_number(out, "not rising at ", at, ""),
+        CellFault::ValueShort { need } => tell_number(out, "value short, ", need, " needed"),
+        CellFault::ValueLong { need } => tell_number(out, "value long, ", need, " needed"),
+        CellFault::BadTail { found } => tell_number(out, "bad tail ", found as usize, ""),
+        CellFault::OutOfMemory => out.lose(),
     }
-    Ok(())
 }
 
 /// Adds data points.
-fn tell_dots_of(out: &mut String, dots: &[Dot]) -> Result<(), Bad> {
+fn tell_dots_of(out: &mut Told, dots: &[Dot]) {
     for (at, dot) in dots.iter().enumerate() {
-        if at > 0 {
-            out.push_str(", ")?;
-        }
-        tell_dot(out, dot)?;
+        out.add(if at > 0 { ", " } else { "" });
+        tell_dot(out, dot);
     }
-    Ok(())
 }
 
 /// `cell QUALIFIER VALUE`, both in hexadecimal: the data points, or the fault.
-pub fn cell(alloc: Global, text: &str, out: &mut String) -> Result<(), Bad> {
+pub fn cell(alloc: Global, text: &str, out: &mut Told) -> Result<(), Bad> {
     let (qual, value) = first_word(text);
     let qual = hex(alloc, qual)?;
     let value = hex(alloc, value)?;
@@ -117,6 +118,7 @@ pub fn cell(alloc: Global, text: &str, out: &mut String) -> Result<(), Bad> {
         Ok(dots) => tell_dots_of(out, dots.as_slice()),
         Err(fault) => tell_cell_fault(out, fault),
     }
+    Ok(())
 }
 
 /// Qualifier and value of each cell, with `|` between cells.
@@ -165,21 +167,29 @@ fn merged(alloc: Global, pairs: &[(Vec<u8>, Vec<u8>)]) -> Result<Result<Merged, 
     Ok(merge_cells(alloc, cells.as_slice()))
 }
 
-/// Adds qualifier and value.
-fn tell_cell(out: &mut String, cell: &Merged) -> Result<(), Bad> {
-    tell_hex(out, cell.qual.list())?;
-    out.push(' ')?;
-    tell_hex(out, cell.value.list())
+/// Adds what cells become.
+fn tell_merged(out: &mut Told, merged: &Result<Merged, MergeFault>) {
+    match merged {
+        Ok(cell) => {
+            out.hex(cell.qual.list());
+            out.add(" ");
+            out.hex(cell.value.list());
+        }
+        Err(MergeFault::Conflict { offset, a, b }) => {
+            out.add("conflict at ");
+            out.number(u64::from(*offset));
+            out.add(": ");
+            out.signed(*a);
+            out.add(" and ");
+            out.signed(*b);
+        }
+        Err(MergeFault::OutOfMemory) => out.lose(),
+    }
 }
 
 /// `merge QUALIFIER VALUE | QUALIFIER VALUE ..`, all in hexadecimal: the cell that they become, or the conflict.
-pub fn merge(alloc: Global, text: &str, out: &mut String) -> Result<(), Bad> {
+pub fn merge(alloc: Global, text: &str, out: &mut Told) -> Result<(), Bad> {
     let pairs = cell_pairs(alloc, text)?;
-    match merged(alloc, pairs.as_slice())? {
-        Ok(cell) => tell_cell(out, &cell),
-        Err(MergeFault::Conflict { offset, a, b }) => {
-            Ok(write!(out, "conflict at {offset}: {a} and {b}")?)
-        }
-        Err(MergeFault::OutOfMemory) => Err(Bad::OutOfMemory),
-    }
+    tell_merged(out, &merged(alloc, pairs.as_slice())?);
+    Ok(())
 }

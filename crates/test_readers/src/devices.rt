@@ -1,7 +1,7 @@
 //! Devices in memory: an input and its pieces, an output, a clock, and what fails of them.
 
-use crate::point_cases::tell_bytes;
-use crate::text::{Bad, bytes, number};
+use crate::text::{Bad, bytes, hex, number};
+use crate::told::Told;
 use std::alloc::Global;
 use tsd_io::clock::MemClock;
 use tsd_io::halt::MemHalt;
@@ -36,25 +36,45 @@ pub struct Devices {
     stops: Vec<u64>,
 }
 
+/// Adds a number so many times.
+fn add_times<T: Copy>(list: &mut Vec<T>, what: T, times: u64) -> Result<(), Bad> {
+    for _ in 0..times {
+        list.push(what)?;
+    }
+    Ok(())
+}
+
+/// A number, and how often it stands, of `NUMBER` or `NUMBER*TIMES`.
+fn repeated(word: &str) -> Result<(u64, u64), Bad> {
+    match word.split_once('*') {
+        Some((what, times)) => Ok((number(what)?, number(times)?)),
+        None => Ok((number(word)?, 1)),
+    }
+}
+
 /// Numbers, each of which may be repeated by `*` and another.
 fn add_numbers(list: &mut Vec<u64>, text: &str) -> Result<(), Bad> {
     for word in text.split_ascii_whitespace() {
-        let (what, times) = word.split_once('*').unwrap_or((word, "1"));
-        let what = number(what)?;
-        for _ in 0..number(times)? {
-            list.push(what)?;
-        }
+        let (what, times) = repeated(word)?;
+        add_times(list, what, times)?;
     }
     Ok(())
 }
 
 /// The same as sizes.
-fn add_sizes(alloc: Global, list: &mut Vec<usize>, text: &str) -> Result<(), Bad> {
-    let mut numbers = Vec::new(alloc);
-    add_numbers(&mut numbers, text)?;
-    for number in &numbers {
-        list.push(*number as usize)?;
+fn add_sizes(list: &mut Vec<usize>, text: &str) -> Result<(), Bad> {
+    for word in text.split_ascii_whitespace() {
+        let (what, times) = repeated(word)?;
+        add_times(list, what as usize, times)?;
     }
+    Ok(())
+}
+
+/// Adds the bytes of a text, and what stands behind them.
+fn add_bytes(alloc: Global, list: &mut Vec<u8>, text: &str, end: &[u8]) -> Result<(), Bad> {
+    let bytes = bytes(alloc, text)?;
+    list.extend_from_slice(bytes.as_slice())?;
+    list.extend_from_slice(end)?;
     Ok(())
 }
 
@@ -66,10 +86,15 @@ fn copied<T: Copy>(alloc: Global, list: &[T]) -> Result<Vec<T>, Bad> {
 /// So many cuts of one byte.
 fn single_bytes(alloc: Global, count: usize) -> Result<Vec<usize>, Bad> {
     let mut cuts = Vec::new(alloc);
-    for _ in 0..count {
-        cuts.push(1)?;
-    }
+    add_times(&mut cuts, 1, count as u64)?;
     Ok(cuts)
+}
+
+/// Adds the bytes of hexadecimal digits.
+fn add_hex(alloc: Global, list: &mut Vec<u8>, text: &str) -> Result<(), Bad> {
+    let bytes = hex(alloc, text)?;
+    list.extend_from_slice(bytes.as_slice())?;
+    Ok(())
 }
 
 impl Devices {
@@ -87,41 +112,43 @@ impl Devices {
         }
     }
 
-    /// Does a line that changes the devices, and answers whether it was one.
-    pub fn change(&mut self, alloc: Global, verb: &str, rest: &str) -> Result<bool, Bad> {
+    /// Does a line that changes the devices.
+    pub fn change(&mut self, alloc: Global, verb: &str, rest: &str) -> Result<(), Bad> {
         match verb {
-            "input" => {
-                self.input
-                    .extend_from_slice(bytes(alloc, rest)?.as_slice())?;
-                self.input.push(b'\n')?;
-            }
-            "tail" => self
-                .input
-                .extend_from_slice(bytes(alloc, rest)?.as_slice())?,
-            "cuts" => add_sizes(alloc, &mut self.cuts, rest)?,
-            "source_fails" => add_numbers(&mut self.source_fails, rest)?,
-            "sink_fails" => add_numbers(&mut self.sink_fails, rest)?,
-            "room" => self.room = number(rest)?,
-            "clock" => add_numbers(&mut self.times, rest)?,
-            "clock_fails" => add_numbers(&mut self.clock_fails, rest)?,
-            "stops" => add_numbers(&mut self.stops, rest)?,
-            _ => return Ok(false),
+            "input" => add_bytes(alloc, &mut self.input, rest, b"\n"),
+            "tail" => add_bytes(alloc, &mut self.input, rest, b""),
+            "image" => add_hex(alloc, &mut self.input, rest),
+            "cuts" => add_sizes(&mut self.cuts, rest),
+            "source_fails" => add_numbers(&mut self.source_fails, rest),
+            "sink_fails" => add_numbers(&mut self.sink_fails, rest),
+            "room" => self.set_room(rest),
+            "clock" => add_numbers(&mut self.times, rest),
+            "clock_fails" => add_numbers(&mut self.clock_fails, rest),
+            "stops" => add_numbers(&mut self.stops, rest),
+            _ => Err(Bad::Line("no verb of a run")),
         }
-        Ok(true)
+    }
+
+    fn set_room(&mut self, text: &str) -> Result<(), Bad> {
+        self.room = number(text)?;
+        Ok(())
+    }
+
+    /// Where the input is cut.
+    fn cuts_of(&self, alloc: Global, pieces: Pieces) -> Result<Vec<usize>, Bad> {
+        match pieces {
+            Pieces::Written => copied(alloc, self.cuts.as_slice()),
+            Pieces::CutAt(place) => copied(alloc, &[place]),
+            Pieces::Bytes => single_bytes(alloc, self.input.len()),
+        }
     }
 
     /// A source of the input in these pieces.
     pub fn source(&self, alloc: Global, pieces: Pieces) -> Result<MemSource, Bad> {
-        let cuts = match pieces {
-            Pieces::Written => copied(alloc, self.cuts.as_slice())?,
-            Pieces::CutAt(place) => copied(alloc, &[place])?,
-            Pieces::Bytes => single_bytes(alloc, self.input.len())?,
-        };
-        Ok(MemSource::make(
-            copied(alloc, self.input.as_slice())?,
-            cuts,
-            copied(alloc, self.source_fails.as_slice())?,
-        ))
+        let input = copied(alloc, self.input.as_slice())?;
+        let cuts = self.cuts_of(alloc, pieces)?;
+        let fails = copied(alloc, self.source_fails.as_slice())?;
+        Ok(MemSource::make(input, cuts, fails))
     }
 
     /// A sink with its room.
@@ -144,10 +171,9 @@ impl Devices {
 }
 
 /// Adds what a sink holds, and whether its last line has no end.
-pub fn tell_output(out: &mut String, held: &[u8]) -> Result<(), Bad> {
-    tell_bytes(out, held)?;
+pub fn tell_output(out: &mut Told, held: &[u8]) {
+    out.bytes(held);
     if !held.is_empty() && !held.ends_with(b"\n") {
-        out.push_str("(no end of line)")?;
+        out.add("(no end of line)");
     }
-    Ok(())
 }

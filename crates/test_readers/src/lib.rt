@@ -11,3 +11,4 @@ pub mod report;
 mod series_cases;
 mod string_cases;
 pub mod text;
+pub mod told;

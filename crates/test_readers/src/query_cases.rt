@@ -1,7 +1,7 @@
 //! What the texts of sub queries are read as.
 
-use crate::point_cases::tell_bytes;
 use crate::text::{Bad, bytes};
+use crate::told::Told;
 use query_text::queries::{Filter, NameList, Sub, Test};
 use query_text::subs::read_m;
 use std::alloc::Global;
@@ -38,54 +38,50 @@ fn function_text(function: Function) -> &'static str {
     }
 }
 
-fn tell_down(out: &mut String, down: Down) -> Result<(), Bad> {
-    let interval = down.interval;
-    let function = function_text(down.function);
-    write!(out, "; {interval} {function}")?;
+fn tell_down(out: &mut Told, down: Down) {
+    out.add("; ");
+    out.number(down.interval);
+    out.add(" ");
+    out.add(function_text(down.function));
     if down.fill == Fill::Zero {
-        out.push_str(" zero")?;
+        out.add(" zero");
     }
-    Ok(())
 }
 
-fn tell_names(out: &mut String, names: &NameList) -> Result<(), Bad> {
+fn tell_names(out: &mut Told, names: &NameList) {
     for (at, name) in names.list().iter().enumerate() {
-        if at > 0 {
-            out.push('|')?;
-        }
-        tell_bytes(out, name.bytes())?;
+        out.add(if at > 0 { "|" } else { "" });
+        out.bytes(name.bytes());
     }
-    Ok(())
 }
 
 /// Adds a filter: `group` or `keep`, the key, and its test.
-fn tell_filter(out: &mut String, filter: &Filter) -> Result<(), Bad> {
-    out.push_str(if filter.group { "; group " } else { "; keep " })?;
-    tell_bytes(out, filter.key.bytes())?;
+fn tell_filter(out: &mut Told, filter: &Filter) {
+    out.add(if filter.group { "; group " } else { "; keep " });
+    out.bytes(filter.key.bytes());
     match &filter.test {
-        Test::Any => Ok(out.push_str("=*")?),
+        Test::Any => out.add("=*"),
         Test::OneOf { names } => {
-            out.push('=')?;
-            tell_names(out, names)
+            out.add("=");
+            tell_names(out, names);
         }
         Test::NotOneOf { names } => {
-            out.push_str("!=")?;
-            tell_names(out, names)
+            out.add("!=");
+            tell_names(out, names);
         }
     }
 }
 
-fn tell_sub(out: &mut String, sub: &Sub) -> Result<(), Bad> {
-    out.push_str(aggregator_text(sub.how))?;
-    out.push(' ')?;
-    tell_bytes(out, sub.metric.bytes())?;
+fn tell_sub(out: &mut Told, sub: &Sub) {
+    out.add(aggregator_text(sub.how));
+    out.add(" ");
+    out.bytes(sub.metric.bytes());
     if let Some(down) = sub.down {
-        tell_down(out, down)?;
+        tell_down(out, down);
     }
     for filter in sub.filters.list() {
-        tell_filter(out, filter)?;
+        tell_filter(out, filter);
     }
-    Ok(())
 }
 
 /// What stands behind `--ms`, and whether it was there.
@@ -97,7 +93,7 @@ pub fn option_ms(text: &str) -> (bool, &str) {
 }
 
 /// `m [--ms] TEXT`: the sub query, or the text of its fault.
-pub fn m(alloc: Global, text: &str, out: &mut String) -> Result<(), Bad> {
+pub fn m(alloc: Global, text: &str, out: &mut Told) -> Result<(), Bad> {
     let (ms, text) = option_ms(text);
     let text = bytes(alloc, text)?;
     match read_m(alloc, text.as_slice(), ms) {
@@ -105,7 +101,8 @@ pub fn m(alloc: Global, text: &str, out: &mut String) -> Result<(), Bad> {
         Err(fault) => {
             let mut told = Vec::new(alloc);
             fault.write_text(&mut told)?;
-            tell_bytes(out, told.as_slice())
+            out.bytes(told.as_slice());
         }
     }
+    Ok(())
 }

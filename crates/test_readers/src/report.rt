@@ -2,23 +2,24 @@
 
 use crate::case_lines::Line;
 use crate::text::{Bad, bytes};
+use crate::told::Told;
 use std::alloc::Global;
 
-/// The cases so far, and what differs in them.
+/// The cases of a file so far, and what differs in them.
 #[derive(Drop)]
 pub struct Report {
     alloc: Global,
     file: String,
     wrong: bool,
     differs: bool,
-    order: String,
-    case: String,
+    order: Told,
+    case: Told,
     /// How many cases there were.
     pub cases: u64,
     /// How many of them weren't as wanted.
     pub failed: u64,
     /// What to print of these.
-    pub text: String,
+    pub text: Told,
 }
 
 impl Report {
@@ -29,11 +30,11 @@ impl Report {
             file: String::from_str(alloc, file)?,
             wrong: false,
             differs: false,
-            order: String::new(alloc),
-            case: String::new(alloc),
+            order: Told::of(alloc),
+            case: Told::of(alloc),
             cases: 0,
             failed: 0,
-            text: String::new(alloc),
+            text: Told::of(alloc),
         })
     }
 
@@ -48,85 +49,101 @@ impl Report {
     }
 
     /// The order in which the callers of the next case step, if it has one.
-    pub fn in_order(&mut self, digits: Option<&str>) -> Result<(), Bad> {
+    pub fn in_order(&mut self, digits: Option<&str>) {
         self.order.clear();
         if let Some(digits) = digits {
-            write!(self.order, " ({digits})")?;
+            self.order.add(" (");
+            self.order.add(digits);
+            self.order.add(")");
         }
-        Ok(())
     }
 
     /// Adds a line and what it gave, where that isn't what is wanted.
-    pub fn compare(&mut self, line: &Line, answer: &str) -> Result<(), Bad> {
-        match is_as_wanted(self.alloc, line, answer) {
-            Ok(true) => Ok(()),
-            Ok(false) => self.tell_difference(line, answer),
+    pub fn compare(&mut self, line: &Line<'_>, told: &Told) {
+        if !told.is_whole() {
+            self.text.lose();
+        }
+        match is_as_wanted(self.alloc, line, told.text()) {
+            Ok(true) => {}
+            Ok(false) => self.tell_difference(line, told.text()),
             Err(Bad::Line(why)) => self.refuse(line, why),
-            Err(Bad::OutOfMemory) => Err(Bad::OutOfMemory),
+            Err(Bad::OutOfMemory) => self.text.lose(),
         }
     }
 
     /// Adds a line, what it wants and what it gave.
-    fn tell_difference(&mut self, line: &Line, answer: &str) -> Result<(), Bad> {
-        self.tell(line)?;
+    fn tell_difference(&mut self, line: &Line<'_>, answer: &str) {
+        self.tell(line);
         for wanted in line.wanted.as_slice() {
-            writeln!(self.case, "  wanted {wanted}")?;
+            self.tell_below("wanted ", wanted);
         }
         for told in answer.lines() {
-            writeln!(self.case, "  gave   {told}")?;
+            self.tell_below("gave   ", told);
         }
-        Ok(())
     }
 
     /// Adds a line that can't be done, and why.
-    pub fn refuse(&mut self, line: &Line, why: &str) -> Result<(), Bad> {
-        self.tell(line)?;
-        Ok(writeln!(self.case, "  {why}")?)
+    pub fn refuse(&mut self, line: &Line<'_>, why: &str) {
+        self.tell(line);
+        self.tell_below("", why);
     }
 
     /// Adds what a line gave, or why it can't be done.
-    pub fn settle(&mut self, line: &Line, done: Result<(), Bad>, answer: &str) -> Result<(), Bad> {
+    pub fn settle(&mut self, line: &Line<'_>, done: Result<(), Bad>, told: &Told) {
         match done {
-            Ok(()) => self.compare(line, answer),
+            Ok(()) => self.compare(line, told),
             Err(Bad::Line(why)) => self.refuse(line, why),
-            Err(Bad::OutOfMemory) => Err(Bad::OutOfMemory),
+            Err(Bad::OutOfMemory) => self.text.lose(),
         }
     }
 
     /// Adds a line.
-    fn tell(&mut self, line: &Line) -> Result<(), Bad> {
+    fn tell(&mut self, line: &Line<'_>) {
         self.differs = true;
-        let file = self.file.as_str();
-        let number = line.number;
-        let verb = line.verb.as_str();
-        let rest = line.rest.as_str();
-        let order = self.order.as_str();
-        Ok(writeln!(self.case, "{file}:{number}{order}: {verb} {rest}")?)
+        self.case.add(self.file.as_str());
+        self.case.add(":");
+        self.case.number(line.number as u64);
+        self.case.add(self.order.text());
+        self.case.add(": ");
+        self.case.add(line.verb);
+        self.case.add(" ");
+        self.case.add(line.rest);
+        self.case.add("\n");
+    }
+
+    /// Adds a text below a line.
+    fn tell_below(&mut self, what: &str, text: &str) {
+        self.case.add("  ");
+        self.case.add(what);
+        self.case.add(text);
+        self.case.add("\n");
     }
 
     /// Ends a case that begins with this line.
-    pub fn end_case(&mut self, line: &Line) -> Result<(), Bad> {
+    pub fn end_case(&mut self, line: &Line<'_>) {
         self.cases = self.cases.saturating_add(1);
         if self.differs != self.wrong {
             self.failed = self.failed.saturating_add(1);
             if self.wrong {
-                self.tell(line)?;
-                self.case.push_str("  differs in nothing\n")?;
+                self.tell(line);
+                self.tell_below("", "differs in nothing");
             }
-            self.text.push_str(self.case.as_str())?;
+            self.text.add(self.case.text());
+            if !self.case.is_whole() {
+                self.text.lose();
+            }
         }
         self.case.clear();
         self.differs = false;
-        Ok(())
     }
 }
 
 /// Whether an answer is what the line wants, line by line.
-fn is_as_wanted(alloc: Global, line: &Line, answer: &str) -> Result<bool, Bad> {
+fn is_as_wanted(alloc: Global, line: &Line<'_>, answer: &str) -> Result<bool, Bad> {
     let wanted = line.wanted.as_slice();
     let mut at = 0;
     for told in answer.lines() {
-        if at >= wanted.len() || !is_same(alloc, wanted[at].as_str(), told)? {
+        if at >= wanted.len() || !is_same(alloc, wanted[at], told)? {
             return Ok(false);
         }
         at += 1;

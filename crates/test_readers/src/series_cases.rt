@@ -2,6 +2,7 @@
 ghost use Rattle.std.specs.Prelude.{◌<◌, ◌^◌, All, IfOk};
 
 use crate::text::{Bad, first_word, number, signed};
+use crate::told::Told;
 use downsample::{DownFault, buckets, down};
 use lerp_aggregate::aggregation::{AggFault, aggregate};
 use std::alloc::Global;
@@ -38,14 +39,22 @@ fn dots(alloc: Global, text: &str) -> Result<Dots, Bad> {
 }
 
 /// Adds points.
-fn tell_dots(out: &mut String, dots: &Dots) -> Result<(), Bad> {
+fn tell_dots(out: &mut Told, dots: &Dots) {
     if dots.list().is_empty() {
-        out.push_str("(none)")?;
+        out.add("(none)");
     }
-    for (time, value) in dots.list() {
-        write!(out, "{time}:{value} ")?;
+    for &(time, value) in dots.list() {
+        out.number(time);
+        out.add(":");
+        out.signed(value);
+        out.add(" ");
     }
-    Ok(())
+}
+
+/// Adds the time at which a sum is too large.
+fn tell_overflow(out: &mut Told, time: u64) {
+    out.add("overflow at ");
+    out.number(time);
 }
 
 /// An aggregator by its name.
@@ -92,7 +101,7 @@ fn group(alloc: Global, text: &str) -> Result<Vec<Dots>, Bad>
 }
 
 /// `aggregate AGGREGATOR SERIES | SERIES ..`: the points that they make, or where they overflow.
-pub fn aggregated(alloc: Global, text: &str, out: &mut String) -> Result<(), Bad> {
+pub fn aggregated(alloc: Global, text: &str, out: &mut Told) -> Result<(), Bad> {
     let (word, text) = first_word(text);
     let how = aggregator(word)?;
     let group = group(alloc, text)?;
@@ -101,9 +110,10 @@ pub fn aggregated(alloc: Global, text: &str, out: &mut String) -> Result<(), Bad
     }
     match aggregate(alloc, group.as_slice(), how) {
         Ok(dots) => tell_dots(out, &dots),
-        Err(AggFault::Overflow { time }) => Ok(write!(out, "overflow at {time}")?),
-        Err(AggFault::OutOfMemory) => Err(Bad::OutOfMemory),
+        Err(AggFault::Overflow { time }) => tell_overflow(out, time),
+        Err(AggFault::OutOfMemory) => out.lose(),
     }
+    Ok(())
 }
 
 /// A function by its name.
@@ -133,7 +143,7 @@ fn fill(word: &str) -> Result<Fill, Bad> {
 }
 
 /// `down START END INTERVAL FUNCTION FILL SERIES`: a point for each bucket, or the one that overflows.
-pub fn downsampled(alloc: Global, text: &str, out: &mut String) -> Result<(), Bad> {
+pub fn downsampled(alloc: Global, text: &str, out: &mut Told) -> Result<(), Bad> {
     let (start, text) = first_word(text);
     let (end, text) = first_word(text);
     let (interval, text) = first_word(text);
@@ -147,9 +157,10 @@ pub fn downsampled(alloc: Global, text: &str, out: &mut String) -> Result<(), Ba
     let made = made(alloc, text, how, number(start)?, number(end)?)?;
     match made {
         Ok(dots) => tell_dots(out, &dots),
-        Err(DownFault::Overflow { time }) => Ok(write!(out, "overflow at {time}")?),
-        Err(DownFault::OutOfMemory) => Err(Bad::OutOfMemory),
+        Err(DownFault::Overflow { time }) => tell_overflow(out, time),
+        Err(DownFault::OutOfMemory) => out.lose(),
     }
+    Ok(())
 }
 
 /// What a series makes, where the call is allowed.

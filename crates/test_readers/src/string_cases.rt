@@ -1,6 +1,7 @@
 //! How strings of bytes are ordered.
 
 use crate::text::{Bad, first_word, hex};
+use crate::told::Told;
 use short_bytes::short::Bytes;
 use std::alloc::Global;
 use std::cmp::Ordering;
@@ -28,14 +29,15 @@ fn order_word(one: &Bytes, other: &Bytes) -> &'static str {
 }
 
 /// Adds how strings of these bytes stand to each other.
-fn tell_order(alloc: Global, one: &[u8], other: &[u8], out: &mut String) -> Result<(), Bad> {
+fn tell_order(alloc: Global, one: &[u8], other: &[u8], out: &mut Told) -> Result<(), Bad> {
     let one = copied(alloc, one)?;
     let other = copied(alloc, other)?;
-    Ok(out.push_str(order_word(&one, &other))?)
+    out.add(order_word(&one, &other));
+    Ok(())
 }
 
 /// `order BYTES BYTES`, both in hexadecimal: `less`, `equal` or `greater`.
-pub fn order(alloc: Global, text: &str, out: &mut String) -> Result<(), Bad> {
+pub fn order(alloc: Global, text: &str, out: &mut Told) -> Result<(), Bad> {
     let (one, other) = first_word(text);
     let one = hex(alloc, one)?;
     let other = hex(alloc, other)?;

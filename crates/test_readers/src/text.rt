@@ -37,17 +37,28 @@ pub fn first_word(text: &str) -> (&str, &str) {
 
 /// A number of a word.
 pub fn number(word: &str) -> Result<u64, Bad> {
-    word.parse::<u64>().map_err(|_| Bad::Line("no number"))
+    match word.parse::<u64>() {
+        Ok(number) => Ok(number),
+        Err(_) => Err(Bad::Line("no number")),
+    }
 }
 
 /// A number with a sign.
 pub fn signed(word: &str) -> Result<i64, Bad> {
-    word.parse::<i64>().map_err(|_| Bad::Line("no number"))
+    match word.parse::<i64>() {
+        Ok(number) => Ok(number),
+        Err(_) => Err(Bad::Line("no number")),
+    }
 }
 
 /// A number of 32 bits.
 pub fn small(word: &str) -> Result<u32, Bad> {
-    word.parse::<u32>().map_err(|_| Bad::Line("no number"))
+    let number = number(word)?;
+    if number <= u64::from(u32::MAX) {
+        Ok(number as u32)
+    } else {
+        Err(Bad::Line("no number"))
+    }
 }
 
 /// A kind of names, by its word.
@@ -65,12 +76,18 @@ pub fn widths(word: &str) -> Result<Widths, Bad> {
     let [metric, b',', key, b',', value] = word.as_bytes() else {
         return Err(Bad::Line("no widths"));
     };
-    Widths::make(digit(*metric)?, digit(*key)?, digit(*value)?).ok_or(Bad::Line("no widths"))
+    match Widths::make(digit(*metric)?, digit(*key)?, digit(*value)?) {
+        Some(widths) => Ok(widths),
+        None => Err(Bad::Line("no widths")),
+    }
 }
 
 /// A name.
 pub fn name(alloc: Global, word: &str) -> Result<Name, Bad> {
-    Name::read(alloc, word.as_bytes()).map_err(|_| Bad::Line("no name"))
+    match Name::read(alloc, word.as_bytes()) {
+        Ok(name) => Ok(name),
+        Err(_) => Err(Bad::Line("no name")),
+    }
 }
 
 /// The bytes of hexadecimal digits, between which spaces may stand. `-` stands for none.
@@ -81,7 +98,10 @@ pub fn hex(alloc: Global, text: &str) -> Result<Vec<u8>, Bad> {
             digits.push(byte)?;
         }
     }
-    hex::decode(alloc, digits.as_slice()).map_err(|_| Bad::Line("no hexadecimal digits"))
+    match hex::decode(alloc, digits.as_slice()) {
+        Ok(bytes) => Ok(bytes),
+        Err(_) => Err(Bad::Line("no hexadecimal digits")),
+    }
 }
 
 /// Where a reading of quoted pieces is.
@@ -118,21 +138,41 @@ fn digit(byte: u8) -> Result<u8, Bad> {
     }
 }
 
+/// Where the reading is behind the first digit of a byte.
+fn first_digit(byte: u8) -> Result<Place, Bad> {
+    Ok(Place::Low(digit(byte)?))
+}
+
+/// Adds a piece so many times.
+fn add_times(whole: &mut Vec<u8>, piece: &[u8], count: usize) -> Result<(), AllocError> {
+    for _ in 0..count {
+        whole.extend_from_slice(piece)?;
+    }
+    Ok(())
+}
+
 impl Pieces {
     /// Reads one more byte.
     fn read(&mut self, byte: u8) -> Result<(), Bad> {
-        self.place = match self.place {
-            Place::Between => self.between(byte)?,
-            Place::Within => self.within(byte)?,
-            Place::Escape => self.escape(byte)?,
-            Place::High => Place::Low(digit(byte)?),
-            Place::Low(high) => {
-                self.last.push(high % 16 * 16 + digit(byte)? % 16)?;
-                Place::Within
-            }
-            Place::Times(count) => self.times(count, byte)?,
-        };
+        self.place = self.next(byte)?;
         Ok(())
+    }
+
+    /// Where the reading is behind a byte.
+    fn next(&mut self, byte: u8) -> Result<Place, Bad> {
+        match self.place {
+            Place::Between => self.between(byte),
+            Place::Within => self.within(byte),
+            Place::Escape => self.escape(byte),
+            Place::High => first_digit(byte),
+            Place::Low(high) => self.low(high, byte),
+            Place::Times(count) => self.times(count, byte),
+        }
+    }
+
+    fn low(&mut self, high: u8, byte: u8) -> Result<Place, Bad> {
+        self.last.push(high % 16 * 16 + digit(byte)? % 16)?;
+        Ok(Place::Within)
     }
 
     fn between(&mut self, byte: u8) -> Result<Place, Bad> {
@@ -186,9 +226,7 @@ impl Pieces {
 
     /// Adds the last piece so many times to those that are whole.
     fn end_piece(&mut self, count: usize) -> Result<(), Bad> {
-        for _ in 0..count {
-            self.whole.extend_from_slice(self.last.as_slice())?;
-        }
+        add_times(&mut self.whole, self.last.as_slice(), count)?;
         self.last.clear();
         Ok(())
     }

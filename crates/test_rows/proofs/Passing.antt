@@ -1,11 +1,13 @@
 -- What a step of another caller is to caller 1, and what it still knows there it.
 use Rattle.std.proofs.Common.{◌≡◌, ◌⊎◌, inl, inr, ℕ, ◌+◌, ◌≤◌, Bool, false, List, refl, sym, ap, subst, ◌∙◌, arith}
 use Rattle.std.proofs.lemmas.Bool.{false≢true}
-use Rattle.std.specs.Prelude.{Contains, nat_eq, Result, Ok, Err, IsOk, IfOk, OnOk, OnErr}
+use Rattle.std.specs.Prelude.{Contains, nat_eq, Result, Ok, Err, IsOk, IfOk, IfErr, OnOk, OnErr}
 use Rattle.row_key.specs.declared.tables.Table.{Table}
 use Rattle.row_key.specs.declared.tables.Table.TheVariants.{Ids, Names, Points}
 use Rattle.tsd_base.specs.Points.{DataPoint}
 use Rattle.cell_model.specs.declared.row.Row.{Row}
+use Rattle.cell_model.specs.declared.answers.RowsFault.{RowsFault}
+use Rattle.cell_model.specs.declared.answers.RowsFault.TheVariants.{OutOfMemory}
 use Rattle.cell_model.specs.declared.events.Step.{Step}
 use Rattle.cell_model.specs.declared.events.Step.TheVariants.{Claim, PutPoint, AppendPoint, PutMerged, DropCells}
 use Rattle.cell_model.specs.declared.events.Reply.{Reply}
@@ -19,7 +21,7 @@ use Rattle.cell_model.specs.IdRows.{name_row}
 use Rattle.cell_model.specs.Store.{Store}
 use Rattle.cell_model.specs.Ranges.{InOneRange}
 use Rattle.cell_model.specs.Lawful.{ClaimBasis, PointBasis, given}
-use Rattle.cell_model.specs.Seen.{KnowsCell, Seen, Saw, IsOwn, Waited, Stepped, IsPossible, Knows}
+use Rattle.cell_model.specs.Seen.{KnowsCell, Seen, Saw, IsOwn, Waited, Stepped, IsPossible, Knows, StandsIfUnstopped}
 use Rattle.cell_solo.specs.Turns.{Play, all_placed, whole_seen, history_of, sight, Steps, Stays}
 use Rattle.test_rows.specs.declared.fact.Fact.{Fact}
 use Rattle.test_rows.specs.Facts.{AllHold}
@@ -181,6 +183,11 @@ sharing_turn old new facts room caller was turned = subst (λ (p : Play). IsShar
   room = was.room;
   hold = all_kept (sight old) (sight (record old { caller = caller })) facts (λ place e saw. saw) was.hold;
 })
+
+-- a count that stands does so where memory alone is wanting
+pub stands_too : {T : Type 0} (before now : ℕ) (r : Result T RowsFault) → now ≡ before → IfErr r (λ fault. fault ≡ OutOfMemory) → StandsIfUnstopped before now r
+stands_too before now (Ok v) same memory = same
+stands_too before now (Err fault) same memory = subst (λ (f : RowsFault). StandsIfUnstopped {T = Unit {0}} before now (Err f)) (sym memory) same
 
 -- either way it stays the turn of caller 1
 pub first_kept : {T E : Type 0} (old new : Play) (step : Step) (reply : Reply) (r : Result T E) → OnOk r (Steps old step reply new) → OnErr r (Stays old new) → old.caller ≡ 1 → new.caller ≡ 1

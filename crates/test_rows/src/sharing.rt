@@ -1,5 +1,5 @@
 //! Callers of one store, in turns, and what its history showed.
-ghost use Rattle.std.specs.Prelude.{◌≡◌, ◌≤◌, ◌+◌, true, IfOk, IfErr, IsOk, OnOk, OnErr};
+ghost use Rattle.std.specs.Prelude.{◌≡◌, ◌≤◌, true, IfOk, IfErr, IsOk, OnOk, OnErr};
 ghost use Rattle.tsd_base.specs.Points.{data_point};
 ghost use Rattle.cell_model.specs.Ranges.{InOneRange};
 ghost use Rattle.cell_model.specs.Seen.{IsPossible, Knows};
@@ -27,7 +27,7 @@ pub const CALLERS: u8 = 4;
 /// For how many steps that take no memory there is room, behind one that takes some.
 const ROOM: u8 = 8;
 
-/// Callers 1 to 4 of one store. It is [`Rows`] for the one whose turn it is, and notes what each step shows.
+/// Callers 1 to 4 of one store. It makes the steps of the one whose turn it is, and notes what each shows.
 ///
 /// Contracts see it as the callers, the facts, and for how many steps that take no memory there is room at least.
 #[derive(Drop)]
@@ -105,22 +105,20 @@ impl Shared {
     }
 }
 
-impl Rows for Shared {
-    ghost seen = { λ s. sight s.solo };
-
-    ghost stops = { λ s. 0 };
-
-    ghost spare = { λ s. s.room };
-
-    fn widths(&self) -> Widths {
+/// The steps of the caller whose turn it is.
+impl Shared {
+    /// How many bytes the ids of each kind have.
+    pub(crate) fn widths(&self) -> Widths
+        ensures { result ≡ (sight self.now.solo).base.widths }
+    {
         self.solo.widths()
     }
 
-    fn read(&mut self, alloc: Global, row: &Row) -> Result<Cells, RowsFault>
+    /// Reads a row.
+    pub(crate) fn read(&mut self, alloc: Global, row: &Row) -> Result<Cells, RowsFault>
         ensures steps { IfOk result (λ cells. Steps self.old.solo (Read row.now) (Shown cells) self.new.solo) }
         ensures stays { OnErr result (Stays self.old.solo self.new.solo) }
         ensures memory { IfErr result (λ fault. fault ≡ OutOfMemory) }
-        ensures room { OnOk result (self.new.room ≡ 8) }
     {
         match self.solo.read(alloc, row) {
             Ok(cells) => {
@@ -135,7 +133,8 @@ impl Rows for Shared {
         }
     }
 
-    fn next_row(
+    /// Looks for the next row of a table from one place on and below another.
+    pub(crate) fn next_row(
         &mut self,
         alloc: Global,
         table: Table,
@@ -146,7 +145,6 @@ impl Rows for Shared {
         ensures steps { IfOk result (λ found. Steps self.old.solo (NextRow table from.now to.now) (Next found) self.new.solo) }
         ensures stays { OnErr result (Stays self.old.solo self.new.solo) }
         ensures memory { IfErr result (λ fault. fault ≡ OutOfMemory) }
-        ensures room { OnOk result (self.new.room ≡ 8) }
     {
         match self.solo.next_row(alloc, table, from, to) {
             Ok(found) => {
@@ -161,11 +159,11 @@ impl Rows for Shared {
         }
     }
 
-    fn bump(&mut self, kind: Kind) -> Result<Bumped, Stopped>
+    /// Asks for an id.
+    pub(crate) fn bump(&mut self, kind: Kind) -> Result<Bumped, Stopped>
         requires spare { 1 ≤ self.old.room }
         ensures steps { IfOk result (λ bumped. Steps self.old.solo (Bump kind) (BumpReply bumped) self.new.solo) }
         ensures never { IsOk result }
-        ensures spare { self.old.room ≤ self.new.room + 1 }
     {
         let caller = self.solo.caller();
         let bumped = self.solo.bump(kind)?;
@@ -174,7 +172,8 @@ impl Rows for Shared {
         Ok(bumped)
     }
 
-    fn claim(
+    /// Claims a cell.
+    pub(crate) fn claim(
         &mut self,
         alloc: Global,
         row: &Row,
@@ -185,7 +184,6 @@ impl Rows for Shared {
         ensures steps { IfOk result (λ claimed. Steps self.old.solo (Claim row.now qual.now value.now) (ClaimReply claimed) self.new.solo) }
         ensures stays { OnErr result (Stays self.old.solo self.new.solo) }
         ensures memory { IfErr result (λ fault. fault ≡ OutOfMemory) }
-        ensures room { OnOk result (self.new.room ≡ 8) }
     {
         match self.solo.claim(alloc, row, qual, value) {
             Ok(claimed) => {
@@ -200,7 +198,8 @@ impl Rows for Shared {
         }
     }
 
-    fn put_point(
+    /// Writes the cell of a point.
+    pub(crate) fn put_point(
         &mut self,
         alloc: Global,
         point: &Point,
@@ -212,7 +211,6 @@ impl Rows for Shared {
         ensures steps { OnOk result (Steps self.old.solo (PutPoint (data_point point.now) row.now qual.now value.now) Written self.new.solo) }
         ensures stays { OnErr result (Stays self.old.solo self.new.solo) }
         ensures memory { IfErr result (λ fault. fault ≡ OutOfMemory) }
-        ensures room { OnOk result (self.new.room ≡ 8) }
     {
         match self.solo.put_point(alloc, point, row, qual, value) {
             Ok(()) => {
@@ -227,8 +225,8 @@ impl Rows for Shared {
         }
     }
 
-    // It shows no value of the column, so nothing is noted.
-    fn append_point(
+    /// Appends a point to the column of its row. It shows no value of the column, so nothing is noted.
+    pub(crate) fn append_point(
         &mut self,
         alloc: Global,
         point: &Point,
@@ -239,7 +237,6 @@ impl Rows for Shared {
         ensures steps { OnOk result (Steps self.old.solo (AppendPoint (data_point point.now) row.now piece.now) Written self.new.solo) }
         ensures stays { OnErr result (Stays self.old.solo self.new.solo) }
         ensures memory { IfErr result (λ fault. fault ≡ OutOfMemory) }
-        ensures room { OnOk result (self.new.room ≡ 8) }
     {
         match self.solo.append_point(alloc, point, row, piece) {
             Ok(()) => {
@@ -253,7 +250,8 @@ impl Rows for Shared {
         }
     }
 
-    fn put_merged(
+    /// Writes a cell that merges others.
+    pub(crate) fn put_merged(
         &mut self,
         alloc: Global,
         row: &Row,
@@ -264,7 +262,6 @@ impl Rows for Shared {
         ensures steps { OnOk result (Steps self.old.solo (PutMerged row.now qual.now value.now) Written self.new.solo) }
         ensures stays { OnErr result (Stays self.old.solo self.new.solo) }
         ensures memory { IfErr result (λ fault. fault ≡ OutOfMemory) }
-        ensures room { OnOk result (self.new.room ≡ 8) }
     {
         match self.solo.put_merged(alloc, row, qual, value) {
             Ok(()) => {
@@ -279,12 +276,12 @@ impl Rows for Shared {
         }
     }
 
-    fn drop_cells(&mut self, row: Row, which: Drops) -> Result<u64, Stopped>
+    /// Drops cells up to their versions.
+    pub(crate) fn drop_cells(&mut self, row: Row, which: Drops) -> Result<u64, Stopped>
         requires knows { Knows (sight self.old.solo) (DropCells row which) }
         requires spare { 1 ≤ self.old.room }
         ensures steps { IfOk result (λ count. Steps self.old.solo (DropCells row which) (Removed count) self.new.solo) }
         ensures never { IsOk result }
-        ensures spare { self.old.room ≤ self.new.room + 1 }
     {
         let count = self.solo.drop_cells(row, which)?;
         self.room -= 1;

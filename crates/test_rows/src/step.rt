@@ -12,7 +12,7 @@ use crate::drops::may_drop;
 use crate::merge_step::may_merge;
 use crate::script_key::known_key;
 use crate::sharing::Shared;
-use cell_model::{Row, Rows};
+use cell_model::Row;
 use point_put::point_cell::{qualifier_of, row_of, value_of};
 use qual_codec::Bytes;
 use row_key::{RowKey, Table, Widths};

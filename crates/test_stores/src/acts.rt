@@ -4,8 +4,8 @@ use cell_model::{Bumped, Cells, Claimed, Found, Row};
 use qual_codec::Bytes;
 use row_key::{Table, Widths};
 use std::alloc::Global;
-use test_readers::cell_cases::tell_hex;
 use test_readers::text::{Bad, bytes, first_word, hex, kind, small};
+use test_readers::told::Told;
 use test_rows::act::{Act, Acted};
 use test_rows::claim::{bytes_of_id, qualifier};
 use tsd_base::point_text::read_point;
@@ -62,9 +62,12 @@ fn claim(alloc: Global, text: &str, widths: Widths) -> Result<Act, Bad> {
 }
 
 /// The point of a line.
-fn point(alloc: Global, text: &str) -> Result<Point, Bad> {
+pub fn point(alloc: Global, text: &str) -> Result<Point, Bad> {
     let line = bytes(alloc, text)?;
-    read_point(alloc, line.as_slice()).map_err(|_| Bad::Line("no point"))
+    match read_point(alloc, line.as_slice()) {
+        Ok(point) => Ok(point),
+        Err(_) => Err(Bad::Line("no point")),
+    }
 }
 
 /// `merges ROW QUALIFIER VALUE`.
@@ -118,49 +121,53 @@ pub fn act(alloc: Global, text: &str, widths: Widths) -> Result<Act, Bad> {
 }
 
 /// Adds cells, each as `QUALIFIER=VALUE`.
-pub fn tell_cells(out: &mut String, cells: &Cells) -> Result<(), Bad> {
+pub fn tell_cells(out: &mut Told, cells: &Cells) {
     for at in 0..cells.len() {
-        if at > 0 {
-            out.push(' ')?;
-        }
         let cell = cells.cell(at);
-        tell_hex(out, cell.qual)?;
-        out.push('=')?;
-        tell_hex(out, cell.value)?;
+        out.add(if at > 0 { " " } else { "" });
+        out.hex(cell.qual);
+        out.add("=");
+        out.hex(cell.value);
     }
-    Ok(())
 }
 
 /// Adds a line with a row of points and its cells.
-pub fn tell_found(out: &mut String, found: &Found) -> Result<(), Bad> {
-    tell_hex(out, found.row.bytes.list())?;
-    out.push(' ')?;
-    tell_cells(out, &found.cells)?;
-    Ok(out.push('\n')?)
+pub fn tell_found(out: &mut Told, found: &Found) {
+    out.hex(found.row.bytes.list());
+    out.add(" ");
+    tell_cells(out, &found.cells);
+    out.add("\n");
+}
+
+fn tell_bumped(out: &mut Told, bumped: &Bumped) {
+    match bumped {
+        Bumped::Given { id } => out.number(u64::from(*id)),
+        Bumped::Full => out.add("full"),
+    }
+}
+
+fn tell_claimed(out: &mut Told, claimed: &Claimed) {
+    match claimed {
+        Claimed::Done => out.add("done"),
+        Claimed::Held { value } => {
+            out.add("held ");
+            out.hex(value.list());
+        }
+    }
 }
 
 /// Adds what an act was answered.
-pub fn tell_acted(out: &mut String, acted: &Acted) -> Result<(), Bad> {
+pub fn tell_acted(out: &mut Told, acted: &Acted) {
     match acted {
-        Acted::Cells { cells } if cells.len() == 0 => out.push_str("(none)")?,
-        Acted::Cells { cells } => tell_cells(out, cells)?,
-        Acted::Found { found: None } => out.push_str("(none)")?,
-        Acted::Found { found: Some(found) } => tell_found(out, found)?,
-        Acted::Bumped { bumped } => match bumped {
-            Bumped::Given { id } => write!(out, "{id}")?,
-            Bumped::Full => out.push_str("full")?,
-        },
-        Acted::Claimed { claimed } => match claimed {
-            Claimed::Done => out.push_str("done")?,
-            Claimed::Held { value } => {
-                out.push_str("held ")?;
-                tell_hex(out, value.list())?;
-            }
-        },
-        Acted::Written => out.push_str("written")?,
-        Acted::Dropped { count } => write!(out, "{count}")?,
-        Acted::NotAllowed => out.push_str("not allowed")?,
-        Acted::NoRoom => out.push_str("no room")?,
+        Acted::Cells { cells } if cells.len() == 0 => out.add("(none)"),
+        Acted::Cells { cells } => tell_cells(out, cells),
+        Acted::Found { found: None } => out.add("(none)"),
+        Acted::Found { found: Some(found) } => tell_found(out, found),
+        Acted::Bumped { bumped } => tell_bumped(out, bumped),
+        Acted::Claimed { claimed } => tell_claimed(out, claimed),
+        Acted::Written => out.add("written"),
+        Acted::Dropped { count } => out.number(*count),
+        Acted::NotAllowed => out.add("not allowed"),
+        Acted::NoRoom => out.add("no room"),
     }
-    Ok(())
 }

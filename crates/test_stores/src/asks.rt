@@ -9,9 +9,9 @@ use query_run::{AskFault, ask};
 use query_text::queries::{Query, SubList};
 use query_text::subs::read_m;
 use std::alloc::Global;
-use test_readers::point_cases::tell_bytes;
 use test_readers::query_cases::option_ms;
 use test_readers::text::{Bad, first_word, number};
+use test_readers::told::Told;
 use tsd_base::times::LAST_TIME;
 use uid_table::Uids;
 
@@ -50,15 +50,15 @@ fn query_of(alloc: Global, text: &str) -> Result<Query, Bad>
 }
 
 /// Adds why there is no reply.
-fn tell_ask_fault(alloc: Global, out: &mut String, fault: &AskFault) -> Result<(), Bad> {
-    match fault {
-        AskFault::Stopped => Ok(out.push_str("stopped")?),
-        _ => {
-            let mut told = Vec::new(alloc);
-            fault.write_text(&mut told)?;
-            tell_bytes(out, told.as_slice())
-        }
+fn tell_ask_fault(alloc: Global, out: &mut Told, fault: &AskFault) -> Result<(), Bad> {
+    if let AskFault::Stopped = fault {
+        out.add("stopped");
+        return Ok(());
     }
+    let mut told = Vec::new(alloc);
+    fault.write_text(&mut told)?;
+    out.bytes(told.as_slice());
+    Ok(())
 }
 
 /// `ask START END [--ms] M ..`: the text of the reply, or of the fault.
@@ -66,13 +66,14 @@ pub fn asked<R: Rows + Drop>(
     alloc: Global,
     names: &mut Uids<R>,
     text: &str,
-    out: &mut String,
+    out: &mut Told,
 ) -> Result<(), Bad> {
     let query = query_of(alloc, text)?;
     match ask(alloc, names, &query) {
         Ok(reply) => {
             let text = reply_text(alloc, &reply)?;
-            tell_bytes(out, text.as_slice())
+            out.bytes(text.as_slice());
+            Ok(())
         }
         Err(fault) => tell_ask_fault(alloc, out, &fault),
     }

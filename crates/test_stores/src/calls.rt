@@ -1,6 +1,6 @@
 //! Calls over a store: ids, puts, scans, queries and compactions, made by caller 1.
 
-use crate::acts::tell_found;
+use crate::acts::{point, tell_found};
 use crate::asks::asked;
 use crate::compactions;
 use cell_model::{Row, Rows, RowsFault};
@@ -8,12 +8,10 @@ use compactor::Queue;
 use point_put::{Config, PutFault, TextFault, put, put_text};
 use row_scan::Scan;
 use std::alloc::Global;
-use test_readers::cell_cases::tell_hex;
-use test_readers::point_cases::tell_bytes;
 use test_readers::text::{Bad, bytes, first_word, kind, name, small};
+use test_readers::told::Told;
 use tsd_base::kinds::Kind;
 use tsd_base::names::Name;
-use tsd_base::point_text::read_point;
 use tsd_hooks::UidRule;
 use uid_table::{AssignFault, Assigned, ResolveFault, Uids};
 
@@ -21,13 +19,38 @@ use uid_table::{AssignFault, Assigned, ResolveFault, Uids};
 const MOST_ROWS: u32 = 1000;
 
 /// Adds how a name has an id.
-fn tell_assigned(out: &mut String, answer: Assigned) -> Result<(), Bad> {
+fn tell_assigned(out: &mut Told, answer: Assigned) {
     match answer {
-        Assigned::Fresh { id } => write!(out, "fresh {id}")?,
-        Assigned::Existing { id } => write!(out, "existing {id}")?,
-        Assigned::Lost { wasted, id } => write!(out, "lost {wasted} {id}")?,
+        Assigned::Fresh { id } => tell_id(out, "fresh ", id),
+        Assigned::Existing { id } => tell_id(out, "existing ", id),
+        Assigned::Lost { wasted, id } => {
+            tell_id(out, "lost ", wasted);
+            tell_id(out, " ", id);
+        }
     }
-    Ok(())
+}
+
+/// Adds an id behind a text.
+fn tell_id(out: &mut Told, before: &str, id: u32) {
+    out.add(before);
+    out.number(u64::from(id));
+}
+
+/// Adds a kind between two texts.
+fn tell_kind(out: &mut Told, before: &str, kind: Kind, behind: &str) {
+    out.add(before);
+    out.add(kind.text());
+    out.add(behind);
+}
+
+/// Adds why a name has no id.
+fn tell_assign_fault(out: &mut Told, fault: AssignFault) {
+    match fault {
+        AssignFault::Filtered { kind } => tell_kind(out, "filtered ", kind, ""),
+        AssignFault::Exhausted { kind } => tell_kind(out, "ids of ", kind, " are exhausted"),
+        AssignFault::OutOfMemory => out.lose(),
+        AssignFault::Stopped => out.add("stopped"),
+    }
 }
 
 /// `assign KIND NAME`: how the name has an id, or why it has none.
@@ -36,24 +59,16 @@ fn assign<R: Rows + Drop>(
     names: &mut Uids<R>,
     rule: &UidRule,
     text: &str,
-    out: &mut String,
+    out: &mut Told,
 ) -> Result<(), Bad> {
     let (kind_word, word) = first_word(text);
     let kind = kind(kind_word)?;
     let name = name(alloc, word)?;
     match names.assign(alloc, rule, kind, &name) {
         Ok(answer) => tell_assigned(out, answer),
-        Err(AssignFault::Filtered { kind }) => {
-            let kind = kind.text();
-            Ok(write!(out, "filtered {kind}")?)
-        }
-        Err(AssignFault::Exhausted { kind }) => {
-            let kind = kind.text();
-            Ok(write!(out, "ids of {kind} are exhausted")?)
-        }
-        Err(AssignFault::OutOfMemory) => Err(Bad::OutOfMemory),
-        Err(AssignFault::Stopped) => Ok(out.push_str("stopped")?),
+        Err(fault) => tell_assign_fault(out, fault),
     }
+    Ok(())
 }
 
 /// The id of a name, and the name of that id.
@@ -76,23 +91,22 @@ fn resolve<R: Rows + Drop>(
     alloc: Global,
     names: &mut Uids<R>,
     text: &str,
-    out: &mut String,
+    out: &mut Told,
 ) -> Result<(), Bad> {
     let (kind_word, word) = first_word(text);
     let kind = kind(kind_word)?;
     let name = name(alloc, word)?;
     match there_and_back(alloc, names, kind, &name) {
         Ok((id, back)) => {
-            write!(out, "{id} ")?;
-            tell_bytes(out, back.bytes())
+            tell_id(out, "", id);
+            out.add(" ");
+            out.bytes(back.bytes());
         }
-        Err(ResolveFault::Unknown { kind }) => {
-            let kind = kind.text();
-            Ok(write!(out, "unknown {kind}")?)
-        }
-        Err(ResolveFault::OutOfMemory) => Err(Bad::OutOfMemory),
-        Err(ResolveFault::Stopped) => Ok(out.push_str("stopped")?),
+        Err(ResolveFault::Unknown { kind }) => tell_kind(out, "unknown ", kind, ""),
+        Err(ResolveFault::OutOfMemory) => out.lose(),
+        Err(ResolveFault::Stopped) => out.add("stopped"),
     }
+    Ok(())
 }
 
 /// `suggest KIND MAX [PREFIX]`: the names.
@@ -100,7 +114,7 @@ fn suggest<R: Rows + Drop>(
     alloc: Global,
     names: &mut Uids<R>,
     text: &str,
-    out: &mut String,
+    out: &mut Told,
 ) -> Result<(), Bad> {
     let (kind_word, text) = first_word(text);
     let (max, prefix) = first_word(text);
@@ -114,25 +128,25 @@ fn suggest<R: Rows + Drop>(
         Ok(list) => tell_list(out, list.as_slice()),
         Err(fault) => tell_rows_fault(out, fault),
     }
-}
-
-/// Adds names, each before a space.
-fn tell_list(out: &mut String, list: &[Name]) -> Result<(), Bad> {
-    if list.is_empty() {
-        out.push_str("(none)")?;
-    }
-    for name in list {
-        tell_bytes(out, name.bytes())?;
-        out.push(' ')?;
-    }
     Ok(())
 }
 
+/// Adds names, each before a space.
+fn tell_list(out: &mut Told, list: &[Name]) {
+    if list.is_empty() {
+        out.add("(none)");
+    }
+    for name in list {
+        out.bytes(name.bytes());
+        out.add(" ");
+    }
+}
+
 /// Adds why rows couldn't be read or changed.
-pub fn tell_rows_fault(out: &mut String, fault: RowsFault) -> Result<(), Bad> {
+pub fn tell_rows_fault(out: &mut Told, fault: RowsFault) {
     match fault {
-        RowsFault::OutOfMemory => Err(Bad::OutOfMemory),
-        RowsFault::Stopped => Ok(out.push_str("stopped")?),
+        RowsFault::OutOfMemory => out.lose(),
+        RowsFault::Stopped => out.add("stopped"),
     }
 }
 
@@ -155,9 +169,49 @@ fn config_and_line(text: &str) -> (Config, &str) {
     }
 }
 
-fn tell_stored(out: &mut String, base: u32, row: &Row) -> Result<(), Bad> {
-    write!(out, "{base} ")?;
-    tell_hex(out, row.bytes.list())
+fn tell_stored(out: &mut Told, base: u32, row: &Row) {
+    out.number(u64::from(base));
+    out.add(" ");
+    out.hex(row.bytes.list());
+}
+
+/// Puts the point of a line, tells its row or why it isn't put, and answers whether it is.
+fn put_by<R: Rows + Drop>(
+    alloc: Global,
+    names: &mut Uids<R>,
+    rule: &UidRule,
+    config: &Config,
+    line: &str,
+    out: &mut Told,
+) -> Result<bool, Bad> {
+    let point = point(alloc, line)?;
+    match put(alloc, names, rule, config, &point) {
+        Ok(stored) => {
+            tell_stored(out, stored.base, &stored.row);
+            Ok(true)
+        }
+        Err(fault) => {
+            tell_put_fault(alloc, out, &fault)?;
+            Ok(false)
+        }
+    }
+}
+
+/// `load LINE`: puts a point before the case, each of its names being given an id.
+pub fn load<R: Rows + Drop>(
+    alloc: Global,
+    names: &mut Uids<R>,
+    rule: &UidRule,
+    text: &str,
+) -> Result<(), Bad> {
+    let mut config = Config::usual();
+    config.auto_metric = true;
+    let mut out = Told::of(alloc);
+    if put_by(alloc, names, rule, &config, text, &mut out)? {
+        Ok(())
+    } else {
+        Err(Bad::Line("not put"))
+    }
 }
 
 /// `put [--auto-metric] [--appends] LINE`: the row of the point.
@@ -166,15 +220,11 @@ fn put_line<R: Rows + Drop>(
     names: &mut Uids<R>,
     rule: &UidRule,
     text: &str,
-    out: &mut String,
+    out: &mut Told,
 ) -> Result<(), Bad> {
     let (config, line) = config_and_line(text);
-    let line = bytes(alloc, line)?;
-    let point = read_point(alloc, line.as_slice()).map_err(|_| Bad::Line("no point"))?;
-    match put(alloc, names, rule, &config, &point) {
-        Ok(stored) => tell_stored(out, stored.base, &stored.row),
-        Err(fault) => tell_put_fault(alloc, out, &fault),
-    }
+    put_by(alloc, names, rule, &config, line, out)?;
+    Ok(())
 }
 
 /// `put_text [--auto-metric] [--appends] LINE`: the row of the point, which is put by its text.
@@ -183,26 +233,30 @@ fn put_line_text<R: Rows + Drop>(
     names: &mut Uids<R>,
     rule: &UidRule,
     text: &str,
-    out: &mut String,
+    out: &mut Told,
 ) -> Result<(), Bad> {
     let (config, line) = config_and_line(text);
     let line = bytes(alloc, line)?;
     match put_text(alloc, names, rule, &config, line.as_slice()) {
         Ok(stored) => {
-            let told = tell_stored(out, stored.base(), stored.row());
+            tell_stored(out, stored.base(), stored.row());
             stored.keep(names);
-            told
+            Ok(())
         }
-        Err(TextFault::Unread { fault: _ }) => Ok(out.push_str("no point")?),
+        Err(TextFault::Unread { fault: _ }) => {
+            out.add("no point");
+            Ok(())
+        }
         Err(TextFault::Unput { fault }) => tell_put_fault(alloc, out, &fault),
     }
 }
 
 /// Adds why a point isn't put.
-fn tell_put_fault(alloc: Global, out: &mut String, fault: &PutFault) -> Result<(), Bad> {
+fn tell_put_fault(alloc: Global, out: &mut Told, fault: &PutFault) -> Result<(), Bad> {
     let mut told = Vec::new(alloc);
     fault.write_text(&mut told)?;
-    tell_bytes(out, told.as_slice())
+    out.bytes(told.as_slice());
+    Ok(())
 }
 
 /// `scan METRIC FIRST LAST`: the rows of the metric in the hours from one base to another, each with its cells.
@@ -210,20 +264,32 @@ fn scan<R: Rows + Drop>(
     alloc: Global,
     names: &mut Uids<R>,
     text: &str,
-    out: &mut String,
+    out: &mut Told,
 ) -> Result<(), Bad> {
     let (metric, text) = first_word(text);
     let (first, last) = first_word(text);
     let mut scan = Scan::start(small(metric)?, small(first)?, small(last)?, names.widths());
     for _ in 0..MOST_ROWS {
         match scan.turn(alloc, names) {
-            Ok(Some(found)) => tell_found(out, &found)?,
-            Ok(None) if out.is_empty() => return Ok(out.push_str("(none)")?),
-            Ok(None) => return Ok(()),
-            Err(fault) => return tell_rows_fault(out, fault),
+            Ok(Some(found)) => tell_found(out, &found),
+            Ok(None) => {
+                tell_none(out);
+                return Ok(());
+            }
+            Err(fault) => {
+                tell_rows_fault(out, fault);
+                return Ok(());
+            }
         }
     }
     Err(Bad::Line("too many rows"))
+}
+
+/// Tells that there is nothing, where nothing was told before.
+fn tell_none(out: &mut Told) {
+    if out.text().is_empty() {
+        out.add("(none)");
+    }
 }
 
 /// Makes the call of a line.
@@ -234,7 +300,7 @@ pub fn call<R: Rows + Drop>(
     queue: &mut Queue,
     verb: &str,
     rest: &str,
-    out: &mut String,
+    out: &mut Told,
 ) -> Result<(), Bad> {
     match verb {
         "assign" => assign(alloc, names, rule, rest, out),

@@ -8,9 +8,9 @@ use cell_region::Regions;
 use row_key::Table;
 use std::alloc::{AllocError, Global};
 use test_readers::case_lines::Line;
-use test_readers::cell_cases::tell_hex;
 use test_readers::report::Report;
 use test_readers::text::{Bad, first_word, hex};
+use test_readers::told::Told;
 use test_rows::act::Acted;
 use test_rows::script::Part;
 use test_rows::scripted::Scripted;
@@ -60,80 +60,92 @@ fn left_of(alloc: Global, shared: Shared, first: Steps) -> Result<Left, AllocErr
 }
 
 /// Reports what another caller was answered, where that isn't what is wanted. A step for which nothing is wanted is to be made.
-fn report_act(alloc: Global, line: &Line, part: &Part, report: &mut Report) -> Result<(), Bad> {
+fn report_act(alloc: Global, line: &Line<'_>, part: &Part, report: &mut Report) {
     match part.acted() {
         None => report.refuse(line, "not done"),
         Some(Acted::NotAllowed) if line.wanted.is_empty() => report.refuse(line, "not allowed"),
         Some(Acted::NoRoom) if line.wanted.is_empty() => report.refuse(line, "no room"),
-        Some(_) if line.wanted.is_empty() => Ok(()),
+        Some(_) if line.wanted.is_empty() => {}
         Some(acted) => {
-            let mut out = String::new(alloc);
-            tell_acted(&mut out, acted)?;
-            report.compare(line, out.as_str())
+            let mut out = Told::of(alloc);
+            tell_acted(&mut out, acted);
+            report.compare(line, &out);
         }
     }
 }
 
 /// The same of all.
-fn report_acts(
-    alloc: Global,
-    lines: &[Line],
-    parts: &[Part],
-    report: &mut Report,
-) -> Result<(), Bad> {
+fn report_acts(alloc: Global, lines: &[Line<'_>], parts: &[Part], report: &mut Report) {
     let mut at = 0;
     for line in lines {
-        if let Role::Act(_) = role_of(line.verb.as_str()) {
+        if let Role::Act(_) = role_of(line.verb) {
             if at < parts.len() {
-                report_act(alloc, line, &parts[at], report)?;
+                report_act(alloc, line, &parts[at], report);
                 at += 1;
             }
         }
     }
-    Ok(())
 }
 
 /// Adds a line of a listing.
-fn tell_line(out: &mut String, line: &ListLine) -> Result<(), Bad> {
-    out.push_str(match line.table {
+fn tell_line(out: &mut Told, line: &ListLine) {
+    out.add(match line.table {
         Table::Ids => "ids ",
         Table::Names => "names ",
         Table::Points => "points ",
-    })?;
-    tell_hex(out, line.row.list())?;
-    out.push(' ')?;
-    tell_hex(out, line.qual.list())?;
-    out.push(' ')?;
-    tell_hex(out, line.value.list())?;
-    Ok(out.push('\n')?)
+    });
+    out.hex(line.row.list());
+    out.add(" ");
+    out.hex(line.qual.list());
+    out.add(" ");
+    out.hex(line.value.list());
+    out.add("\n");
+}
+
+/// Whether a line is of the table and of the row, where these are asked for.
+fn is_listed(line: &ListLine, asked: Option<Table>, row: &[u8]) -> bool {
+    let in_table = match asked {
+        Some(table) => line.table == table,
+        None => true,
+    };
+    in_table && (row.is_empty() || line.row.list() == row)
 }
 
 /// `list [TABLE [ROW]]`: the cells of the store, of the table or of the row.
-fn list(alloc: Global, listing: &Listing, text: &str, out: &mut String) -> Result<(), Bad> {
+fn list(alloc: Global, listing: &Listing, text: &str, out: &mut Told) -> Result<(), Bad> {
     let (word, digits) = first_word(text);
     let row = hex(alloc, digits)?;
+    let asked = if word.is_empty() {
+        None
+    } else {
+        Some(table(word)?)
+    };
     for line in listing.lines() {
-        let in_table = word.is_empty() || line.table == table(word)?;
-        if in_table && (row.is_empty() || line.row.list() == row.as_slice()) {
-            tell_line(out, line)?;
+        if is_listed(line, asked, row.as_slice()) {
+            tell_line(out, line);
         }
     }
     Ok(())
 }
 
 /// Adds the counters, and the numbers of point rows and of their cells.
-fn tell_tally(out: &mut String, tally: &Tally) -> Result<(), Bad> {
+fn tell_tally(out: &mut Told, tally: &Tally) {
     let [metrics, keys, values] = tally.ids;
-    let rows = tally.point_rows;
-    let cells = tally.point_cells;
-    Ok(write!(
-        out,
-        "ids {metrics} {keys} {values} rows {rows} cells {cells}"
-    )?)
+    tell_count(out, "ids ", metrics);
+    tell_count(out, " ", keys);
+    tell_count(out, " ", values);
+    tell_count(out, " rows ", tally.point_rows);
+    tell_count(out, " cells ", tally.point_cells);
+}
+
+/// Adds a number behind a text.
+fn tell_count(out: &mut Told, before: &str, count: u64) {
+    out.add(before);
+    out.number(count);
 }
 
 /// `steps N`: how many entries this caller made.
-fn tell_steps(out: &mut String, steps: &Steps, caller: &str) -> Result<(), Bad> {
+fn tell_steps(out: &mut Told, steps: &Steps, caller: &str) -> Result<(), Bad> {
     let steps = match caller {
         "1" => steps[0],
         "2" => steps[1],
@@ -141,41 +153,46 @@ fn tell_steps(out: &mut String, steps: &Steps, caller: &str) -> Result<(), Bad> 
         "4" => steps[3],
         _ => return Err(Bad::Line("no caller")),
     };
-    Ok(write!(out, "{steps}")?)
+    out.number(steps);
+    Ok(())
 }
 
 /// Adds what a line asks for at the end.
-fn tell_end(alloc: Global, left: &Left, line: &Line, out: &mut String) -> Result<(), Bad> {
-    let rest = line.rest.as_str();
-    match line.verb.as_str() {
-        "steps" => tell_steps(out, &left.steps, rest),
-        "tally" => tell_tally(out, &left.tally),
-        _ => list(alloc, &left.listing, rest, out),
+fn tell_end(alloc: Global, left: &Left, line: &Line<'_>, out: &mut Told) -> Result<(), Bad> {
+    match line.verb {
+        "steps" => tell_steps(out, &left.steps, line.rest),
+        "tally" => {
+            tell_tally(out, &left.tally);
+            Ok(())
+        }
+        _ => list(alloc, &left.listing, line.rest, out),
     }
 }
 
 /// Reports what differs in what is left.
-fn report_left(alloc: Global, lines: &[Line], left: &Left, report: &mut Report) -> Result<(), Bad> {
+fn report_left(alloc: Global, lines: &[Line<'_>], left: &Left, report: &mut Report) {
     for line in lines {
-        if role_of(line.verb.as_str()) == Role::End {
-            let mut out = String::new(alloc);
+        if role_of(line.verb) == Role::End {
+            let mut out = Told::of(alloc);
             let done = tell_end(alloc, left, line, &mut out);
-            report.settle(line, done, out.as_str())?;
+            report.settle(line, done, &out);
         }
     }
-    Ok(())
 }
 
 /// The same of callers, at the start of which each had made so many entries.
 fn report_store(
     alloc: Global,
-    lines: &[Line],
+    lines: &[Line<'_>],
     shared: Shared,
     first: Steps,
     report: &mut Report,
 ) -> Result<(), Bad> {
     match left_of(alloc, shared, first) {
-        Ok(left) => report_left(alloc, lines, &left, report),
+        Ok(left) => {
+            report_left(alloc, lines, &left, report);
+            Ok(())
+        }
         Err(AllocError) => Err(Bad::OutOfMemory),
     }
 }
@@ -185,13 +202,12 @@ pub fn end(
     alloc: Global,
     rows: Scripted,
     first: Steps,
-    lines: &[Line],
+    lines: &[Line<'_>],
     report: &mut Report,
 ) -> Result<(), Bad> {
     let (shared, script, finished) = rows.end();
-    let acted = report_acts(alloc, lines, script.parts(), report);
+    report_acts(alloc, lines, script.parts(), report);
     let ended = report_store(alloc, lines, shared, first, report);
     finished?;
-    acted?;
     ended
 }

@@ -8,11 +8,11 @@ use tsd_base::kinds::Kind;
 use tsd_hooks::Patterns;
 
 /// The pattern for names of a kind: what the last line `allow KIND PATTERN` of this kind says, if there is one.
-fn pattern_of(alloc: Global, lines: &[Line], of: Kind) -> Result<Option<Bytes>, Bad> {
+fn pattern_of(alloc: Global, lines: &[Line<'_>], of: Kind) -> Result<Option<Bytes>, Bad> {
     let mut pattern = None;
     for line in lines {
-        if line.verb.as_str() == "allow" {
-            let (word, text) = first_word(line.rest.as_str());
+        if line.verb == "allow" {
+            let (word, text) = first_word(line.rest);
             if kind(word)? == of {
                 let text = bytes(alloc, text)?;
                 pattern = Some(Bytes::of(alloc, text.as_slice())?);
@@ -23,7 +23,7 @@ fn pattern_of(alloc: Global, lines: &[Line], of: Kind) -> Result<Option<Bytes>, 
 }
 
 /// The patterns of a case, by its lines `allow KIND PATTERN`.
-pub fn patterns_of(alloc: Global, lines: &[Line]) -> Result<Patterns, Bad> {
+pub fn patterns_of(alloc: Global, lines: &[Line<'_>]) -> Result<Patterns, Bad> {
     Ok(Patterns {
         metric: pattern_of(alloc, lines, Kind::Metric)?,
         tag_key: pattern_of(alloc, lines, Kind::TagKey)?,

@@ -33,54 +33,54 @@ pub fn role_of(verb: &str) -> Role {
 }
 
 /// How many bytes the ids of each kind have: what the last line `widths M,K,V` says, or 3.
-pub fn widths_of(lines: &[Line]) -> Result<Widths, Bad> {
+pub fn widths_of(lines: &[Line<'_>]) -> Result<Widths, Bad> {
     let mut found = Widths::three();
     for line in lines {
-        if line.verb.as_str() == "widths" {
-            found = widths(line.rest.as_str())?;
+        if line.verb == "widths" {
+            found = widths(line.rest)?;
         }
     }
     Ok(found)
 }
 
 /// How many pairs of names and ids are kept: what the last line `cap N` says, or 1.
-pub fn cap_of(lines: &[Line]) -> Result<u32, Bad> {
+pub fn cap_of(lines: &[Line<'_>]) -> Result<u32, Bad> {
     let mut cap = 1;
     for line in lines {
-        if line.verb.as_str() == "cap" {
-            cap = small(line.rest.as_str())?;
+        if line.verb == "cap" {
+            cap = small(line.rest)?;
         }
     }
     Ok(cap)
 }
 
 /// The steps of caller 1 that are refused, by the lines `stops N`.
-pub fn stops_of(alloc: Global, lines: &[Line]) -> Result<Vec<u64>, Bad> {
+pub fn stops_of(alloc: Global, lines: &[Line<'_>]) -> Result<Vec<u64>, Bad> {
     let mut stops = Vec::new(alloc);
     for line in lines {
-        if line.verb.as_str() == "stops" {
-            stops.push(number(line.rest.as_str())?)?;
+        if line.verb == "stops" {
+            stops.push(number(line.rest)?)?;
         }
     }
     Ok(stops)
 }
 
 /// The steps of others, in the order of the lines.
-fn parts_of(alloc: Global, lines: &[Line]) -> Result<Vec<Part>, Bad> {
+fn parts_of(alloc: Global, lines: &[Line<'_>]) -> Result<Vec<Part>, Bad> {
     let widths = widths_of(lines)?;
     let mut parts = Vec::new(alloc);
     for line in lines {
-        if let Role::Act(caller) = role_of(line.verb.as_str()) {
-            parts.push(Part::of(caller, act(alloc, line.rest.as_str(), widths)?))?;
+        if let Role::Act(caller) = role_of(line.verb) {
+            parts.push(Part::of(caller, act(alloc, line.rest, widths)?))?;
         }
     }
     Ok(parts)
 }
 
 /// Adds whose the acts are that stand before the first call.
-fn add_early(order: &mut Vec<u8>, lines: &[Line]) -> Result<(), Bad> {
+fn add_early(order: &mut Vec<u8>, lines: &[Line<'_>]) -> Result<(), Bad> {
     for line in lines {
-        match role_of(line.verb.as_str()) {
+        match role_of(line.verb) {
             Role::Act(caller) => order.push(caller)?,
             Role::Call => return Ok(()),
             _ => {}
@@ -103,8 +103,8 @@ fn add_digits(order: &mut Vec<u8>, digits: &str) -> Result<(), Bad> {
 /// In which order the callers step, by its digits, or else as the lines stand. What others do in the setup comes first.
 fn order_of(
     alloc: Global,
-    setup: &[Line],
-    lines: &[Line],
+    setup: &[Line<'_>],
+    lines: &[Line<'_>],
     digits: Option<&str>,
 ) -> Result<Vec<u8>, Bad> {
     let mut order = Vec::new(alloc);
@@ -119,10 +119,10 @@ fn order_of(
 /// What others do by the lines of the setup and of the case, in the order of these digits or as the lines stand.
 pub fn script_of(
     alloc: Global,
-    setup: &[Line],
-    lines: &[Line],
+    setup: &[Line<'_>],
+    lines: &[Line<'_>],
     digits: Option<&str>,
-    all: &[Line],
+    all: &[Line<'_>],
 ) -> Result<Script, Bad> {
     let order = order_of(alloc, setup, lines, digits)?;
     let parts = parts_of(alloc, all)?;

@@ -8,8 +8,8 @@ use compactor::{CompactFault, Compacted, Queue, compact_row, drain};
 use qual_codec::Bytes;
 use row_key::Table;
 use std::alloc::Global;
-use test_readers::cell_cases::tell_hex;
 use test_readers::text::{Bad, first_word, hex, small};
+use test_readers::told::Told;
 use uid_table::Uids;
 
 /// The row of points whose bytes are these hexadecimal digits.
@@ -24,14 +24,24 @@ fn point_row(alloc: Global, digits: &str) -> Result<Row, Bad>
 }
 
 /// Adds why a row isn't compacted.
-fn tell_compact_fault(out: &mut String, fault: CompactFault) -> Result<(), Bad> {
+fn tell_compact_fault(out: &mut Told, fault: CompactFault) {
     match fault {
         CompactFault::Conflict { offset, a, b } => {
-            Ok(write!(out, "conflict at {offset}: {a} and {b}")?)
+            tell_number(out, "conflict at ", u64::from(offset));
+            out.add(": ");
+            out.signed(a);
+            out.add(" and ");
+            out.signed(b);
         }
-        CompactFault::OutOfMemory => Err(Bad::OutOfMemory),
-        CompactFault::Stopped => Ok(out.push_str("stopped")?),
+        CompactFault::OutOfMemory => out.lose(),
+        CompactFault::Stopped => out.add("stopped"),
     }
+}
+
+/// Adds a number behind a text.
+fn tell_number(out: &mut Told, before: &str, number: u64) {
+    out.add(before);
+    out.number(number);
 }
 
 /// `compact ROW`: what was done with the row.
@@ -39,29 +49,28 @@ fn compact<R: Rows + Drop>(
     alloc: Global,
     names: &mut Uids<R>,
     text: &str,
-    out: &mut String,
+    out: &mut Told,
 ) -> Result<(), Bad> {
     let row = point_row(alloc, text)?;
     match compact_row(alloc, names, &row) {
-        Ok(Compacted::Nothing) => Ok(out.push_str("nothing")?),
+        Ok(Compacted::Nothing) => out.add("nothing"),
         Ok(Compacted::Merged { before, dropped }) => {
-            Ok(write!(out, "merged {before} dropped {dropped}")?)
+            tell_number(out, "merged ", before);
+            tell_number(out, " dropped ", dropped);
         }
         Err(fault) => tell_compact_fault(out, fault),
     }
+    Ok(())
 }
 
 /// `queue ROW BASE`: whether the row was added.
-fn add(alloc: Global, queue: &mut Queue, text: &str, out: &mut String) -> Result<(), Bad> {
+fn add(alloc: Global, queue: &mut Queue, text: &str, out: &mut Told) -> Result<(), Bad> {
     let (digits, base) = first_word(text);
     let base = small(base)?;
     let row = point_row(alloc, digits)?;
-    let told = if queue.add(&row, base)? {
-        "added"
-    } else {
-        "was there"
-    };
-    Ok(out.push_str(told)?)
+    let added = queue.add(&row, base)?;
+    out.add(if added { "added" } else { "was there" });
+    Ok(())
 }
 
 /// `drain BEFORE MAX`: what became of the rows.
@@ -70,29 +79,27 @@ fn drain_queue<R: Rows + Drop>(
     names: &mut Uids<R>,
     queue: &mut Queue,
     text: &str,
-    out: &mut String,
+    out: &mut Told,
 ) -> Result<(), Bad> {
     let (before, max) = first_word(text);
     match drain(alloc, names, queue, small(before)?, small(max)?) {
         Ok(drained) => {
-            let done = drained.done;
-            let conflicts = drained.conflicts;
-            Ok(write!(out, "done {done} conflicts {conflicts}")?)
+            tell_number(out, "done ", u64::from(drained.done));
+            tell_number(out, " conflicts ", u64::from(drained.conflicts));
         }
         Err(fault) => tell_rows_fault(out, fault),
     }
+    Ok(())
 }
 
 /// `pop`: how many rows there are, and the first one, which is taken out.
-fn pop(queue: &mut Queue, out: &mut String) -> Result<(), Bad> {
-    let len = queue.len();
-    write!(out, "{len}")?;
+fn pop(queue: &mut Queue, out: &mut Told) {
+    out.number(queue.len());
     if let Some(first) = queue.pop() {
-        let base = first.base;
-        write!(out, " {base} ")?;
-        tell_hex(out, first.row.bytes.list())?;
+        tell_number(out, " ", u64::from(first.base));
+        out.add(" ");
+        out.hex(first.row.bytes.list());
     }
-    Ok(())
 }
 
 /// Makes the call of a line.
@@ -102,13 +109,16 @@ pub fn call<R: Rows + Drop>(
     queue: &mut Queue,
     verb: &str,
     rest: &str,
-    out: &mut String,
+    out: &mut Told,
 ) -> Result<(), Bad> {
     match verb {
         "compact" => compact(alloc, names, rest, out),
         "queue" => add(alloc, queue, rest, out),
         "drain" => drain_queue(alloc, names, queue, rest, out),
-        "pop" => pop(queue, out),
+        "pop" => {
+            pop(queue, out);
+            Ok(())
+        }
         _ => Err(Bad::Line("no verb of a store")),
     }
 }

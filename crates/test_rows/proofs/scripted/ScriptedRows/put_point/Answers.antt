@@ -1,9 +1,9 @@
-use Rattle.std.proofs.Common.{subst, sym, arith}
+use Rattle.std.proofs.Common.{◌≡◌, subst, sym, arith}
 use Rattle.tsd_base.specs.Points.{data_point}
 use Rattle.cell_model.specs.Seen.{Waited, IsPossible, RoseIfStopped}
 use Rattle.cell_solo.specs.Turns.{sight}
 use Rattle.test_rows.specs.Sharing.{Scene}
-use Rattle.test_rows.proofs.Passing.{wait_step, waits_join, first_kept, put_waits}
+use Rattle.test_rows.proofs.Passing.{wait_step, waits_join, first_kept, stands_too, put_waits}
 use Rattle.cell_solo.proofs.CallerLemmas.{stayed, lives_on, on_ok, if_err}
 use Rattle.test_rows.proofs.scripted.ScriptedRows.put_point.Goals as goal
 
@@ -36,6 +36,10 @@ returns-clause-lives c = if_err c.put_point.result
 
 pub returns-clause-stopped : goal.returns-clause-stopped
 returns-clause-stopped c = if_err c.put_point.result (λ e is. subst (RoseIfStopped c.args.self.now.stops c.self.inside.stops) (sym is) tt) c.put_point.ensures.memory
+
+pub returns-clause-stands : goal.returns-clause-stands
+returns-clause-stands c = stands_too c.args.self.now.stops c.self.inside.stops c.put_point.result
+    (subst (λ (v : Scene). v.stops ≡ c.args.self.now.stops) (sym c.self.view_is) c.let_others.ensures.stops) c.put_point.ensures.memory
 
 pub returns-clause-spare : goal.returns-clause-spare
 returns-clause-spare c = on_ok c.put_point.result (λ steps. omega arith) c.put_point.ensures.steps

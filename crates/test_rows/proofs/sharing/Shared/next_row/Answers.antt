@@ -1,7 +1,7 @@
 use Rattle.cell_solo.specs.Turns.{sight}
 use Rattle.test_rows.proofs.Holding.{next_shows}
 use Rattle.test_rows.proofs.Passing.{sharing_step, sharing_stay}
-use Rattle.test_rows.proofs.sharing.SharedRows.next_row.Goals as goal
+use Rattle.test_rows.proofs.sharing.Shared.next_row.Goals as goal
 
 pub invariant_of-self : goal.invariant_of-self
 invariant_of-self c = sharing_step _ _ _ _ _ _ _ 8 c.self.invariant c.in-Ok.ensures.steps c.in-Ok.ensures.room
