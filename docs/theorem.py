@@ -19,15 +19,15 @@ BEGIN, END = "<!-- the list of docs/theorem.py -->", "<!-- the list ends -->"
 
 # each module with its definitions, in the order of reading
 PATH = [
-    ("tsd_run", "FleetStatuses", "RunsAny"),
-    ("tsd_run", "RunHeadlines", "FleetHeadline IsOwnHistory LinkHeadline RunHeadline StdioHeadline BatchHeadline PrintsPlainly IsPlainOver reads_in"),
+    ("tsd_run", "RunHeadlines", "RunHeadline LoneHeadline FleetHeadline BeginsSo IsOwnHistory LinkHeadline StdioHeadline BatchHeadline PrintsPlainly IsPlainOver reads_in"),
+    ("command_words", "CommandWords", "fleet_asked"),
     ("tsd_daemon", "Headline", "Headline OneIdEach RepliedPlainly IsPlain ArePlain AnsweredFrom"),
     ("tsd_daemon", "TakenInTurn", "TakenInTurn InTurn answers_all"),
     ("query_run", "Invisible", "AcceptedFor IsOneValued"),
     ("row_scan", "RowReadings", "Chosen"),
     ("query_run", "AskedQueries", "wanted is_wanted answer_over"),
     ("http_api", "HttpAnswers", "IsReplyTo QueryTells Told told"),
-    ("tsd_daemon", "Exchanges", "Exchange requests_in replies_in moments_in moment_for"),
+    ("tsd_daemon", "Exchanges", "Exchange requests_in replies_in moments_in moment_by moment_for"),
     ("tsd_daemon", "ConnRequests", "ConnRequest asks_clock point_asked conn_requests begins_http is_capital telnet_asks http_asks"),
     ("tsd_daemon", "ServedConns", "Passes"),
     ("tsd_daemon", "ConnClocks", "Gave"),
@@ -35,7 +35,6 @@ PATH = [
     ("site_workers", "GatheredLinks", "CallerLinks links_of returned_by"),
     ("link_workers", "Returns", "AllEnd"),
     ("tsd_fleet", "FleetServes", "IsTally"),
-    ("serve_job", "FleetRuns", "summary_lines"),
     ("tsd_run", "Runs", "HasStatus"),
     ("tsd_run", "BatchQueries", "query_of"),
     ("tsd_run", "Outcomes", "replied refused_query refused Outcome"),
@@ -43,7 +42,7 @@ PATH = [
 
 # what isn't read further, by the name of its paragraph
 LEAVES = {
-    "A lawful history": [("cell_model", "History", "History first len store_after"), ("cell_model", "Lawful", "IsLawful")],
+    "A lawful history": [("cell_model", "History", "History base_of first len store_after"), ("cell_model", "Lawful", "IsLawful")],
     "Names and ids": [("cell_model", "IdRows", "id_of NameOf IsResolved")],
     "Points and readings": [("cell_model", "Readings", "Reading OneValued Accepted reading_of"), ("tsd_base", "Points", "DataPoint")],
     "The plain answer": [("query_run", "QueryAnswers", "answer as_point"), ("group_by", "TagFilters", "passes"), ("tsd_base", "Tags", "is_same")],
@@ -56,13 +55,19 @@ LEAVES = {
     ],
     "What bytes ask": [
         ("telnet_put", "Requests", "Request requests_of"),
-        ("http_exchange", "HttpRequests", "requests_of"),
+        ("http_requests", "HttpRequests", "requests_of"),
         ("http_api", "CallWork", "work_of asks_clock Work"),
         ("command_words", "CommandWords", "asked_of Asked Batch Serve"),
         ("query_text", "Subs", "sub_of"),
         ("batch_job", "PointLines", "points_of"),
     ],
-    "What devices tell": [("tsd_io", "Ticks", "Ticks"), ("tsd_doors", "Links", "Shut")],
+    "What devices tell": [
+        ("tsd_run", "RunDevices", "Devices LoneDevices InputTold lone"),
+        ("tsd_io", "Ticks", "Ticks"),
+        ("tsd_doors", "Links", "Shut"),
+    ],
+    "An image": [("tsd_run", "FleetStatuses", "TakesStore")],
+    "The last lines": [("serve_job", "FleetRuns", "last_lines")],
     "The numbers of a store": [("cell_model", "Counts", "counters_of point_rows point_entries"), ("cell_model", "Store", "Store")],
 }
 
