@@ -23,7 +23,7 @@ use Rattle.listing_dump.specs.declared.name_ranks.NameRanks.{NameRanks}
 use Rattle.listing_dump.specs.BestDots.{AreBest, numbered}
 use Rattle.listing_dump.specs.Gifts.{Gives, GivesSome}
 use Rattle.listing_dump.specs.NameRanks.{is_ids}
-use Rattle.listing_dump.specs.PointText.{tags_text}
+use Rattle.tsd_hooks.specs.PointText.{tags_text}
 use Rattle.listing_dump.specs.RowLines.{EndsRow, cell_of_line, has_row, is_of_row, is_points}
 use Rattle.listing_dump.specs.RowPlaces.{AreRanked, HasTagRank, TagsHaveRanks}
 use Rattle.listing_dump.specs.RowPoints.{dot_text, row_at, row_text, tags_at}

@@ -14,7 +14,7 @@ use Rattle.qual_codec.specs.Order.{IsAsGood}
 use Rattle.cell_model.specs.Store.{Store, cells_of}
 use Rattle.cell_model.specs.IdRows.{name_in}
 use Rattle.cell_model.specs.Readings.{DotReads, point_row, reading_of}
-use Rattle.listing_dump.specs.PointText.{point_text}
+use Rattle.tsd_hooks.specs.PointText.{point_text}
 
 -- The dot at this place is the one that stays of its offset and value: none of the others is better, and none before it is as good.
 pub record Stays (dots : List Dot) (place : ℕ) (d : Dot) : Type 0 where

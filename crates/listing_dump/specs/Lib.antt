@@ -1,4 +1,3 @@
-pub mod PointText
 pub mod Dumps
 pub mod Gifts
 pub mod NameRanks

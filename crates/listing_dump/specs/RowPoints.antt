@@ -9,7 +9,7 @@ use Rattle.cell_model.specs.declared.row.ListLine.{ListLine}
 use Rattle.cell_model.specs.Store.{Store}
 use Rattle.listing_dump.specs.Dumps.{IsPointOfRow, PlacedPoint, placed_cmp, dump_text}
 use Rattle.listing_dump.specs.Gifts.{Gives}
-use Rattle.listing_dump.specs.PointText.{tags_text, time_text}
+use Rattle.tsd_hooks.specs.PointText.{tags_text, time_text}
 use Rattle.listing_dump.specs.declared.row_places.RowPlace.{RowPlace}
 
 -- the row of a line, which of a line of ids is a name

@@ -1,6 +1,6 @@
 //! Points as lines of text.
 ghost use Rattle.std.specs.Prelude.{◌≡◌, ◌∷◌, ◌++◌, ◌<◌, ◌≤◌, length, replicate, OnOk, All};
-ghost use Rattle.listing_dump.specs.PointText.{padded, time_text};
+ghost use Rattle.tsd_hooks.specs.PointText.{padded, time_text};
 ghost use Rattle.listing_dump.specs.RowPoints.{dot_text, row_at, tail_of};
 
 use cell_model::ListLine;
@@ -30,7 +30,7 @@ fn push_padded(text: &mut Vec<u8>, count: usize, number: u64) -> Result<(), Allo
 }
 
 /// Adds a time: its seconds, or ten digits of seconds and three of milliseconds. It fails only for want of memory.
-fn push_time(text: &mut Vec<u8>, time: u64, fine: bool) -> Result<(), AllocError>
+pub(crate) fn push_time(text: &mut Vec<u8>, time: u64, fine: bool) -> Result<(), AllocError>
     ensures { OnOk result (text.new.items ≡ text.old.items ++ time_text time fine) }
 {
     if !fine {
@@ -64,7 +64,7 @@ pub fn push_dot(
 }
 
 /// Adds a tag behind a space. It fails only for want of memory.
-fn push_tag(text: &mut Vec<u8>, key: &[u8], value: &[u8]) -> Result<(), AllocError>
+pub(crate) fn push_tag(text: &mut Vec<u8>, key: &[u8], value: &[u8]) -> Result<(), AllocError>
     ensures { OnOk result (text.new.items ≡ text.old.items ++ 32 ∷ (key.now ++ 61 ∷ value.now)) }
 {
     text.push(b' ')?;

@@ -1,1 +1,3 @@
 pub mod AllowedNames
+pub mod PointText
+pub mod FedPoints

@@ -2,7 +2,11 @@
 #![tactic(auto)]
 
 pub mod name_patterns;
+pub mod point_rule;
+pub mod printer;
 pub mod uid_rule;
 
 pub use name_patterns::Patterns;
+pub use point_rule::PointRule;
+pub use printer::Printer;
 pub use uid_rule::UidRule;

@@ -1,5 +1,5 @@
 use Rattle.std.proofs.Common.{◌≡◌, ◌++◌, take}
-use Rattle.listing_dump.specs.PointText.{tags_text}
+use Rattle.tsd_hooks.specs.PointText.{tags_text}
 use Rattle.listing_dump.specs.RowPoints.{tags_at}
 use Rattle.listing_dump.proofs.point_text.push_tail.Given as goal
 
