@@ -168,7 +168,7 @@ written_behind bytes w p at n fits le =
     ap (λ (b : List ℕ). take n (drop at (take p bytes ++ (w ++ b)))) (sym (drop-drop (length w) p bytes))
     ∙ ap (take n) (drop-put_mid p (length w) bytes w at le (omega arith) refl)
 
-written_at : (bytes w : List ℕ) (p : ℕ) → p + length w ≤ length bytes → take (length w) (drop p (overwritten bytes p w)) ≡ w
+pub written_at : (bytes w : List ℕ) (p : ℕ) → p + length w ≤ length bytes → take (length w) (drop p (overwritten bytes p w)) ≡ w
 written_at bytes w p fits = ap (take (length w)) (drop_at (take p bytes) _ p (length-take-le p bytes (omega arith))) ∙ take_at w _ (length w) refl
 
 pub written_length : (bytes w : List ℕ) (p : ℕ) → p + length w ≤ length bytes → length (overwritten bytes p w) ≡ length bytes

@@ -6,10 +6,12 @@ ghost use Rattle.std.specs.FinMap.{empty, get, insert, len};
 ghost use Rattle.packed_cells.specs.EvenCells.{places, present, even_cell, even_cells, flags_in, bytes_in, IsGrid, IsSlotAt};
 ghost use Rattle.packed_cells.specs.Keyed.{cells_in, map_of, stamped, goes, without};
 ghost use Rattle.packed_cells.specs.Seeks.{Rises};
+ghost use Rattle.packed_cells.specs.SoleCells.{sole_map};
 
 use crate::block::Block;
 use crate::plain_cells::PlainCells;
 use crate::small_value::Narrow;
+use crate::sole_cell::SoleCell;
 use crate::strip::Strip;
 use row_hours::HOUR;
 use std::alloc::{AllocError, Global};
@@ -316,6 +318,30 @@ impl EvenCells {
     {
         let cells = strip_of(&self.slots, self.first, self.step, self.alloc)?;
         Ok(PlainCells::of(Block::of(self.alloc, cells)))
+    }
+
+    // Whether there is no cell.
+    fn has_none(&self) -> bool
+        ensures { IsTrue result → self.now ≡ empty }
+    {
+        self.len() == 0
+    }
+
+    // Where the memory of the cells is taken.
+    fn alloc(&self) -> Global {
+        self.alloc
+    }
+
+    /// This cell by itself, where there is no other and it is short enough.
+    #[inline(never)]
+    pub fn sole(&self, qual: &[u8], value: &[u8], version: u64) -> Option<SoleCell>
+        ensures { IfSome result (λ cell. sole_map cell ≡ insert self.now qual.now (value.now, version)) }
+    {
+        if self.has_none() {
+            SoleCell::first(self.alloc(), qual, value, version)
+        } else {
+            None
+        }
     }
 
     /// The value of this qualifier's cell, if it is there.

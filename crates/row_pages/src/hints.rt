@@ -4,17 +4,11 @@ use crate::page::Place;
 use guess_table::{Guesses, Trail};
 use std::alloc::Global;
 
-// Where a row may be: its page, and its own place in the page.
-#[derive(Clone, Copy, Drop)]
-struct Hint {
-    page: u32,
-    row: u8,
-}
-
 /// Where rows were last found, by a hash of their bytes. Each answer is a guess, which the caller confirms.
 #[derive(Drop)]
 pub struct Hints {
-    guesses: Guesses<Hint>,
+    // The number of the place of each.
+    guesses: Guesses<u32>,
     last: Place,
     // Which place may be asked for next.
     trail: Trail,
@@ -53,11 +47,8 @@ impl Hints {
     /// Where a row of this hash may be.
     #[inline]
     pub fn guess(&self, hash: u64) -> Option<Place> {
-        let hint = self.guesses.guess(hash)?;
-        Some(Place {
-            page: hint.page as usize,
-            row: hint.row as usize,
-        })
+        let number = self.guesses.guess(hash)?;
+        Some(place_of(number as usize))
     }
 
     /// Remembers where a row of this hash is, where something else was guessed.
@@ -74,15 +65,14 @@ impl Hints {
     /// Remembers where a row of this hash is.
     #[inline]
     pub fn keep(&mut self, hash: u64, place: Place) {
-        let (Ok(page), Ok(row)) = (u32::try_from(place.page), u8::try_from(place.row)) else {
-            return;
-        };
-        self.guesses.keep(hash, Hint { page, row });
+        if let Ok(number) = u32::try_from(number_of(place)) {
+            self.guesses.keep(hash, number);
+        }
     }
 
     /// Makes more slots where they are few for this many rows, if there is memory.
     pub fn grow(&mut self, rows: usize) {
-        self.guesses.grow(rows, Hint { page: 0, row: 0 });
+        self.guesses.grow(rows, 0);
     }
 }
 

@@ -1,5 +1,5 @@
 //! Rows that are put into pages, and taken out.
-ghost use Rattle.std.specs.Prelude.{◌≡◌, ◌<◌, ◌+◌, ◌++◌, ℕ, suc, List, None, IfOk, OnOk, OnErr, length, slice_index_or, take, drop};
+ghost use Rattle.std.specs.Prelude.{◌≡◌, ◌<◌, ◌+◌, ◌++◌, ℕ, suc, List, None, IfOk, OnOk, OnErr, length, slice_index_or, take, drop, insert, is_ok, vec_len, if◌then◌else◌, ◌≤◌};
 ghost use Rattle.std.specs.FinMap.{find, put};
 ghost use Rattle.list_lemmas.specs.BytesOrder.{bytes_cmp};
 ghost use Rattle.row_pages.specs.Pages.{rows_in, ArePages};
@@ -14,6 +14,9 @@ use std::alloc::{AllocError, Global};
 
 // How many rows stay in a page that is split.
 const HALF: usize = 32;
+
+// For how many rows memory is taken at a time. A page that is full has no room to spare.
+const MORE: usize = 8;
 
 /// Puts a row that isn't there, and answers where it is now. Where its page is full, that is split; but where the row is
 /// behind all others, a new page begins.
@@ -59,7 +62,7 @@ fn begin(
     ensures ok { OnOk result (rows_in pages.new.items ≡ put bytes_cmp row cells (rows_in pages.old.items)) }
     ensures err { OnErr result (pages.new.items ≡ pages.old.items) }
 {
-    let mut rows = Vec::with_capacity(alloc, 4)?;
+    let mut rows = Vec::with_capacity(alloc, MORE)?;
     rows.push((row, cells))?;
     let place = Place {
         page: pages.len(),
@@ -105,8 +108,25 @@ fn put_at(
     ensures err { OnErr result (rows_in pages.new.items ≡ rows_in pages.old.items) }
 {
     let page = &mut pages[gap.page];
-    page.rows.insert(gap.row, (row, cells))?;
+    place_row(&mut page.rows, gap.row, row, cells)?;
     Ok(gap)
+}
+
+// Puts a row among those of a page. Memory is taken for a few rows at a time, since most pages stay as they are.
+fn place_row(
+    rows: &mut Vec<(Bytes, RowCells)>,
+    at: usize,
+    row: Bytes,
+    cells: RowCells,
+) -> Result<(), AllocError>
+    requires { at ≤ length rows.old.items }
+    ensures items { rows.new.items ≡ (if is_ok result then insert rows.old.items at (row, cells) else rows.old.items) }
+{
+    if rows.len() == rows.capacity() {
+        rows.reserve_exact(MORE)?;
+    }
+    rows.insert(at, (row, cells))?;
+    Ok(())
 }
 
 // Puts the second half of a full page into a page of its own, and answers where the gap is now.
@@ -122,7 +142,7 @@ fn split(pages: &mut Vec<Page>, alloc: Global, gap: Place) -> Result<Place, Allo
     pages.reserve(1)?;
     let page = &mut pages[gap.page];
     let least = page.rows[HALF].0.again(alloc)?;
-    let rows = page.rows.split_off(HALF)?;
+    let rows = cut(&mut page.rows)?;
     pages.insert(gap.page + 1, Page { least, rows })?;
     if gap.row <= HALF {
         return Ok(gap);
@@ -131,6 +151,20 @@ fn split(pages: &mut Vec<Page>, alloc: Global, gap: Place) -> Result<Place, Allo
         page: gap.page + 1,
         row: gap.row - HALF,
     })
+}
+
+// Takes the second half of rows out. The first gives back the memory that it no longer needs.
+fn cut(rows: &mut Vec<(Bytes, RowCells)>) -> Result<Vec<(Bytes, RowCells)>, AllocError>
+    requires { 32 ≤ length rows.old.items }
+    ensures items { OnOk result (rows.new.items ≡ take 32 rows.old.items) }
+    ensures len { OnOk result (vec_len rows.new ≡ 32) }
+    ensures tail { IfOk result (λ w. w.items ≡ drop 32 rows.old.items) }
+    ensures tail_len { IfOk result (λ w. vec_len w + 32 ≡ vec_len rows.old) }
+    ensures err { OnErr result (rows.new ≡ rows.old) }
+{
+    let half = rows.split_off(HALF)?;
+    rows.shrink_to_fit();
+    Ok(half)
 }
 
 /// Takes a row out, and its page where no other is left.

@@ -8,7 +8,7 @@ use Rattle.row_pages.proofs.page_edits.split.Goals as goal
 pub returns-then-gap-le-HALF-clause-pages : goal.returns-then-gap-le-HALF-clause-pages
 returns-then-gap-le-HALF-clause-pages c =
     rw c.in_ok-insert.ensures.items
-    (split_pages c.reserve.new.self.items c.args.gap.page c.index_mut-page.result.now (record { least = c.index_mut-page.result.now.least; rows = c.split_off.new.self }) (record { least = c.in_ok-least.least; rows = c.in_ok-rows.rows }) c.index.result.now
+    (split_pages c.reserve.new.self.items c.args.gap.page c.index_mut-page.result.now (record { least = c.index_mut-page.result.now.least; rows = c.cut.new.rows }) (record { least = c.in_ok-least.least; rows = c.in_ok-rows.rows }) c.index.result.now
     (subst ArePages (sym c.in_ok-reserve.ensures.items) c.requires.pages) (subst (λ (ps : List Page). c.args.gap.page < length ps) (sym c.in_ok-reserve.ensures.items) c.requires.page) c.index_mut-page.ensures.value
     (full_at c.args.pages.now.items c.reserve.new.self.items c.args.gap.page c.index_mut-page.result.now c.in_ok-reserve.ensures.items c.index_mut-page.ensures.value c.requires.full)
     c.index.ensures refl c.in_ok-rows.ensures.items c.in_ok-least.ensures.made c.in_ok-rows.ensures.tail)
@@ -16,7 +16,7 @@ returns-then-gap-le-HALF-clause-pages c =
 pub returns-then-gap-le-HALF-clause-rows : goal.returns-then-gap-le-HALF-clause-rows
 returns-then-gap-le-HALF-clause-rows c =
     rw c.in_ok-insert.ensures.items
-    (split_rows c.reserve.new.self.items c.args.gap.page c.index_mut-page.result.now (record { least = c.index_mut-page.result.now.least; rows = c.split_off.new.self }) (record { least = c.in_ok-least.least; rows = c.in_ok-rows.rows }) c.index.result.now
+    (split_rows c.reserve.new.self.items c.args.gap.page c.index_mut-page.result.now (record { least = c.index_mut-page.result.now.least; rows = c.cut.new.rows }) (record { least = c.in_ok-least.least; rows = c.in_ok-rows.rows }) c.index.result.now
     (subst ArePages (sym c.in_ok-reserve.ensures.items) c.requires.pages) (subst (λ (ps : List Page). c.args.gap.page < length ps) (sym c.in_ok-reserve.ensures.items) c.requires.page) c.index_mut-page.ensures.value
     (full_at c.args.pages.now.items c.reserve.new.self.items c.args.gap.page c.index_mut-page.result.now c.in_ok-reserve.ensures.items c.index_mut-page.ensures.value c.requires.full)
     c.index.ensures refl c.in_ok-rows.ensures.items c.in_ok-least.ensures.made c.in_ok-rows.ensures.tail
@@ -25,7 +25,7 @@ returns-then-gap-le-HALF-clause-rows c =
 pub returns-then-gap-le-HALF-clause-gap : goal.returns-then-gap-le-HALF-clause-gap
 returns-then-gap-le-HALF-clause-gap c k gap =
     rw c.in_ok-insert.ensures.items
-    (split_first c.reserve.new.self.items c.args.gap.page c.index_mut-page.result.now (record { least = c.index_mut-page.result.now.least; rows = c.split_off.new.self }) (record { least = c.in_ok-least.least; rows = c.in_ok-rows.rows }) c.index.result.now
+    (split_first c.reserve.new.self.items c.args.gap.page c.index_mut-page.result.now (record { least = c.index_mut-page.result.now.least; rows = c.cut.new.rows }) (record { least = c.in_ok-least.least; rows = c.in_ok-rows.rows }) c.index.result.now
     (subst ArePages (sym c.in_ok-reserve.ensures.items) c.requires.pages) (subst (λ (ps : List Page). c.args.gap.page < length ps) (sym c.in_ok-reserve.ensures.items) c.requires.page) c.index_mut-page.ensures.value
     (full_at c.args.pages.now.items c.reserve.new.self.items c.args.gap.page c.index_mut-page.result.now c.in_ok-reserve.ensures.items c.index_mut-page.ensures.value c.requires.full)
     c.index.ensures refl c.in_ok-rows.ensures.items c.in_ok-least.ensures.made c.in_ok-rows.ensures.tail
@@ -34,7 +34,7 @@ returns-then-gap-le-HALF-clause-gap c k gap =
 pub returns-clause-pages : goal.returns-clause-pages
 returns-clause-pages c =
     rw c.in_ok-insert.ensures.items
-    (split_pages c.reserve.new.self.items c.args.gap.page c.index_mut-page.result.now (record { least = c.index_mut-page.result.now.least; rows = c.split_off.new.self }) (record { least = c.in_ok-least.least; rows = c.in_ok-rows.rows }) c.index.result.now
+    (split_pages c.reserve.new.self.items c.args.gap.page c.index_mut-page.result.now (record { least = c.index_mut-page.result.now.least; rows = c.cut.new.rows }) (record { least = c.in_ok-least.least; rows = c.in_ok-rows.rows }) c.index.result.now
     (subst ArePages (sym c.in_ok-reserve.ensures.items) c.requires.pages) (subst (λ (ps : List Page). c.args.gap.page < length ps) (sym c.in_ok-reserve.ensures.items) c.requires.page) c.index_mut-page.ensures.value
     (full_at c.args.pages.now.items c.reserve.new.self.items c.args.gap.page c.index_mut-page.result.now c.in_ok-reserve.ensures.items c.index_mut-page.ensures.value c.requires.full)
     c.index.ensures refl c.in_ok-rows.ensures.items c.in_ok-least.ensures.made c.in_ok-rows.ensures.tail)
@@ -42,7 +42,7 @@ returns-clause-pages c =
 pub returns-clause-rows : goal.returns-clause-rows
 returns-clause-rows c =
     rw c.in_ok-insert.ensures.items
-    (split_rows c.reserve.new.self.items c.args.gap.page c.index_mut-page.result.now (record { least = c.index_mut-page.result.now.least; rows = c.split_off.new.self }) (record { least = c.in_ok-least.least; rows = c.in_ok-rows.rows }) c.index.result.now
+    (split_rows c.reserve.new.self.items c.args.gap.page c.index_mut-page.result.now (record { least = c.index_mut-page.result.now.least; rows = c.cut.new.rows }) (record { least = c.in_ok-least.least; rows = c.in_ok-rows.rows }) c.index.result.now
     (subst ArePages (sym c.in_ok-reserve.ensures.items) c.requires.pages) (subst (λ (ps : List Page). c.args.gap.page < length ps) (sym c.in_ok-reserve.ensures.items) c.requires.page) c.index_mut-page.ensures.value
     (full_at c.args.pages.now.items c.reserve.new.self.items c.args.gap.page c.index_mut-page.result.now c.in_ok-reserve.ensures.items c.index_mut-page.ensures.value c.requires.full)
     c.index.ensures refl c.in_ok-rows.ensures.items c.in_ok-least.ensures.made c.in_ok-rows.ensures.tail
@@ -51,7 +51,7 @@ returns-clause-rows c =
 pub returns-clause-gap : goal.returns-clause-gap
 returns-clause-gap c k gap =
     rw c.in_ok-insert.ensures.items
-    (split_second c.reserve.new.self.items c.args.gap.page c.index_mut-page.result.now (record { least = c.index_mut-page.result.now.least; rows = c.split_off.new.self }) (record { least = c.in_ok-least.least; rows = c.in_ok-rows.rows }) c.index.result.now
+    (split_second c.reserve.new.self.items c.args.gap.page c.index_mut-page.result.now (record { least = c.index_mut-page.result.now.least; rows = c.cut.new.rows }) (record { least = c.in_ok-least.least; rows = c.in_ok-rows.rows }) c.index.result.now
     (subst ArePages (sym c.in_ok-reserve.ensures.items) c.requires.pages) (subst (λ (ps : List Page). c.args.gap.page < length ps) (sym c.in_ok-reserve.ensures.items) c.requires.page) c.index_mut-page.ensures.value
     (full_at c.args.pages.now.items c.reserve.new.self.items c.args.gap.page c.index_mut-page.result.now c.in_ok-reserve.ensures.items c.index_mut-page.ensures.value c.requires.full)
     c.index.ensures refl c.in_ok-rows.ensures.items c.in_ok-least.ensures.made c.in_ok-rows.ensures.tail
