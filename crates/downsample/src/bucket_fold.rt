@@ -1,10 +1,10 @@
 //! The buckets of a series, made while its points come.
-ghost use Rattle.std.specs.Prelude.{◌≡◌, ◌≤◌, ◌^◌, ◌++◌, ◌∷◌, [], List, ℕ, ℤ, OnOk, OnErr};
+ghost use Rattle.std.specs.Prelude.{◌≡◌, ◌≤◌, ◌++◌, ◌∷◌, [], List, ℕ, ℤ, OnOk, OnErr};
 ghost use Rattle.downsample.specs.Folding.{in_buckets};
 ghost use Rattle.downsample.specs.Downsampling.{GivesDown};
 ghost use Rattle.tsd_base.specs.Dots.{IsAboveAll, IsRising};
 ghost use Rattle.lerp_aggregate.specs.Tally.{HasRoom};
-ghost use Rattle.downsample.specs.BucketFolds.{Closes, Finishes, Folds, FoldsMore, Follows, Holds, IsNext};
+ghost use Rattle.downsample.specs.BucketFolds.{Closes, Finishes, Folds, FoldsBehind, FoldsMore, Follows, Holds, IsLength, IsNext};
 
 use crate::downsampling::DownFault;
 use crate::intervals::bucket_of;
@@ -13,10 +13,13 @@ use std::alloc::{AllocError, Global};
 use tsd_base::dots::Dots;
 use tsd_base::kinds::Function;
 
+/// The longest bucket into which points are folded, in milliseconds.
+pub const LONGEST: u64 = 1_000_000_000_000_000_000;
+
 /// The closed buckets of a series, and the one of its latest points.
 #[derive(Drop)]
 pub struct BucketFold {
-    /// The length of a bucket, in milliseconds.
+    /// The length of a bucket, in milliseconds, from 1 to [`LONGEST`].
     pub interval: u64,
     /// What the values of a bucket make.
     pub function: Function,
@@ -29,7 +32,7 @@ pub struct BucketFold {
 impl BucketFold {
     /// Of no points.
     pub fn make(alloc: Global, interval: u64, function: Function) -> BucketFold
-        requires { 1 ≤ interval }
+        requires { IsLength interval }
         ensures interval { result.interval ≡ interval }
         ensures function { result.function ≡ function }
         ensures folds { Folds result [] }
@@ -43,13 +46,25 @@ impl BucketFold {
         }
     }
 
-    /// Folds a later point. It fails only for want of memory, and then nothing changes.
-    pub fn add(&mut self, time: u64, value: i64) -> Result<(), AllocError>
+    /// What goes on behind the closed buckets of this one, with its open one.
+    fn going_on(&self, alloc: Global) -> BucketFold
+        ensures { result ≡ record self.now { closed = [] } }
+    {
+        BucketFold {
+            interval: self.interval,
+            function: self.function,
+            closed: Dots::make(alloc),
+            latest: self.latest,
+            large: self.large,
+        }
+    }
+
+    /// Folds a later point. It fails only for want of memory.
+    fn add(&mut self, time: u64, value: i64) -> Result<(), AllocError>
         requires { IsNext self.old time }
         ensures interval { self.new.interval ≡ self.old.interval }
         ensures function { self.new.function ≡ self.old.function }
-        ensures ok { OnOk result ((points : List (ℕ × ℤ)) → Folds self.old points → IsAboveAll time points → Folds self.new (points ++ (time, value) ∷ [])) }
-        ensures err { OnErr result (self.new ≡ self.old) }
+        ensures ok { OnOk result ((front points : List (ℕ × ℤ)) → FoldsBehind front self.old points → IsAboveAll time points → FoldsBehind front self.new (points ++ (time, value) ∷ [])) }
     {
         if let Some(latest) = &mut self.latest {
             if time - latest.bucket < self.interval {
@@ -66,7 +81,7 @@ impl BucketFold {
 
     /// The points of all buckets, or the first bucket whose sum leaves `i64`.
     pub fn finish(self) -> Result<Dots, DownFault>
-        requires folds { (points : List (ℕ × ℤ)) × Folds self points × IsAboveAll (2 ^ 43) points }
+        requires folds { (points : List (ℕ × ℤ)) × Folds self points }
         ensures { (points : List (ℕ × ℤ)) → Folds self points → GivesDown result (in_buckets self.function self.interval points) }
     {
         let BucketFold {
@@ -127,13 +142,34 @@ fn close(
     Ok(())
 }
 
-/// Folds later points. It fails only for want of memory, and then some of them may be folded.
-pub fn fold_all(fold: &mut BucketFold, later: &[(u64, i64)]) -> Result<(), AllocError>
+/// Folds later points. It fails only for want of memory, and then nothing changes.
+pub fn fold_all(
+    alloc: Global,
+    fold: &mut BucketFold,
+    later: &[(u64, i64)],
+) -> Result<(), AllocError>
     requires rising { IsRising later.now }
-    requires follows { Follows fold.old later.now }
+    requires follows { Follows [] fold.old later.now }
     ensures interval { fold.new.interval ≡ fold.old.interval }
     ensures function { fold.new.function ≡ fold.old.function }
-    ensures ok { OnOk result (FoldsMore fold.old fold.new later.now) }
+    ensures ok { OnOk result (FoldsMore [] fold.old fold.new later.now) }
+    ensures err { OnErr result (fold.new ≡ fold.old) }
+{
+    let mut more = fold.going_on(alloc);
+    fold_each(&mut more, later)?;
+    fold.closed.append(&more.closed)?;
+    fold.latest = more.latest;
+    fold.large = more.large;
+    Ok(())
+}
+
+/// Folds later points one by one. It fails only for want of memory, and then some of them may be folded.
+fn fold_each(fold: &mut BucketFold, later: &[(u64, i64)]) -> Result<(), AllocError>
+    requires rising { IsRising later.now }
+    requires follows { (front : List (ℕ × ℤ)) × Follows front fold.old later.now }
+    ensures interval { fold.new.interval ≡ fold.old.interval }
+    ensures function { fold.new.function ≡ fold.old.function }
+    ensures ok { OnOk result ((front : List (ℕ × ℤ)) → FoldsMore front fold.old fold.new later.now) }
 {
     for dot in later {
         fold.add(dot.0, dot.1)?;

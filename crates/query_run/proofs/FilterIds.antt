@@ -4,6 +4,7 @@ use Rattle.std.specs.Prelude.{Contains, Option, Some, ◌&&◌, ◌||◌, not, n
 use Rattle.std.specs.List.{list_any}
 use Rattle.std.specs.Cmp.Lexicographic.{bytes_decides}
 use Rattle.std.proofs.lemmas.Bool.Decides.{nat_tests}
+use Rattle.std.proofs.lemmas.List.Sorted.{list_any-IsPermutation}
 use Rattle.tsd_base.specs.declared.kinds.Kind.{Kind}
 use Rattle.tsd_base.specs.declared.kinds.Kind.TheVariants.{TagKey, TagValue}
 use Rattle.tsd_base.specs.TagList.{Pair, is_same}
@@ -23,7 +24,7 @@ use Rattle.group_by.specs.TagFilters as by_name
 use Rattle.query_run.specs.declared.id_filter.IdTest.{IdTest}
 use Rattle.query_run.specs.declared.id_filter.IdTest.TheVariants.{Any, OneOf, NotOneOf}
 use Rattle.query_run.specs.declared.id_filter.IdFilter.{IdFilter}
-use Rattle.query_run.specs.IdFilters.{passes, passes_filter, passes_test, AreIds, IsIdTest, IsIdFilter, AreIdFilters}
+use Rattle.query_run.specs.IdFilters.{passes, passes_filter, passes_test, AreIds, AreIdsOf, IsIdTest, IsIdFilter, AreIdFilters}
 use Rattle.query_run.proofs.Lower as lower
 use Rattle.query_run.proofs.AnyOf.{in_any, any_in}
 use Rattle.query_run.proofs.RowReadings.{PicksBy}
@@ -71,16 +72,19 @@ module _ (g : History) (s : Seen) (now : (kind : Kind) (name : List ℕ) (id : �
   any_value (name ∷ names) [] v i z b = absurd z
   any_value (name ∷ names) (id ∷ ids) v i z b = λ k. same_value name v id i (now TagValue name id z.0) b k || any_value names ids v i z.1 b k
 
+  any_of : (names : List (List ℕ)) (ids : List ℕ) (v : List ℕ) (i : ℕ) → AreIdsOf s names ids → IsId g TagValue v i → list_any (nat_eq i) ids ≡ list_any (is_same v) names
+  any_of names ids v i (listed, are, same) b = sym (list_any-IsPermutation (nat_eq i) listed ids same) ∙ any_value names listed v i are b
+
   test_same : (test : Test) (by : IdTest) (v : List ℕ) (i : ℕ) → IsIdTest s test by → IsId g TagValue v i → passes_test by i ≡ by_name.passes_test test v
   test_same text.Any Any v i h b = refl
   test_same text.Any (OneOf ids) v i h b = absurd h
   test_same text.Any (NotOneOf ids) v i h b = absurd h
   test_same (text.OneOf names) Any v i h b = absurd h
-  test_same (text.OneOf names) (OneOf ids) v i h b = any_value names ids.items v i h b
+  test_same (text.OneOf names) (OneOf ids) v i h b = any_of names ids v i h b
   test_same (text.OneOf names) (NotOneOf ids) v i h b = absurd h
   test_same (text.NotOneOf names) Any v i h b = absurd h
   test_same (text.NotOneOf names) (OneOf ids) v i h b = absurd h
-  test_same (text.NotOneOf names) (NotOneOf ids) v i h b = ap not (any_value names ids.items v i h b)
+  test_same (text.NotOneOf names) (NotOneOf ids) v i h b = ap not (any_of names ids v i h b)
 
   module _ (pairs : List (ℕ × ℕ)) (tags : List Pair) (named : Named (name_of g) pairs tags) (key_of : (p : ℕ × ℕ) (name : List ℕ) → Contains pairs p → name_of g TagKey p.0 ≡ Some name → IsId g TagKey name p.0)
       (value_of : (p : ℕ × ℕ) (name : List ℕ) → Contains pairs p → name_of g TagValue p.1 ≡ Some name → IsId g TagValue name p.1) where

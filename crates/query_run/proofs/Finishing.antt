@@ -1,18 +1,17 @@
 -- What was kept of series, finished one after the other.
-use Rattle.std.proofs.Common.{◌≡◌, ℕ, ℤ, ◌<◌, ◌≤◌, ◌^◌, List, [], ◌∷◌, map, get_or, sym, ap, subst, ◌∙◌, arith}
+use Rattle.std.proofs.Common.{◌≡◌, ℕ, ℤ, ◌≤◌, List, [], ◌∷◌, map, get_or, sym, ap, subst, ◌∙◌, arith}
 use Rattle.std.specs.Global.{Box}
 use Rattle.std.specs.Prelude.{All, IfSome, box_value, Option, Some, None, Result}
-use Rattle.std.proofs.lemmas.List.Elements.{All-head, All-tail, All-map, recursion_from_All}
+use Rattle.std.proofs.lemmas.List.Elements.{All-head, All-tail, All-map}
 use Rattle.tsd_base.specs.declared.times.TheConstants.{LAST_TIME}
 use Rattle.tsd_base.specs.declared.kinds.Down.{Down}
-use Rattle.tsd_base.specs.Dots.{IsAboveAll}
 use Rattle.downsample.specs.Downsampling.{GivesDown}
 use Rattle.downsample.specs.declared.downsampling.DownFault.{DownFault}
 use Rattle.downsample.specs.declared.bucket_fold.BucketFold.{BucketFold}
 use Rattle.span_merge.specs.KeptPoints.{FoldsBy, FoldsFor}
 use Rattle.span_merge.specs.KeptPoints as kept_points
-use Rattle.span_merge.specs.declared.kept.Kept.{Kept}
-use Rattle.span_merge.specs.declared.kept.Kept.TheVariants.{Points, Buckets}
+use Rattle.span_merge.specs.declared.kept_points.Kept.{Kept}
+use Rattle.span_merge.specs.declared.kept_points.Kept.TheVariants.{Points, Buckets}
 use Rattle.query_run.specs.declared.named_series.Series as kept
 use Rattle.query_run.specs.QueryAnswers.{all_or_least, down_to}
 use Rattle.query_run.specs.SeriesGroups.{IsDown, Keeps}
@@ -40,9 +39,6 @@ is_down how down start end is can = subst (λ (h : Option Down). IfSome h (IsDow
 
 early_all : (end : ℕ) (points : List (ℕ × ℤ)) → end ≤ LAST_TIME → All (λ (d : ℕ × ℤ). d.0 ≤ end) points → AreEarly points
 early_all end points most high k d within = let up : (get_or points k d).0 ≤ end = high k d within in omega (arith, most, up)
-
-pub all_early : (end : ℕ) (points : List (ℕ × ℤ)) → end ≤ LAST_TIME → All (λ (d : ℕ × ℤ). d.0 ≤ end) points → IsAboveAll (2 ^ 43) points
-all_early end points most high = recursion_from_All (λ (d : ℕ × ℤ). d.0 < 2 ^ 43) points (early_all end points most high)
 
 -- ---- one after the other
 

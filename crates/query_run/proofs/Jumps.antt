@@ -19,7 +19,8 @@ use Rattle.query_run.specs.declared.id_filter.IdTest.{IdTest}
 use Rattle.query_run.specs.declared.id_filter.IdTest.TheVariants.{OneOf}
 use Rattle.query_run.specs.declared.id_filter.IdFilter.{IdFilter}
 use Rattle.query_run.specs.IdFilters.{passes_filter, passes_test}
-use Rattle.query_run.specs.KeyJumps.{IsFromTo, JumpsOver, IsBehind, IsLeastAbove, IsNextId, IsNextValue}
+use Rattle.query_run.specs.IdSets.{IsLeastAbove}
+use Rattle.query_run.specs.KeyJumps.{IsFromTo, JumpsOver, IsBehind, IsNextId, IsNextValue}
 use Rattle.query_run.proofs.AnyOf.{in_any, any_in}
 use Rattle.query_run.proofs.Lower as lower
 use Rattle.query_run.proofs.PairOrder.{Lesser, then_assoc, tied, not_under, under, less_is, same_then, never_below_none, behind_front, value_above, ValueBetween, value_between, first_from, rising_front, rising_rest, hour_tied}
@@ -272,31 +273,6 @@ hour_behind widths key target is metric base fits pairs = record {
 
 -- ---- for the loops
 
--- one more id that isn't above the value, or is above the greatest
-pub passed_by : (most value id : ℕ) (ids : List ℕ) (least : Option ℕ) → (id ≤ value) ⊎ (most < id) → IsLeastAbove most value ids least → IsLeastAbove most value (ids ++ id ∷ []) least
-passed_by most value id ids (Some least) out (above, small, all) = (above, small, All-push (λ x. value < x → least ≤ x) ids id all (λ lt. elim out [ inl low ↦ absurd (omega (arith, low, lt)) | inr large ↦ omega (arith, small, large) ]))
-passed_by most value id ids None out all = All-push (λ x. value < x → most < x) ids id all (λ lt. elim out [ inl low ↦ absurd (omega (arith, low, lt)) | inr large ↦ large ])
-
--- one more that is above it, behind others
-pub lesser_of : (most value id other : ℕ) (ids : List ℕ) → value < id → id ≤ most → IsLeastAbove most value ids (Some other) → IsLeastAbove most value (ids ++ id ∷ []) (Some (min other id))
-lesser_of most value id other ids above small (above_other, small_other, all) = (
-  grind (arith, above, above_other),
-  grind (arith, small, small_other),
-  All-push (λ x. value < x → min other id ≤ x) ids id (All-weaker (λ x. value < x → other ≤ x) (λ x. value < x → min other id ≤ x) (λ x h lt. let le = h lt in grind (arith, le)) ids all) (λ lt. grind arith),
-)
-
--- the first one that is above it
-pub first_above : (most value id : ℕ) (ids : List ℕ) → value < id → id ≤ most → IsLeastAbove most value ids None → IsLeastAbove most value (ids ++ id ∷ []) (Some id)
-first_above most value id ids above small all = (
-  above,
-  small,
-  All-push (λ x. value < x → id ≤ x) ids id (All-weaker (λ x. value < x → most < x) (λ x. value < x → id ≤ x) (λ x h lt. let large = h lt in omega (arith, large, small)) ids all) (λ lt. omega arith),
-)
-
--- of the ids so far, and of one more
-pub above_more : (most value i : ℕ) (ids : List ℕ) (new : Option ℕ) → i < length ids → IsLeastAbove most value (take i ids ++ get_or ids i 0 ∷ []) new → IsLeastAbove most value (take (i + 1) ids) new
-above_more most value i ids new lt is = subst (λ (l : List ℕ). IsLeastAbove most value l new) (sym (take_more ids i 0 lt)) is
-
 pub before_more : (pairs : Pairs) (i id : ℕ) → i < length pairs → All (λ (p : ℕ × ℕ). p.0 < id) (take i pairs) → (get_or pairs i (0, 0)).0 < id → All (λ (p : ℕ × ℕ). p.0 < id) (take (i + 1) pairs)
 before_more pairs i id lt all its = subst (All (λ (p : ℕ × ℕ). p.0 < id)) (sym (take_more pairs i (0, 0) lt)) (All-push (λ (p : ℕ × ℕ). p.0 < id) (take i pairs) (get_or pairs i (0, 0)) all its)
 
@@ -314,14 +290,13 @@ unlisted ids value from none all id low below = not_true (list_any (nat_eq id) i
     ])
 
 -- the least of the listed ids above a value is the next one
-next_listed : (most value : ℕ) (ids : Vec ℕ) (next : Option ℕ) → list_any (nat_eq value) ids.items ≡ false → IsLeastAbove most value ids.items next → IsNextValue most (OneOf ids) value next
-next_listed most value ids (Some next) none (above, small, all) = (above, small, unlisted ids.items value next none all)
+next_listed : (most value : ℕ) (ids : List ℕ) (next : Option ℕ) → list_any (nat_eq value) ids ≡ false → IsLeastAbove most value ids next → IsNextValue most (OneOf ids) value next
+next_listed most value ids (Some next) none (above, small, all) = (above, small, unlisted ids value next none all)
 next_listed most value ids None none all =
-    λ id low small. unlisted ids.items value (most + 1) none (All-weaker (λ x. value < x → most < x) (λ x. value < x → most + 1 ≤ x) (λ x h lt. let large = h lt in omega (arith, large)) ids.items all) id low (omega (arith, small))
+    λ id low small. unlisted ids value (most + 1) none (All-weaker (λ x. value < x → most < x) (λ x. value < x → most + 1 ≤ x) (λ x h lt. let large = h lt in omega (arith, large)) ids all) id low (omega (arith, small))
 
-pub listed_next : (most : ℕ) (test : IdTest) (ids : Vec ℕ) (listed : List ℕ) (value : ℕ) (next : Option ℕ) → test ≡ OneOf ids → listed ≡ ids.items → passes_test test value ≡ false → IsLeastAbove most value listed next → IsNextValue most test value next
-listed_next most test ids listed value next is listed_is fails least =
-    subst (λ (t : IdTest). IsNextValue most t value next) (sym is) (next_listed most value ids next (ap (λ (t : IdTest). passes_test t value) (sym is) ∙ fails) (subst (λ (l : List ℕ). IsLeastAbove most value l next) listed_is least))
+pub listed_next : (most : ℕ) (test : IdTest) (ids : List ℕ) (value : ℕ) (next : Option ℕ) → test ≡ OneOf ids → passes_test test value ≡ false → IsLeastAbove most value ids next → IsNextValue most test value next
+listed_next most test ids value next is fails least = subst (λ (t : IdTest). IsNextValue most t value next) (sym is) (next_listed most value ids next (ap (λ (t : IdTest). passes_test t value) (sym is) ∙ fails) least)
 
 -- with another name of the greatest id
 pub id_named : (told most id next : ℕ) → told ≡ most → IsNextId told id (Some next) → IsNextId most id (Some next)

@@ -29,6 +29,7 @@ mod Outcomes
 mod SameOutcome
 mod SameAnswer
 mod PairOrder
+mod IdSets
 mod Jumps
 mod SkipSteps
 mod TextLemmas

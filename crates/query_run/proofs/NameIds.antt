@@ -25,6 +25,7 @@ use Rattle.query_run.specs.declared.fault.AskFault.TheVariants.{TooManyBuckets, 
 use Rattle.query_run.specs.declared.id_filter.IdTest.{IdTest}
 use Rattle.query_run.specs.declared.id_filter.IdTest.TheVariants.{Any, OneOf, NotOneOf}
 use Rattle.query_run.specs.declared.id_filter.IdFilter.{IdFilter}
+use Rattle.std.specs.List.Sorted.{IsPermutation}
 use Rattle.query_run.specs.IdFilters.{AreIds, IsIdTest, IsIdFilter}
 use Rattle.query_run.specs.Parts.{NameOf}
 use Rattle.query_run.specs.AskedQueries.{filter_names, test_names}
@@ -66,11 +67,11 @@ test_later s t text.Any Any e h = tt
 test_later s t text.Any (OneOf ids) e h = absurd h
 test_later s t text.Any (NotOneOf ids) e h = absurd h
 test_later s t (text.OneOf names) Any e h = absurd h
-test_later s t (text.OneOf names) (OneOf ids) e h = ids_later s t names ids.items e h
+test_later s t (text.OneOf names) (OneOf ids) e h = (h.0, ids_later s t names h.0 e h.1, h.2)
 test_later s t (text.OneOf names) (NotOneOf ids) e h = absurd h
 test_later s t (text.NotOneOf names) Any e h = absurd h
 test_later s t (text.NotOneOf names) (OneOf ids) e h = absurd h
-test_later s t (text.NotOneOf names) (NotOneOf ids) e h = ids_later s t names ids.items e h
+test_later s t (text.NotOneOf names) (NotOneOf ids) e h = (h.0, ids_later s t names h.0 e h.1, h.2)
 
 filter_later : (s t : Seen) (f : Filter) (by : IdFilter) → Extends s t → IsIdFilter s f by → IsIdFilter t f by
 filter_later s t f by e h = record { key = id_later s t TagKey f.key by.key e h.key; test = test_later s t f.test by.test e h.test }
@@ -238,6 +239,15 @@ value_later s t name id e h = id_later s t TagValue name id e h
 
 pub by_filter_later : (s t : Seen) (f : Filter) (by : IdFilter) → Extends s t → IsIdFilter s f by → IsIdFilter t f by
 by_filter_later s t f by e h = filter_later s t f by e h
+
+-- the ids of a test's names
+pub one_of_test : (old new : Seen) (test : Test) (names : List (List ℕ)) (listed ids : List ℕ) → test ≡ text.OneOf names → AreResolved old (map (λ name. (TagValue, name)) names) new × AreIds new names listed → IsPermutation listed ids
+    → AreResolved old (map (λ name. (TagValue, name)) (test_names test)) new × IsIdTest new test (OneOf ids)
+one_of_test old new test names listed ids is (resolved, are) same = subst (λ (t : Test). AreResolved old (map (λ name. (TagValue, name)) (test_names t)) new × IsIdTest new t (OneOf ids)) (sym is) (resolved, (listed, are, same))
+
+pub not_one_of_test : (old new : Seen) (test : Test) (names : List (List ℕ)) (listed ids : List ℕ) → test ≡ text.NotOneOf names → AreResolved old (map (λ name. (TagValue, name)) names) new × AreIds new names listed → IsPermutation listed ids
+    → AreResolved old (map (λ name. (TagValue, name)) (test_names test)) new × IsIdTest new test (NotOneOf ids)
+not_one_of_test old new test names listed ids is (resolved, are) same = subst (λ (t : Test). AreResolved old (map (λ name. (TagValue, name)) (test_names t)) new × IsIdTest new t (NotOneOf ids)) (sym is) (resolved, (listed, are, same))
 
 -- a test that names nothing
 pub any_test : (s : Seen) (test : Test) → test ≡ text.Any → AreResolved s (map (λ name. (TagValue, name)) (test_names test)) s × IsIdTest s test Any

@@ -1,6 +1,6 @@
 -- One sub query: what is said of it, by what its steps say.
 use Rattle.std.proofs.Common.{◌≡◌, ℕ, ◌≤◌, Bool, true, false, List, [], ◌∷◌, ◌++◌, length, refl, sym, ap, subst, ◌∙◌, arith}
-use Rattle.std.specs.Prelude.{ℤ, Contains, IfSome, Option, None, Some, Result, Ok, Err, map, nat_lt, if◌then◌else◌}
+use Rattle.std.specs.Prelude.{ℤ, Contains, Option, None, Some, Result, Ok, Err, map, nat_lt, if◌then◌else◌}
 use Rattle.std.specs.Global.{Vec}
 use Rattle.std.specs.List.{flat_map}
 use Rattle.std.proofs.lemmas.List.Elements.{Contains-append_right}
@@ -50,7 +50,6 @@ use Rattle.query_run.specs.ResolvedIds.{AreResolved, IsUnresolved, UnresolvedBy}
 use Rattle.query_run.specs.SeriesTags.{ArePairs, CanTitle, Titles}
 use Rattle.cell_model.specs.Stops.{CountsStops}
 use Rattle.query_run.specs.AskFaults.{is_stop}
-use Rattle.query_run.specs.SeriesGroups.{IsDown}
 use Rattle.query_run.specs.SubQuery.{AreCollected, GroupsSay, Later, SubRefused, SubSays}
 use Rattle.query_run.proofs.Lower as lower
 use Rattle.query_run.proofs.ScanLoop.{steps_joined, reads_steps}
@@ -291,10 +290,6 @@ can_title picks id start end old new spans names c p = record {
   one = one_to_one names new p.history c.shown p.lawful p.fits;
   each = pairs_titled picks old.base.widths id start end c.founds spans names c.content;
 }
-
-pub some_interval : (how : Option Down) (start end : ℕ) → IfSome how (IsDown start end) → IfSome how (λ d. 1 ≤ d.interval)
-some_interval (Some down) start end can = can.some
-some_interval None start end can = tt
 
 pub are_collected : (picks : Picks) (how : Option Down) (q : Query) (s : Sub) (id : ℕ) (old new : Seen) (c : Collected) → how ≡ down_by q.ms s.how s.down → (k : KeepsCollected picks how id q.start q.end old c new) → IsPossible new → AreCollected q s c k.spans
 are_collected picks how q s id old new c is k p = record {

@@ -1,12 +1,11 @@
 -- One row that was found, and what is taken of it.
-use Rattle.std.proofs.Common.{◌≡◌, ℕ, inl, inr, ◌+◌, ◌*◌, ◌<◌, ◌≤◌, ◌^◌, true, false, List, [], ◌∷◌, length, refl, sym, ap, subst, ◌∙◌, arith}
+use Rattle.std.proofs.Common.{◌≡◌, ℕ, inl, inr, ◌+◌, ◌*◌, ◌<◌, ◌≤◌, true, false, List, [], ◌∷◌, length, refl, sym, ap, subst, ◌∙◌, arith}
 use Rattle.std.specs.Prelude.{ℤ, All, Contains, OnOk, Option, Result, Ok, Err}
 use Rattle.std.specs.List.{AllByRecursion}
 use Rattle.std.proofs.lemmas.List.Elements.{recursion_from_All}
 use Rattle.row_key.specs.declared.widths.Widths.{Widths}
 use Rattle.row_key.specs.declared.keys.RowKey.{RowKey}
 use Rattle.row_key.specs.Key.{IsKey, key_bytes}
-use Rattle.tsd_base.specs.declared.times.TheConstants.{LAST_TIME}
 use Rattle.tsd_base.specs.declared.kinds.Down.{Down}
 use Rattle.tsd_base.specs.Dots.{IsAboveAll}
 use Rattle.cell_model.specs.declared.row.Row.{Row}
@@ -104,10 +103,6 @@ may_add widths f key start end pairs spans dots behind is row same has =
     let time : d.0 ≡ key.base * 1000 + w.0.item.offset = ap (λ (x : ℕ × ℤ). x.0) w.2 in
     subst (λ (l : List (ℕ × ℕ)). IsAboveAll d.0 (dots_of spans l)) (sym same)
     (above_more (key.base * 1000) d.0 (dots_of spans key.pairs.items) (omega (arith, time)) (recursion_from_All (λ (x : ℕ × ℤ). x.0 < key.base * 1000) (dots_of spans key.pairs.items) (behind key is row))))
-
--- and below the end of all times
-pub early_dots : (f : Found) (base start end : ℕ) (dots : List (ℕ × ℤ)) → end ≤ LAST_TIME → HasDots f.cells base start end dots → All (λ d. d.0 < 2 ^ 43) dots
-early_dots f base start end dots most has = lower.all_of (λ d. d.0 < 2 ^ 43) dots (λ d c. let high = (has.each d c).3.1 in omega (arith, high, most))
 
 -- ---- what is kept of them
 

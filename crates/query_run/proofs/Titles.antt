@@ -27,7 +27,7 @@ use Rattle.cell_model.specs.Readings.{IsNamed, Named}
 use Rattle.tsd_base.specs.declared.kinds.Down.{Down}
 use Rattle.span_merge.specs.KeptPoints.{Keeps}
 use Rattle.span_merge.specs.Spans.{Span, KeptSpan, kept_span, pairs_cmp, KeepsSpans, AreInOrder}
-use Rattle.span_merge.specs.declared.kept.Kept.{Kept}
+use Rattle.span_merge.specs.declared.kept_points.Kept.{Kept}
 use Rattle.span_merge.specs.declared.series.Series as by_ids
 use Rattle.query_run.specs.declared.named_series.Series.{Series}
 use Rattle.query_run.specs.NamedSeries as named

@@ -1,6 +1,7 @@
 -- Filters by the ids of their names.
 use Rattle.std.specs.Prelude.{ℕ, Bool, true, not, ◌&&◌, nat_eq, List}
 use Rattle.std.specs.List.{AllZip, list_any, list_all}
+use Rattle.std.specs.List.Sorted.{IsPermutation}
 use Rattle.tsd_base.specs.declared.kinds.Kind.TheVariants.{TagKey, TagValue}
 use Rattle.query_text.specs.declared.queries.Test.{Test}
 use Rattle.query_text.specs.declared.queries.Test.TheVariants as text
@@ -14,8 +15,8 @@ use Rattle.query_run.specs.declared.id_filter.IdFilter.{IdFilter}
 -- the id of a value passes the test
 abbrev pub passes_test : IdTest → ℕ → Bool
 passes_test Any id = true
-passes_test (OneOf ids) id = list_any (nat_eq id) ids.items
-passes_test (NotOneOf ids) id = not (list_any (nat_eq id) ids.items)
+passes_test (OneOf ids) id = list_any (nat_eq id) ids
+passes_test (NotOneOf ids) id = not (list_any (nat_eq id) ids)
 
 -- a pair has the id of the filter's key, and the id of its value passes the test
 abbrev pub passes_filter : IdFilter → List (ℕ × ℕ) → Bool
@@ -29,10 +30,14 @@ passes filters pairs = list_all (λ f. passes_filter f pairs) filters
 abbrev pub AreIds : Seen → List (List ℕ) → List ℕ → Type 0
 AreIds s names ids = AllZip (λ name id. HasShown s TagValue name id) names ids
 
+-- the same, whatever their order
+abbrev pub AreIdsOf : Seen → List (List ℕ) → List ℕ → Type 0
+AreIdsOf s names ids = (listed : List ℕ) × AreIds s names listed × IsPermutation listed ids
+
 abbrev pub IsIdTest : Seen → Test → IdTest → Type 0
 IsIdTest s text.Any Any = Unit {0}
-IsIdTest s (text.OneOf names) (OneOf ids) = AreIds s names ids.items
-IsIdTest s (text.NotOneOf names) (NotOneOf ids) = AreIds s names ids.items
+IsIdTest s (text.OneOf names) (OneOf ids) = AreIdsOf s names ids
+IsIdTest s (text.NotOneOf names) (NotOneOf ids) = AreIdsOf s names ids
 IsIdTest s test other = ⊥
 
 -- the filter by ids is the one of the names

@@ -3,7 +3,7 @@ use Rattle.std.specs.Prelude.{ℕ, ◌≤◌, ℤ, List, map, All, Option}
 use Rattle.tsd_base.specs.declared.kinds.Down.{Down}
 use Rattle.tsd_base.specs.TagList.{Pair}
 use Rattle.span_merge.specs.KeptPoints.{Keeps}
-use Rattle.span_merge.specs.declared.kept.Kept.{Kept}
+use Rattle.span_merge.specs.declared.kept_points.Kept.{Kept}
 use Rattle.query_run.specs.declared.named_series.Series as kept
 use Rattle.query_run.specs.NamedSeries.{Series, RiseByTags, HavePoints}
 

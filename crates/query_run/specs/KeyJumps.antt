@@ -40,11 +40,6 @@ abbrev pub IsNextId : ℕ → ℕ → Option ℕ → Type 0
 IsNextId most id (Some next) = (next ≡ id + 1) × (next ≤ most)
 IsNextId most id None = most ≤ id
 
--- of the ids above the value, up to the greatest, this is the least, and there is none where none of them is above it
-abbrev pub IsLeastAbove : ℕ → ℕ → List ℕ → Option ℕ → Type 0
-IsLeastAbove most value ids (Some least) = (value < least) × (least ≤ most) × All (λ id. value < id → least ≤ id) ids
-IsLeastAbove most value ids None = All (λ id. value < id → most < id) ids
-
 -- From the value on no id below the next one passes the test; where there is no next one, none does up to the greatest.
 abbrev pub IsNextValue : ℕ → IdTest → ℕ → Option ℕ → Type 0
 IsNextValue most test value (Some next) = (value < next) × (next ≤ most) × ((id : ℕ) → value ≤ id → id < next → passes_test test id ≡ false)

@@ -9,6 +9,7 @@ pub mod KeptSeries
 pub mod SeriesGroups
 pub mod Laws
 pub mod Invisible
+pub mod IdSets
 pub mod IdFilters
 pub mod RowNames
 pub mod RowDots

@@ -1,5 +1,5 @@
 //! The rows of a metric that pass filters, collected as the points of series by the ids of their tags.
-ghost use Rattle.std.specs.Prelude.{◌≡◌, ◌≤◌, ◌<◌, ◌^◌, ◌++◌, ◌∷◌, [], ℕ, List, All, IfSome, OnOk};
+ghost use Rattle.std.specs.Prelude.{◌≡◌, ◌≤◌, ◌++◌, ◌∷◌, [], ℕ, List, All, OnOk};
 ghost use Rattle.row_key.specs.declared.keys.RowKey.{RowKey};
 ghost use Rattle.row_key.specs.Key.{IsKey, key_bytes, most_ids};
 ghost use Rattle.cell_model.specs.Seen.{IsPossible};
@@ -55,8 +55,6 @@ fn add_dots(
     pairs: &[(u32, u32)],
     dots: Dots,
 ) -> Result<(), AllocError>
-    requires interval { IfSome how (λ d. 1 ≤ d.interval) }
-    requires early { All (λ d. d.0 < 2 ^ 43) dots }
     requires later { TakesLater how spans.old pairs.now dots }
     ensures { OnOk result ((series : List Span) → KeepsSpans how spans.old series → All (λ d. IsAboveAll d.0 (dots_of series pairs.now)) dots → AddsKept how series pairs.now dots spans.new) }
 {
@@ -92,7 +90,6 @@ fn take_row<R: Rows + Drop>(
 ) -> Result<(), AskFault>
     requires most { end ≤ LAST_TIME }
     requires row { (metric : ℕ) × FoundRow (R.seen names.old.rows) scan.old.widths metric start end found.now }
-    requires interval { IfSome how (λ d. 1 ≤ d.interval) }
     requires behind { MayTake how scan.old.widths collected.old.spans found.now }
     requires scan { scan.old.from ≡ found.now.row.bytes ++ 0 ∷ [] }
     requires possible { IsPossible (R.seen names.old.rows) }
@@ -125,7 +122,6 @@ pub(crate) fn collect<R: Rows + Drop>(
     requires metric { metric ≤ most_ids (R.seen names.old.rows).base.widths.metric }
     requires order { start ≤ end }
     requires most { end ≤ LAST_TIME }
-    requires interval { IfSome how (λ d. 1 ≤ d.interval) }
     requires possible { IsPossible (R.seen names.old.rows) }
     ensures says { CollectSays (passes filters.now) how metric start end (R.seen names.old.rows) result (R.seen names.new.rows) }
     ensures leaves { Leaves is_stop result (R.seen names.new.rows) (R.stops names.old.rows) (R.stops names.new.rows) }

@@ -2,15 +2,17 @@
 ghost use Rattle.std.specs.Prelude.{◌≡◌};
 ghost use Rattle.query_run.specs.IdFilters.{passes, passes_filter, passes_test};
 
+use crate::id_set::IdSet;
+
 /// What a filter asks of the id of its key's value.
 #[derive(Drop)]
 pub(crate) enum IdTest {
     /// Any.
     Any,
     /// One of these.
-    OneOf { ids: Vec<u32> },
+    OneOf { ids: IdSet },
     /// None of these.
-    NotOneOf { ids: Vec<u32> },
+    NotOneOf { ids: IdSet },
 }
 
 /// A filter: the series that have this key with a value that passes the test.
@@ -38,7 +40,7 @@ fn passes_test(test: &IdTest, id: u32) -> bool
 {
     match test {
         IdTest::Any => true,
-        IdTest::OneOf { ids } => ids.contains(&id),
-        IdTest::NotOneOf { ids } => !ids.contains(&id),
+        IdTest::OneOf { ids } => ids.contains(id),
+        IdTest::NotOneOf { ids } => !ids.contains(id),
     }
 }

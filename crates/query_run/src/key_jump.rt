@@ -2,7 +2,7 @@
 ghost use Rattle.std.specs.Prelude.{◌≡◌, ℕ, List, ◌∷◌, [], ◌++◌, ◌<◌, ◌≤◌, false, length, take, get_or, All, IfSome};
 ghost use Rattle.row_key.specs.Key.{IsKey, most_ids};
 ghost use Rattle.query_run.specs.IdFilters.{passes, passes_filter, passes_test};
-ghost use Rattle.query_run.specs.KeyJumps.{IsBehind, IsLeastAbove, IsNextId, IsNextValue, JumpsOver};
+ghost use Rattle.query_run.specs.KeyJumps.{IsBehind, IsNextId, IsNextValue, JumpsOver};
 
 use crate::id_filter::{IdFilter, IdTest, passes_filter};
 use arrayvec::ArrayVec;
@@ -16,30 +16,6 @@ fn next_id(id: u32, most: u32) -> Option<u32>
     if id < most { Some(id + 1) } else { None }
 }
 
-/// The least of some ids that is above a value, where one more of them is looked at.
-fn nearer(least: Option<u32>, id: u32, value: u32, most: u32) -> Option<u32>
-    ensures { (ids : List ℕ) → IsLeastAbove most value ids least → IsLeastAbove most value (ids ++ id ∷ []) result }
-{
-    if id <= value || most < id {
-        return least;
-    }
-    match least {
-        Some(other) => Some(other.min(id)),
-        None => Some(id),
-    }
-}
-
-/// The least of the ids that is above a value and up to the greatest that there can be, or None where there is none.
-fn least_above(ids: &[u32], value: u32, most: u32) -> Option<u32>
-    ensures { IsLeastAbove most value ids.now result }
-{
-    let mut least = None;
-    for id in ids {
-        least = nearer(least, *id, value, most);
-    }
-    least
-}
-
 /// Where a value fails a test, the least one above it that may pass, of those up to the greatest that there can be.
 fn next_value(test: &IdTest, value: u32, most: u32) -> Option<u32>
     requires { passes_test test.now value ≡ false }
@@ -47,7 +23,7 @@ fn next_value(test: &IdTest, value: u32, most: u32) -> Option<u32>
 {
     match test {
         IdTest::Any | IdTest::NotOneOf { .. } => next_id(value, most),
-        IdTest::OneOf { ids } => least_above(ids, value, most),
+        IdTest::OneOf { ids } => ids.least_above(value, most),
     }
 }
 

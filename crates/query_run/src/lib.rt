@@ -6,6 +6,7 @@ mod collection;
 pub mod fault;
 mod group_key;
 mod id_filter;
+mod id_set;
 mod key_jump;
 pub mod laws;
 pub mod named_series;

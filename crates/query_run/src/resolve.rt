@@ -12,6 +12,7 @@ ghost use Rattle.query_run.specs.ResolvedIds.{Resolves};
 
 use crate::fault::AskFault;
 use crate::id_filter::{IdFilter, IdTest};
+use crate::id_set::IdSet;
 use cell_model::rows::Rows;
 use query_text::queries::{Filter, Test};
 use std::alloc::Global;
@@ -74,11 +75,15 @@ fn resolve_test<R: Rows + Drop>(
         Test::Any => Ok(IdTest::Any),
         Test::OneOf { names: values } => {
             let ids = resolve_values(alloc, names, values.list())?;
-            Ok(IdTest::OneOf { ids })
+            Ok(IdTest::OneOf {
+                ids: IdSet::of(ids),
+            })
         }
         Test::NotOneOf { names: values } => {
             let ids = resolve_values(alloc, names, values.list())?;
-            Ok(IdTest::NotOneOf { ids })
+            Ok(IdTest::NotOneOf {
+                ids: IdSet::of(ids),
+            })
         }
     }
 }

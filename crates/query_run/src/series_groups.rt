@@ -17,7 +17,7 @@ use group_by::shared_tags::shared;
 use json_reply::reply::Group;
 use lerp_aggregate::aggregation::{AggFault, aggregate};
 use query_text::queries::{Query, Sub};
-use span_merge::kept::Kept;
+use span_merge::kept_points::Kept;
 use std::alloc::{AllocError, Global};
 use std::collections::BTreeMap;
 use tsd_base::dots::Dots;

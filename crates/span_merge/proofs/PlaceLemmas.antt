@@ -1,5 +1,5 @@
 -- Series before and behind a place.
-use Rattle.std.proofs.Common.{◌≡◌, ◌≢◌, ◌⊎◌, inl, inr, ℕ, ℤ, Bool, true, false, ◌+◌, ◌-◌, ◌<◌, ◌≤◌, ◌^◌, List, [], ◌∷◌, ◌++◌, length, map, reverse, refl, sym, ap, subst, ◌∙◌, slice_index_or, slice_set, arith}
+use Rattle.std.proofs.Common.{◌≡◌, ◌≢◌, ◌⊎◌, inl, inr, ℕ, ℤ, Bool, true, false, ◌+◌, ◌-◌, ◌<◌, ◌≤◌, List, [], ◌∷◌, ◌++◌, length, map, reverse, refl, sym, ap, subst, ◌∙◌, slice_index_or, slice_set, arith}
 use Rattle.std.specs.Prelude.{All, Option, None, Some, unwrap_or, take, cond, OnOk, OnErr, Result, Ok, Err}
 use Rattle.std.proofs.lemmas.List.{append_assoc, append-nil, reverse-append, map-append, take_more, take_more_set, take_all, length-set, map-set, set-get_or}
 use Rattle.std.specs.Cmp.{IsTotalOrder, on_total, then_total, nat_cmp_total, alike_right, tied_back}
@@ -17,7 +17,7 @@ use Rattle.tsd_base.specs.Dots.{IsAboveAll}
 use Rattle.tsd_base.specs.declared.kinds.Down.{Down}
 use Rattle.span_merge.specs.KeptPoints.{Keeps, KeepsMore, Takes}
 use Rattle.span_merge.specs.Spans.{Span, KeptSpan, kept_span, pairs_cmp, dots_of, added, KeepsSpans, TakesLater, HasAdded, AreInOrder}
-use Rattle.span_merge.specs.declared.kept.Kept.{Kept}
+use Rattle.span_merge.specs.declared.kept_points.Kept.{Kept}
 use Rattle.span_merge.specs.Places.{spans_of, kept_at, MovesLast, LastIsAbove, LastIsNotAbove, LastHas, LastHasNot, Grows, HasPut, MayPut}
 use Rattle.span_merge.specs.declared.series.Series.{Series}
 use Rattle.span_merge.proofs.OrderLemmas.{AreBelow, AreAbove, insert_behind, lookup_behind, insert_before, lookup_before, below_last, above_first, sorted_insert, sorted_rest, sorted_front}
@@ -101,24 +101,15 @@ put_at_last list n s new k o has some count is p =
     ∙ put_last (take (n - 1) list) s new k (subst (λ l. IsStrictlySortedBy pairs_cmp (keys_of (map kept_span l))) list_is o) (has (take (n - 1) list) s list_is) p
     ∙ ap (λ l. put (map kept_span l) k new.kept) (sym list_is)
 
-abbrev ids : Series → List (ℕ × ℕ)
-ids x = x.pairs.items
-
-keys_map : (l : List Series) → keys_of (map kept_span l) ≡ map ids l
-keys_map [] = refl
-keys_map (x ∷ l) = ap (λ m. x.pairs.items ∷ m) (keys_map l)
-
--- the ids of the last series were written again as they were
+-- the last series was written again as it was
 pub same_at_last : (list : List Series) (i : ℕ) (s new : Series) → s ≡ slice_index_or list i s
-    → new.pairs.items ≡ s.pairs.items
-    → keys_of (map kept_span (slice_set list i new)) ≡ keys_of (map kept_span list)
-same_at_last list i s new is p =
-    keys_map (slice_set list i new)
-    ∙ map-set ids list i new
-    ∙ ap (slice_set (map ids list) i) (p ∙ ap ids is)
-    ∙ sym (map-set ids list i (slice_index_or list i s))
-    ∙ ap (map ids) (set-get_or list i s)
-    ∙ sym (keys_map list)
+    → new.pairs.items ≡ s.pairs.items → new.kept ≡ s.kept
+    → map kept_span (slice_set list i new) ≡ map kept_span list
+same_at_last list i s new is p k =
+    map-set kept_span list i new
+    ∙ ap (slice_set (map kept_span list) i) ((λ j. (p j, k j)) ∙ ap kept_span is)
+    ∙ sym (map-set kept_span list i (slice_index_or list i s))
+    ∙ ap (map kept_span) (set-get_or list i s)
 
 one_kept : (e : KeptSpan) (k : List (ℕ × ℕ)) → pairs_cmp k e.0 ≡ Equal → kept_at (e ∷ []) k ≡ Some e.1
 one_kept e k h = ap (λ r. cond (is_eq r) (Some e.1) None) h
@@ -239,10 +230,6 @@ no_spans = tt
 
 -- ---- an answer
 
-pub holds_err : {A E Q : Type 0} (r : Result A E) → Q → OnErr r Q
-holds_err (Ok x) q = tt
-holds_err (Err e) q = q
-
 either_way : {A E P Q C : Type 0} (r : Result A E) → (P → C) → (Q → C) → OnOk r P → OnErr r Q → C
 either_way (Ok x) f g p q = f p
 either_way (Err e) f g p q = g q
@@ -278,17 +265,14 @@ module _ (start : List KeptSpan) (before new behind : List Series) (k : List (�
         ∙ ap (λ l. put l k h.kept) (sym (spans_apart before behind) ∙ whole);
   }
 
-  same_keys : keys_of (map kept_span new) ≡ keys_of (map kept_span before) → keys_of (spans_of new behind) ≡ keys_of start
-  same_keys e =
-      ap keys_of (spans_apart new behind) ∙ keys_apart (map kept_span new) later
-      ∙ ap (λ l. l ++ keys_of later) e
-      ∙ sym (keys_apart (map kept_span before) later) ∙ ap keys_of (sym (spans_apart before behind) ∙ whole)
+  pub same_all : map kept_span new ≡ map kept_span before → spans_of new behind ≡ start
+  same_all e = spans_apart new behind ∙ ap (λ l. l ++ later) e ∙ sym (spans_apart before behind) ∙ whole
 
-  pub still_ordered : {A E : Type 0} (r : Result A E) (how : Option Down) (dots : List (ℕ × ℤ)) → OnOk r (HasPut how (map kept_span before) k dots (map kept_span new)) → OnErr r (keys_of (map kept_span new) ≡ keys_of (map kept_span before)) → AreInOrder (spans_of new behind)
+  pub still_ordered : {A E : Type 0} (r : Result A E) (how : Option Down) (dots : List (ℕ × ℤ)) → OnOk r (HasPut how (map kept_span before) k dots (map kept_span new)) → OnErr r (map kept_span new ≡ map kept_span before) → AreInOrder (spans_of new behind)
   still_ordered r how dots =
       either_way r
       (λ p. let h = has_put how dots p in subst AreInOrder (sym h.put) (sorted_insert pairs_cmp k pairs_total h.kept start in_order))
-      (λ q. subst (IsStrictlySortedBy pairs_cmp) (sym (same_keys q)) in_order)
+      (λ q. subst AreInOrder (sym (same_all q)) in_order)
 
 -- ---- the points of what is kept
 
@@ -329,12 +313,12 @@ module _ (how : Option Down) (pairs : List (ℕ × ℕ)) where
       at Equal rest = ((z.0.0, keeps), z.1)
       at Greater rest = (z.0, rest)
 
-  pub takes : (kept : List KeptSpan) (dots : List (ℕ × ℤ)) → TakesLater how kept pairs dots → All (λ d. d.0 < 2 ^ 43) dots → MayPut kept pairs dots
-  takes kept dots t early v is = at (lookup (is_at (pairs_cmp pairs)) t.spans) t.above (subst (λ (o : Option Kept). Agree how o (lookup (is_at (pairs_cmp pairs)) t.spans)) is (found kept t.spans t.keeps))
+  pub takes : (kept : List KeptSpan) (dots : List (ℕ × ℤ)) → TakesLater how kept pairs dots → MayPut kept pairs dots
+  takes kept dots t v is = at (lookup (is_at (pairs_cmp pairs)) t.spans) t.above (subst (λ (o : Option Kept). Agree how o (lookup (is_at (pairs_cmp pairs)) t.spans)) is (found kept t.spans t.keeps))
     where
       at : (o : Option (List (ℕ × ℤ))) → All (λ d. IsAboveAll d.0 (unwrap_or o [])) dots → Agree how (Some v) o → Takes v dots
       at None above agree = absurd agree
-      at (Some points) above agree = record { how = how; points = points; keeps = agree; above = above; early = early }
+      at (Some points) above agree = record { how = how; points = points; keeps = agree; above = above }
 
   pub has_added : (old new : List KeptSpan) (dots : List (ℕ × ℤ)) → HasPut how old pairs dots new → HasAdded how old pairs dots new
   has_added old new dots h spans keeps above =

@@ -1,11 +1,11 @@
 -- What is kept of the points of a series.
-use Rattle.std.specs.Prelude.{◌≡◌, ℕ, ℤ, ◌<◌, ◌^◌, List, ◌++◌, All, Option, None, Some, box_value}
+use Rattle.std.specs.Prelude.{◌≡◌, ℕ, ℤ, List, ◌++◌, All, Option, None, Some, box_value}
 use Rattle.tsd_base.specs.declared.kinds.Down.{Down}
 use Rattle.tsd_base.specs.Dots.{IsAboveAll}
 use Rattle.downsample.specs.BucketFolds.{Folds}
 use Rattle.downsample.specs.declared.bucket_fold.BucketFold.{BucketFold}
-use Rattle.span_merge.specs.declared.kept.Kept.{Kept}
-use Rattle.span_merge.specs.declared.kept.Kept.TheVariants.{Points, Buckets}
+use Rattle.span_merge.specs.declared.kept_points.Kept.{Kept}
+use Rattle.span_merge.specs.declared.kept_points.Kept.TheVariants.{Points, Buckets}
 
 -- it has folded these points into the buckets of a downsample
 pub record FoldsBy (down : Down) (fold : BucketFold) (points : List (ℕ × ℤ)) : Type 0 where
@@ -28,7 +28,6 @@ pub record Takes (kept : Kept) (later : List (ℕ × ℤ)) : Type 0 where
   pub points : List (ℕ × ℤ)
   pub keeps : Keeps how kept points
   pub above : All (λ d. IsAboveAll d.0 points) later
-  pub early : All (λ d. d.0 < 2 ^ 43) later
 
 -- later points were added
 abbrev pub KeepsMore : Kept → Kept → List (ℕ × ℤ) → Type 0

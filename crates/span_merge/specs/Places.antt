@@ -6,7 +6,7 @@ use Rattle.std.specs.Map.{lookup}
 use Rattle.std.specs.BTreeMap.{insert_entry, is_at}
 use Rattle.tsd_base.specs.declared.kinds.Down.{Down}
 use Rattle.span_merge.specs.KeptPoints.{Keeps, KeepsMore, Takes}
-use Rattle.span_merge.specs.declared.kept.Kept.{Kept}
+use Rattle.span_merge.specs.declared.kept_points.Kept.{Kept}
 use Rattle.span_merge.specs.declared.series.Series.{Series}
 
 -- the series before the place, and then those behind it, which are kept the other way round

@@ -10,7 +10,7 @@ use Rattle.row_key.specs.KeyOrder.{pair_cmp}
 use Rattle.tsd_base.specs.declared.kinds.Down.{Down}
 use Rattle.tsd_base.specs.Dots.{IsAboveAll}
 use Rattle.span_merge.specs.KeptPoints.{Keeps}
-use Rattle.span_merge.specs.declared.kept.Kept.{Kept}
+use Rattle.span_merge.specs.declared.kept_points.Kept.{Kept}
 use Rattle.span_merge.specs.declared.series.Series.{Series}
 
 -- the ids of a series' tags, and its points

@@ -1,7 +1,6 @@
 //! A place in the order of series, and its moves.
-ghost use Rattle.std.specs.Prelude.{◌≡◌, ◌≤◌, ◌<◌, ◌^◌, List, [], length, All, IfSome, OnOk, OnErr, map};
+ghost use Rattle.std.specs.Prelude.{◌≡◌, ◌<◌, List, [], length, OnOk, OnErr, map};
 ghost use Rattle.std.specs.Bool.{MatchBool};
-ghost use Rattle.std.specs.Map.{keys_of};
 ghost use Rattle.span_merge.specs.Places.{HasPut, LastHas, LastHasNot, LastIsAbove, LastIsNotAbove, MayPut, MovesLast, spans_of};
 ghost use Rattle.span_merge.specs.Spans.{AreInOrder, kept_span};
 
@@ -57,7 +56,8 @@ pub(crate) fn step_to_end(
     Ok(())
 }
 
-/// Adds points to the last series, where it has these ids, and else a series behind it.
+/// Adds points to the last series, where it has these ids, and else a series behind it. It fails only for want of memory, and then
+/// nothing changes.
 pub(crate) fn add_last(
     alloc: Global,
     list: &mut Vec<Series>,
@@ -67,15 +67,13 @@ pub(crate) fn add_last(
 ) -> Result<(), AllocError>
     requires ordered { AreInOrder (map kept_span list.old.items) }
     requires at_most { LastIsNotAbove pairs.now list.old.items }
-    requires interval { IfSome how (λ d. 1 ≤ d.interval) }
-    requires early { All (λ d. d.0 < 2 ^ 43) dots }
     requires later { MayPut (map kept_span list.old.items) pairs.now dots }
     ensures ok { OnOk result (HasPut how (map kept_span list.old.items) pairs.now dots (map kept_span list.new.items)) }
-    ensures err { OnErr result (keys_of (map kept_span list.new.items) ≡ keys_of (map kept_span list.old.items)) }
+    ensures err { OnErr result (map kept_span list.new.items ≡ map kept_span list.old.items) }
 {
     if has_last(list.as_slice(), pairs) {
         let last = list.len() - 1;
-        return append(&mut list[last], &dots);
+        return append(alloc, &mut list[last], &dots);
     }
     list.push(series_of(alloc, how, pairs, dots)?)?;
     Ok(())

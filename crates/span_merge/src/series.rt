@@ -1,9 +1,9 @@
 //! One series.
-ghost use Rattle.std.specs.Prelude.{◌≡◌, ◌≤◌, ◌<◌, ◌^◌, All, IfSome, OnOk, IfOk};
+ghost use Rattle.std.specs.Prelude.{◌≡◌, OnOk, OnErr, IfOk};
 ghost use Rattle.span_merge.specs.KeptPoints.{Keeps, KeepsMore, Takes};
 ghost use Rattle.span_merge.specs.Spans.{pairs_cmp};
 
-use crate::kept::{Kept, keep_more, kept_of};
+use crate::kept_points::{Kept, keep_more, kept_of};
 use std::alloc::{AllocError, Global};
 use std::cmp::Ordering;
 use tsd_base::dots::Dots;
@@ -24,8 +24,6 @@ pub(crate) fn series_of(
     pairs: &[(u32, u32)],
     dots: Dots,
 ) -> Result<Series, AllocError>
-    requires interval { IfSome how (λ d. 1 ≤ d.interval) }
-    requires early { All (λ d. d.0 < 2 ^ 43) dots }
     ensures pairs { IfOk result (λ s. s.pairs.items ≡ pairs.now) }
     ensures kept { IfOk result (λ s. Keeps how s.kept dots) }
 {
@@ -34,13 +32,14 @@ pub(crate) fn series_of(
     Ok(Series { pairs, kept })
 }
 
-/// Puts later points behind those of a series.
-pub(crate) fn append(series: &mut Series, dots: &Dots) -> Result<(), AllocError>
+/// Puts later points behind those of a series. It fails only for want of memory, and then nothing changes.
+pub(crate) fn append(alloc: Global, series: &mut Series, dots: &Dots) -> Result<(), AllocError>
     requires { Takes series.old.kept dots.now }
     ensures pairs { series.new.pairs.items ≡ series.old.pairs.items }
     ensures ok { OnOk result (KeepsMore series.old.kept series.new.kept dots.now) }
+    ensures err { OnErr result (series.new.kept ≡ series.old.kept) }
 {
-    keep_more(&mut series.kept, dots)
+    keep_more(alloc, &mut series.kept, dots)
 }
 
 /// How the series stands to these ids.

@@ -1,5 +1,5 @@
 //! The points of series, in the order of their ids.
-ghost use Rattle.std.specs.Prelude.{◌≡◌, ◌≤◌, ◌<◌, ◌^◌, [], map, All, IfSome, OnOk, IfOk};
+ghost use Rattle.std.specs.Prelude.{◌≡◌, [], map, OnOk, OnErr, IfOk};
 ghost use Rattle.span_merge.specs.Spans.{AreInOrder, HasAdded, TakesLater, kept_span};
 
 use crate::places::{add_last, step_back, step_forward, step_to_end};
@@ -56,7 +56,7 @@ impl Spans {
     ///
     /// # Errors
     ///
-    /// It fails only for want of memory. Then some of the points may have been added.
+    /// It fails only for want of memory, and then nothing changes.
     pub fn add(
         &mut self,
         alloc: Global,
@@ -64,10 +64,9 @@ impl Spans {
         pairs: &[(u32, u32)],
         dots: Dots,
     ) -> Result<(), AllocError>
-        requires interval { IfSome how (λ d. 1 ≤ d.interval) }
-        requires early { All (λ d. d.0 < 2 ^ 43) dots }
         requires later { TakesLater how self.old pairs.now dots }
-        ensures { OnOk result (HasAdded how self.old pairs.now dots self.new) }
+        ensures ok { OnOk result (HasAdded how self.old pairs.now dots self.new) }
+        ensures err { OnErr result (self.new ≡ self.old) }
     {
         step_forward(&mut self.before, &mut self.behind, pairs)?;
         step_back(&mut self.before, &mut self.behind, pairs)?;

@@ -6,7 +6,7 @@ use Rattle.query_run.specs.IdFilters.{passes}
 use Rattle.query_run.specs.RowNames.{known}
 use Rattle.query_run.specs.Collection.{RowAsked}
 use Rattle.query_run.proofs.NameReads.{passed_on}
-use Rattle.query_run.proofs.RowsTaken.{key_of_row, row_knows, dots_failed, names_failed, add_failed, row_left, row_taken, may_add, early_dots}
+use Rattle.query_run.proofs.RowsTaken.{key_of_row, row_knows, dots_failed, names_failed, add_failed, row_left, row_taken, may_add}
 use Rattle.query_run.proofs.SkipSteps.{stays_there}
 use Rattle.query_run.proofs.collection.take_row.Goals as goal
 
@@ -48,18 +48,17 @@ returns-in_err-name_pairs-clause-asked g c = λ id spans found keeps behind.
     c.from_residual-in_err-name_pairs.ensures.1
     (names_failed (passes c.args.filters.now) c.args.how _ _ c.args.scan.now.widths id c.args.start c.args.end c.args.found.now c.key_of-key.result c.as_slice-2.result.now spans (known c.args.collected.now.names) after c.in_err-name_pairs.field-0.0 of c.as_slice-2.ensures.value c.in_err-name_pairs.ensures.asked)
 
-pub add_dots-requires-clause-early : goal.add_dots-requires-clause-early
-add_dots-requires-clause-early g c = early_dots c.args.found.now c.key_of-key.result.base c.args.start c.args.end c.in_ok-dots.dots c.requires.most c.in_ok-dots.ensures
-
-pub add_dots-requires-clause-later : goal.add_dots-requires-clause-later
-add_dots-requires-clause-later g c =
+pub add_dots-requires : goal.add_dots-requires
+add_dots-requires g c =
     let found = c.requires.row.1 in
     let of = key_of_row _ c.args.scan.now.widths c.requires.row.0 c.args.start c.args.end c.args.found.now c.key_of-key.result found c.key_of-key.ensures.is_key (sym c.list.ensures ∙ c.key_of-key.ensures.row) in
     let spans = c.requires.behind.spans in
     record {
-      spans = spans;
-      keeps = c.requires.behind.keeps;
-      above = may_add c.args.scan.now.widths c.args.found.now c.key_of-key.result c.args.start c.args.end c.as_slice-3.result.now spans c.in_ok-dots.dots c.requires.behind.behind of.is_key of.row_is c.as_slice-3.ensures.value c.in_ok-dots.ensures;
+      later = record {
+        spans = spans;
+        keeps = c.requires.behind.keeps;
+        above = may_add c.args.scan.now.widths c.args.found.now c.key_of-key.result c.args.start c.args.end c.as_slice-3.result.now spans c.in_ok-dots.dots c.requires.behind.behind of.is_key of.row_is c.as_slice-3.ensures.value c.in_ok-dots.ensures;
+      };
     }
 
 pub returns-in_err-add_dots-clause-asked : goal.returns-in_err-add_dots-clause-asked

@@ -3,7 +3,7 @@ use Rattle.std.specs.Prelude.{Option}
 use Rattle.tsd_base.specs.declared.kinds.Down.{Down}
 use Rattle.downsample.specs.Downsampling.{GivesDown}
 use Rattle.query_run.specs.QueryAnswers.{down_to}
-use Rattle.query_run.proofs.Finishing.{same_points, folds_by, no_buckets, is_down, all_early}
+use Rattle.query_run.proofs.Finishing.{same_points, folds_by, no_buckets, is_down}
 use Rattle.query_run.proofs.series_groups.finish.Goals as goal
 
 pub unreachable-requires : goal.unreachable-requires
@@ -28,7 +28,6 @@ finish_by-requires-clause-folds c =
     let points = c.requires.kept.0 in (
       points,
       (folds_by c.args.how c.args.kept c.in-Some.how c.in-Buckets.fold c.into_inner.result points same c.in-Buckets.is c.in-Some.is c.requires.kept.1.keeps).folds,
-      all_early c.args.end points c.requires.most c.requires.kept.1.high,
     )
 
 pub returns-in-Points : goal.returns-in-Points

@@ -5,7 +5,7 @@ use Rattle.query_run.specs.RowNames.{known}
 use Rattle.query_run.specs.SubQuery.{SubSays}
 use Rattle.query_run.proofs.NameIds.{id_later}
 use Rattle.query_run.proofs.NameReads.{passed_on}
-use Rattle.query_run.proofs.OneSub.{sub_barred, metric_refused, filters_refused, begun, collect_refused, some_interval, are_collected, groups_answered, groups_stops}
+use Rattle.query_run.proofs.OneSub.{sub_barred, metric_refused, filters_refused, begun, collect_refused, are_collected, groups_answered, groups_stops}
 use Rattle.query_run.proofs.sub_query.work.Goals as goal
 
 pub returns-in-Some-clause-says : goal.returns-in-Some-clause-says
@@ -20,9 +20,6 @@ pub returns-in_err-filters-clause-says : goal.returns-in_err-filters-clause-says
 returns-in_err-filters-clause-says g c =
     passed_on (λ r. SubSays c.args.query.now c.args.sub.now (g.R.Rows.seen c.args.names.now.rows) r (g.R.Rows.seen c.resolve_filters.new.names.rows)) c.in_err-filters.field-0.0 c.from_residual-in_err-filters.result c.from_residual-in_err-filters.ensures.1
     (filters_refused c.args.query.now c.args.sub.now c.list.result.now _ _ _ c.in_err-filters.field-0.0 c.list.ensures (sym c.barred.ensures ∙ c.in_default.is) c.in_ok-metric.ensures.says.0 c.in_err-filters.ensures.says)
-
-pub collect-requires-clause-interval : goal.collect-requires-clause-interval
-collect-requires-clause-interval g c = some_interval c.down_of-how.result c.args.query.now.start c.args.query.now.end c.down_of-how.ensures.is
 
 pub collect-requires-clause-metric : goal.collect-requires-clause-metric
 collect-requires-clause-metric g c = (id_later _ _ Metric c.args.sub.now.metric c.in_ok-metric.metric c.in_ok-filters.ensures.says.0.made.since.extends c.in_ok-metric.ensures.says.1).is_id.1

@@ -1,8 +1,8 @@
 use Rattle.std.proofs.Common.{map, ap, sym, ◌∙◌, length, subst, ◌<◌, ◌-◌, List}
 use Rattle.span_merge.specs.Spans.{KeptSpan, kept_span}
 use Rattle.span_merge.specs.Places.{LastHas, LastHasNot, HasPut}
-use Rattle.span_merge.proofs.PlaceLemmas.{kept_at_last, grown_at_last, new_behind_last, same_at_last, holds_err}
-use Rattle.span_merge.proofs.KeptLemmas.{on_ok}
+use Rattle.span_merge.proofs.PlaceLemmas.{kept_at_last, grown_at_last, new_behind_last, same_at_last}
+use Rattle.span_merge.proofs.KeptLemmas.{on_ok, on_err}
 use Rattle.span_merge.proofs.places.add_last.Goals as goal
 
 pub append-requires : goal.append-requires
@@ -21,7 +21,8 @@ returns-then-has_last-clause-ok c =
     c.append.ensures.ok
 
 pub returns-then-has_last-clause-err : goal.returns-then-has_last-clause-err
-returns-then-has_last-clause-err c = holds_err c.append.result (same_at_last c.args.list.now.items (c.len-last.result - 1) c.index_mut.result.now c.append.new.series c.index_mut.ensures.value c.append.ensures.pairs)
+returns-then-has_last-clause-err c =
+    on_err c.append.result (same_at_last c.args.list.now.items (c.len-last.result - 1) c.index_mut.result.now c.append.new.series c.index_mut.ensures.value c.append.ensures.pairs) c.append.ensures.err
 
 pub returns-clause-ok : goal.returns-clause-ok
 returns-clause-ok c =

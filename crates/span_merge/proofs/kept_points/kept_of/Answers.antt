@@ -1,9 +1,9 @@
 use Rattle.std.proofs.Common.{rules}
 use Rattle.span_merge.proofs.KeptLemmas.{first_follow, first_kept}
-use Rattle.span_merge.proofs.kept.kept_of.Goals as goal
+use Rattle.span_merge.proofs.kept_points.kept_of.Goals as goal
 
 pub fold_all-requires-clause-follows : goal.fold_all-requires-clause-follows
-fold_all-requires-clause-follows c = first_follow c.make-fold.result c.args.dots c.list.result.now c.list.ensures.list c.make-fold.ensures.folds c.requires.early
+fold_all-requires-clause-follows c = first_follow c.make-fold.result c.list.result.now c.make-fold.ensures.folds
 
 pub returns : goal.returns
 returns c =
