@@ -1,5 +1,5 @@
 -- What a put says, by what was asked and stored.
-use Rattle.std.proofs.Common.{◌≡◌, ℕ, ◌+◌, ◌*◌, ◌≤◌, List, [], ◌∷◌, ◌++◌, length, refl, sym, subst, length-append, arith}
+use Rattle.std.proofs.Common.{◌≡◌, ℕ, ◌+◌, ◌*◌, ◌≤◌, List, [], ◌∷◌, ◌++◌, length, refl, sym, ap, subst, length-append, arith}
 use Rattle.std.specs.Prelude.{Result, Ok, Err}
 use Rattle.list_lemmas.proofs.ListCuts.{nothing_behind}
 use Rattle.list_lemmas.proofs.ListMembers.{here}
@@ -10,7 +10,7 @@ use Rattle.row_key.specs.declared.keys.RowKey.{RowKey}
 use Rattle.cell_model.specs.declared.answers.Stored.{Stored}
 use Rattle.cell_model.specs.declared.events.Placed.{Placed}
 use Rattle.cell_model.specs.KindWidths.{Widths}
-use Rattle.cell_model.specs.History.{History, first}
+use Rattle.cell_model.specs.History.{History, first, store_after}
 use Rattle.cell_model.specs.Layout.{names_of, tag_names}
 use Rattle.cell_model.specs.Lawful.{IsLawful}
 use Rattle.cell_model.specs.Seen.{Seen, Fits, InEach}
@@ -26,7 +26,8 @@ use Rattle.point_put.specs.ShownIds.{AllShown, StopsAt, Fails, NamesAsked}
 use Rattle.cell_model.specs.IdRows.{AllResolved}
 use Rattle.point_put.specs.PutPoint.{PointAsked, PutSays, StoreMade}
 use Rattle.cell_laws.proofs.CallerLemmas.{first_lawful, first_fits, made_joined, itself}
-use Rattle.point_put.proofs.Asking.{shown_before}
+use Rattle.point_put.specs.PutEntries.{PutsMakeFewEntries}
+use Rattle.point_put.proofs.Asking.{names_in_turn, names_to_end, shown_before}
 
 abbrev Names : Type 0
 Names = List (Kind × List ℕ)
@@ -132,3 +133,16 @@ few_done c point old mid new key (Err (Filtered kind name)) p s = absurd s
 few_done c point old mid new key (Err (Exhausted kind)) p s = absurd s
 few_done c point old mid new key (Err OutOfMemory) p s = few_made c point old new p.list (subst (λ xs. Made old xs new) (nothing_behind p.list) (made_joined old mid new p.list [] p.made s)) p.entries
 few_done c point old mid new key (Err Stopped) p s = few_made c point old new p.list (subst (λ xs. Made old xs new) (nothing_behind p.list) (made_joined old mid new p.list [] p.made s)) p.entries
+
+-- whatever a put is answered
+pub few_asked : PutsMakeFewEntries
+few_asked c point h own (Ok stored) asked =
+    let n = few (store_after h).widths c point asked.names (names_in_turn asked.entries) in
+    let m = length-append asked.names (asked.put ∷ []) in
+    let e = ap length asked.list_is in
+    omega (arith, n, m, e)
+few_asked c point h own (Err (Unknown kind name)) asked = let n = few (store_after h).widths c point own (names_to_end asked.0) in omega (arith, n)
+few_asked c point h own (Err (Filtered kind name)) asked = let n = few (store_after h).widths c point own (names_to_end asked.0) in omega (arith, n)
+few_asked c point h own (Err (Exhausted kind)) asked = let n = few (store_after h).widths c point own (names_to_end asked.1) in omega (arith, n)
+few_asked c point h own (Err OutOfMemory) asked = let n = few (store_after h).widths c point own (names_in_turn asked) in omega (arith, n)
+few_asked c point h own (Err Stopped) asked = let n = few (store_after h).widths c point own (names_in_turn asked) in omega (arith, n)

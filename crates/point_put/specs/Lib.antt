@@ -6,3 +6,4 @@ pub mod ShownIds
 pub mod PutPoint
 pub mod StoredTexts
 pub mod TextPuts
+pub mod PutEntries

@@ -3,6 +3,7 @@
 
 pub mod config;
 pub mod fault;
+pub mod laws;
 pub mod placed_put;
 pub mod point_cell;
 mod point_key;
