@@ -1,8 +1,8 @@
+mod BodyTexts
+pub mod CallerLemmas
 mod ElementRuns
 mod ItemTurns
 mod JoinedRuns
 mod LineTurns
 mod OneElement
 mod RestValues
-mod TextTapes
-pub mod CallerLemmas

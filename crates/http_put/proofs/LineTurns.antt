@@ -1,7 +1,7 @@
 -- The put of an element by its line.
-use Rattle.std.proofs.Common.{◌≡◌, ℕ, ◌≤◌, List, ◌∷◌, refl, sym, subst, arith, None, Result, Ok, Err, IfErr, IfOk, OnErr}
+use Rattle.std.proofs.Common.{◌≡◌, ℕ, ◌+◌, ◌<◌, ◌≤◌, List, [], ◌∷◌, length, drop, get_or, refl, sym, ap, subst, ◌∙◌, arith, None, Result, Ok, Err, IfErr, IfOk, OnErr}
+use Rattle.std.proofs.lemmas.List.{drop_all, drop_more}
 use Rattle.serde_json.specs.Data.{Data}
-use Rattle.json.specs.Token.{Token}
 use Rattle.row_key.specs.declared.tables.Table.TheVariants.{Points}
 use Rattle.tsd_base.specs.Points.{DataPoint}
 use Rattle.cell_model.specs.declared.answers.RowsFault.{RowsFault}
@@ -20,7 +20,7 @@ use Rattle.point_put.specs.declared.fault.TextFault.{TextFault}
 use Rattle.point_put.specs.declared.fault.TextFault.TheVariants.{Unput, Unread}
 use Rattle.point_put.specs.declared.stored_text.StoredText.{StoredText}
 use Rattle.queued_put.specs.QueuedPuts.{FailsQueued, WasAdded}
-use Rattle.put_bodies.specs.BodyTapes.{GoesOnWith}
+use Rattle.put_bodies.specs.BodyLines.{AreLinesOf}
 use Rattle.put_bodies.specs.ElementLines.{IsLineOf}
 use Rattle.http_put.specs.PutLines.{IsDenial, IsTold, IsUnput, LineBegun, LinePut, TurnBegun, TurnMade}
 use Rattle.http_put.specs.declared.put_lines.Turn.{Turn}
@@ -75,11 +75,11 @@ denied_stops before now fault (Err rows.Stopped) by rose = subst (λ (f : TextFa
 
 -- ---- the element of the line
 
-pub turn_of : (c : Admission) (elements : List Data) (line : List ℕ) (old new : Seen) (before after : List Stored) (turn : Turn) (tokens : List Token) (d : Data) (rest : List Data) → elements ≡ d ∷ rest → IsLineOf line d → GoesOnWith tokens rest
-    → LinePut c line old before turn new after → TurnMade c elements old before turn tokens new after
-turn_of c elements line old new before after (Told out) tokens d rest is of goes (point, reads, put) = (d, rest, is, goes, element_put c d point old new before after _ (of point reads) put)
-turn_of c elements line old new before after Other tokens d rest is of goes (made, same) = (d, rest, is, made, same)
-turn_of c elements line old new before after End tokens d rest is of goes put = absurd put
+pub turn_of : (c : Admission) (elements : List Data) (line : List ℕ) (old new : Seen) (before after : List Stored) (turn : Turn) (ahead : List (List ℕ)) (d : Data) (rest : List Data) → elements ≡ d ∷ rest → IsLineOf line d → AreLinesOf ahead rest
+    → LinePut c line old before turn new after → TurnMade c elements old before turn ahead new after
+turn_of c elements line old new before after (Told out) ahead d rest is of goes (point, reads, put) = (d, rest, is, goes, element_put c d point old new before after _ (of point reads) put)
+turn_of c elements line old new before after Other ahead d rest is of goes (made, same) = (d, rest, is, made, same)
+turn_of c elements line old new before after End ahead d rest is of goes put = absurd put
 
 pub turn_begun : (c : Admission) (elements : List Data) (line : List ℕ) (old new : Seen) (d : Data) (rest : List Data) → elements ≡ d ∷ rest → IsLineOf line d → LineBegun c line old new → TurnBegun c elements old new
 turn_begun c elements line old new d rest is of (point, reads, begun) = (d, rest, is, element_begun c d point old new (of point reads) begun)
@@ -93,3 +93,27 @@ later_rose before mid now (Err rows.Stopped) le rose = omega (arith, le, rose)
 pub if_told : {P : Type 0} {E : Type 0} (r : Result Turn E) → P → IfOk r (λ turn. IsTold turn → P)
 if_told (Ok turn) p = λ told. p
 if_told (Err e) p = tt
+
+-- ---- the lines ahead
+
+pub record FirstAhead (line : List ℕ) (elements : List Data) (later : List (List ℕ)) : Type 0 where
+  pub d : Data
+  pub rest : List Data
+  pub is : elements ≡ d ∷ rest
+  pub of : IsLineOf line d
+  pub goes : AreLinesOf later rest
+
+first_of : (line : List ℕ) (later : List (List ℕ)) (elements : List Data) → AreLinesOf (line ∷ later) elements → FirstAhead line elements later
+first_of line later [] h = absurd h
+first_of line later (d ∷ rest) h = record { d = d; rest = rest; is = refl; of = h.0; goes = h.1 }
+
+pub first_ahead : (lines : List (List ℕ)) (at : ℕ) (line : List ℕ) (elements : List Data) → at < length lines → line ≡ get_or lines at [] → AreLinesOf (drop at lines) elements → FirstAhead line elements (drop (at + 1) lines)
+first_ahead lines at line elements within is h =
+    first_of line (drop (at + 1) lines) elements (subst (λ (l : List (List ℕ)). AreLinesOf l elements) (drop_more lines at [] within ∙ ap (λ (l : List ℕ). l ∷ drop (at + 1) lines) (sym is)) h)
+
+no_more : (elements : List Data) → AreLinesOf [] elements → elements ≡ []
+no_more [] h = refl
+no_more (d ∷ rest) h = absurd h
+
+pub none_ahead : (lines : List (List ℕ)) (at : ℕ) (elements : List Data) → length lines ≤ at → AreLinesOf (drop at lines) elements → elements ≡ []
+none_ahead lines at elements past h = no_more elements (subst (λ (l : List (List ℕ)). AreLinesOf l elements) (drop_all at lines past) h)

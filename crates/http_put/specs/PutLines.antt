@@ -1,7 +1,6 @@
 -- What the elements of a body that are put by their lines are answered.
 use Rattle.std.specs.Prelude.{◌≡◌, ℕ, List, [], ◌∷◌, ◌++◌, Option, Some, Ok, Vec}
 use Rattle.std.specs.declared.alloc.Global.{Global}
-use Rattle.json.specs.Token.{Token}
 use Rattle.serde_json.specs.Data.{Data, array}
 use Rattle.serde_json.specs.View.{items_of}
 use Rattle.tsd_base.specs.Points.{DataPoint, point_of}
@@ -13,7 +12,7 @@ use Rattle.point_put.specs.declared.fault.PutFault.{PutFault}
 use Rattle.point_put.specs.declared.fault.TextFault.{TextFault}
 use Rattle.point_put.specs.declared.fault.TextFault.TheVariants.{Unput, Unread}
 use Rattle.http_requests.specs.JsonBodies.{json_of}
-use Rattle.put_bodies.specs.BodyTapes.{GoesOnWith}
+use Rattle.put_bodies.specs.BodyLines.{AreLinesOf}
 use Rattle.http_put.specs.PutElements.{ElementsBegun, ElementsPut, text_of, texts_of}
 use Rattle.http_put.specs.PutOneElement.{ElementBegun, ElementPut, PointBegun, PointPut, RefusedPoint}
 use Rattle.http_put.specs.declared.put_lines.Turn.{Turn}
@@ -42,10 +41,10 @@ abbrev pub LineBegun : Admission → List ℕ → Seen → Seen → Type 0
 LineBegun c line old new = (point : DataPoint) × (point_of line ≡ Ok point) × PointBegun c point old new
 
 -- the next element was put; or it has no line, and no entry was made; or there is none
-abbrev pub TurnMade : Admission → List Data → Seen → List Stored → Turn → List Token → Seen → List Stored → Type 0
-TurnMade c elements old before (Told out) tokens new after = (d : Data) × (rest : List Data) × (elements ≡ d ∷ rest) × GoesOnWith tokens rest × ElementPut c d old before (text_of out) new after
-TurnMade c elements old before Other tokens new after = (d : Data) × (rest : List Data) × (elements ≡ d ∷ rest) × Made old [] new × (after ≡ before)
-TurnMade c elements old before End tokens new after = (elements ≡ []) × (new ≡ old) × (after ≡ before)
+abbrev pub TurnMade : Admission → List Data → Seen → List Stored → Turn → List (List ℕ) → Seen → List Stored → Type 0
+TurnMade c elements old before (Told out) ahead new after = (d : Data) × (rest : List Data) × (elements ≡ d ∷ rest) × AreLinesOf ahead rest × ElementPut c d old before (text_of out) new after
+TurnMade c elements old before Other ahead new after = (d : Data) × (rest : List Data) × (elements ≡ d ∷ rest) × Made old [] new × (after ≡ before)
+TurnMade c elements old before End ahead new after = (elements ≡ []) × (new ≡ old) × (after ≡ before)
 
 -- the put of the next element was begun
 abbrev pub TurnBegun : Admission → List Data → Seen → Seen → Type 0

@@ -1,11 +1,11 @@
 //! The put of a body by the lines of its elements.
-ghost use Rattle.std.specs.Prelude.{◌≡◌, ◌<◌, List, [], length, None, Ok as Done, Err, IfOk, IfSome, OnErr};
+ghost use Rattle.std.specs.Prelude.{◌≡◌, ◌<◌, ◌+◌, List, [], drop, length, None, Ok as Done, Err, IfOk, IfSome, OnErr};
 ghost use Rattle.serde_json.specs.Data.{Data};
 ghost use Rattle.cell_model.specs.Deeds.{Since, deeds};
 ghost use Rattle.cell_model.specs.Seen.{InEach};
 ghost use Rattle.cell_model.specs.Stops.{CountsStops, is_stop};
 ghost use Rattle.point_put.specs.Admissions.{admission};
-ghost use Rattle.put_bodies.specs.BodyTapes.{GoesOnWith};
+ghost use Rattle.put_bodies.specs.BodyLines.{AreLinesOf};
 ghost use Rattle.queued_put.specs.PutRows.{MayHaveRows};
 ghost use Rattle.http_put.specs.PutLines.{IsListOf, LineBegun, LinePut, ListBegun, ListPut, TurnBegun, TurnMade, IsDenial, IsTold, IsUnput};
 ghost use Rattle.cell_model.specs.declared.answers.RowsFault.TheVariants as rows_fault;
@@ -17,10 +17,8 @@ use crate::rest_elements::put_rest;
 use cell_model::answers::RowsFault;
 use cell_model::rows::Rows;
 use compactor::queue::Queue;
-use json::{Items, Scratch};
 use point_put::{Config, TextFault, put_text};
-use put_bodies::body_tape::{body_tape, tape_elements};
-use put_bodies::element_line::{LineRead, next_line};
+use put_bodies::body_lines::{BodyLines, body_lines};
 use queued_put::queue_stored;
 use std::alloc::Global;
 use tsd_hooks::UidRule;
@@ -60,18 +58,14 @@ pub fn put_lines<R: Rows + Drop>(
     let Ok(text) = std::str::from_utf8(body) else {
         return Ok(None);
     };
-    let mut scratch = Scratch::new(alloc);
-    let Some(tape) = body_tape(alloc, &mut scratch, text) else {
+    let Some(lines) = body_lines(alloc, text) else {
         return Ok(None);
     };
-    let Some(items) = tape_elements(&tape) else {
-        return Ok(None);
-    };
-    let outs = put_items(alloc, names, rule, config, queue, body, items)?;
+    let outs = put_items(alloc, names, rule, config, queue, body, &lines)?;
     Ok(Some(outs))
 }
 
-/// Puts the elements of a list.
+/// Puts the elements of a list, of which there are lines.
 fn put_items<R: Rows + Drop>(
     alloc: Global,
     names: &mut Uids<R>,
@@ -79,19 +73,17 @@ fn put_items<R: Rows + Drop>(
     config: &Config,
     queue: &mut Queue,
     body: &[u8],
-    list: Items<'_, '_>,
+    lines: &BodyLines,
 ) -> Result<Vec<Option<Vec<u8>>>, RowsFault>
-    requires { (elements : List Data) × IsListOf body.now elements × GoesOnWith list elements }
+    requires { (elements : List Data) × IsListOf body.now elements × AreLinesOf lines.now elements }
     ensures since { Since (R.seen names.old.rows) (R.seen names.new.rows) }
     ensures ok { IfOk result (λ outs. ListPut (admission config.now rule.now.patterns) body.now (R.seen names.old.rows) queue.old outs.items (R.seen names.new.rows) queue.new) }
     ensures err { OnErr result (ListBegun (admission config.now rule.now.patterns) body.now (R.seen names.old.rows) queue.old (R.seen names.new.rows) queue.new) }
     ensures stops { CountsStops is_stop result (R.stops names.old.rows) (R.stops names.new.rows) }
 {
-    let mut items = list;
     let mut outs = Vec::new(alloc);
-    let mut line = Vec::new(alloc);
     'turns: loop {
-        let turn = put_next(alloc, names, rule, config, queue, &mut items, &mut line)?;
+        let turn = put_next(alloc, names, rule, config, queue, lines, outs.len())?;
         match turn {
             Turn::Told { out } => outs.push(out)?,
             Turn::Other => return put_rest(alloc, names, rule, config, queue, body, outs),
@@ -100,26 +92,25 @@ fn put_items<R: Rows + Drop>(
     }
 }
 
-/// Puts the point of the next element's line.
+/// Puts the point of the line at a place.
 fn put_next<R: Rows + Drop>(
     alloc: Global,
     names: &mut Uids<R>,
     rule: &UidRule,
     config: &Config,
     queue: &mut Queue,
-    items: &mut Items<'_, '_>,
-    line: &mut Vec<u8>,
+    lines: &BodyLines,
+    at: usize,
 ) -> Result<Turn, RowsFault>
-    ensures ok { (elements : List Data) → GoesOnWith items.old elements → IfOk result (λ turn. TurnMade (admission config.now rule.now.patterns) elements (R.seen names.old.rows) queue.old turn items.new (R.seen names.new.rows) queue.new) }
-    ensures err { (elements : List Data) → GoesOnWith items.old elements → OnErr result (TurnBegun (admission config.now rule.now.patterns) elements (R.seen names.old.rows) (R.seen names.new.rows)) }
+    ensures ok { (elements : List Data) → AreLinesOf (drop at lines.now) elements → IfOk result (λ turn. TurnMade (admission config.now rule.now.patterns) elements (R.seen names.old.rows) queue.old turn (drop (at + 1) lines.now) (R.seen names.new.rows) queue.new) }
+    ensures err { (elements : List Data) → AreLinesOf (drop at lines.now) elements → OnErr result (TurnBegun (admission config.now rule.now.patterns) elements (R.seen names.old.rows) (R.seen names.new.rows)) }
     ensures same { OnErr result (queue.new ≡ queue.old) }
     ensures stops { CountsStops is_stop result (R.stops names.old.rows) (R.stops names.new.rows) }
-    ensures shorter { IfOk result (λ turn. IsTold turn → length items.new < length items.old) }
+    ensures within { IfOk result (λ turn. IsTold turn → at < length lines.now) }
 {
-    match next_line(items, line) {
-        LineRead::Line => put_line(alloc, names, rule, config, queue, line.as_slice()),
-        LineRead::Other => Ok(Turn::Other),
-        LineRead::End => Ok(Turn::End),
+    match lines.line(at) {
+        Some(line) => put_line(alloc, names, rule, config, queue, line),
+        None => Ok(Turn::End),
     }
 }
 

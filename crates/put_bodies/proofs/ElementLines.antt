@@ -43,14 +43,14 @@ is_object (json.object ms) d h e = by_members (of_members ms _) e
     by_members None e = absurd (cc)
 
 -- the tags of the words are those of the members
-tags_so : (pairs ps : List Pair) → AllByRecursion IsTagText pairs → pairs_of 1 (map pair_word pairs) ≡ Ok ps
+pub tags_so : (pairs ps : List Pair) → AllByRecursion IsTagText pairs → pairs_of 1 (map pair_word pairs) ≡ Ok ps
     → (sorted : List Pair) × (pairs_in 1 (texts_of (gather [] pairs)) ≡ Ok sorted) × ((all : List Pair) → tags_of ps ≡ Ok all → tags_of sorted ≡ Ok all)
 tags_so pairs ps words is =
     let r = pairs_read 1 pairs ps words is in
     (gather [] pairs, named_pairs 1 (gather [] pairs) (named_gather pairs [] r.named tt), λ all e. tags_alike pairs all (sym (ap tags_of r.same) ∙ e))
 
 -- the point of four words at least
-with_words : (m t v : List ℕ) (pairs : List Pair) (point : DataPoint) → point_of_words (m ∷ t ∷ v ∷ map pair_word pairs) ≡ Ok point → point_of_parts m t v (map pair_word pairs) ≡ Ok point
+pub with_words : (m t v : List ℕ) (pairs : List Pair) (point : DataPoint) → point_of_words (m ∷ t ∷ v ∷ map pair_word pairs) ≡ Ok point → point_of_parts m t v (map pair_word pairs) ≡ Ok point
 with_words m t v [] point is = absurd (two_answers _ point is)
 with_words m t v (p ∷ pairs) point is = is
 

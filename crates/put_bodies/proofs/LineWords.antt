@@ -9,7 +9,7 @@ use Rattle.std.proofs.lemmas.List.Elements.{All-cons, All-nil}
 use Rattle.tsd_base.specs.TagList.{Pair}
 use Rattle.tsd_base.specs.Words.{is_space, words_of}
 use Rattle.tsd_base.proofs.CallerLemmas.{words_of-append, words_of-word}
-use Rattle.put_bodies.specs.LineWords.{is_word_byte, AreWordBytes, IsTagText, pair_word, tags_text, words_text}
+use Rattle.put_bodies.specs.LineWords.{is_word_byte, AreWordBytes, IsTagText, IsWord, pair_word, tags_text, words_text}
 
 -- bytes without a space
 abbrev pub IsSpaceless : List ℕ → Type 0
@@ -57,3 +57,10 @@ line_words m t v pairs mw ms tw ts vw vs all =
     ap words_of (regroup m t v (tags_text pairs))
     ∙ words_of-append m (t ++ 32 ∷ (v ++ tags_text pairs)) (all_of m (spaceless m mw)) ms
     ∙ ap (λ (ws : List (List ℕ)). m ∷ ws) (words_of-append t (v ++ tags_text pairs) (all_of t (digits_spaceless t tw)) ts ∙ ap (λ (ws : List (List ℕ)). t ∷ ws) (tag_words v pairs (digits_spaceless v vw) vs all))
+
+-- the same, of any three words
+pub full_words : (m t v : List ℕ) (pairs : List Pair) → IsWord m → IsWord t → IsWord v → AllByRecursion IsTagText pairs → words_of (words_text m t v ++ tags_text pairs) ≡ m ∷ t ∷ v ∷ map pair_word pairs
+full_words m t v pairs mw tw vw all =
+    ap words_of (regroup m t v (tags_text pairs))
+    ∙ words_of-append m (t ++ 32 ∷ (v ++ tags_text pairs)) (all_of m (spaceless m mw.1)) mw.0
+    ∙ ap (λ (ws : List (List ℕ)). m ∷ ws) (words_of-append t (v ++ tags_text pairs) (all_of t (spaceless t tw.1)) tw.0 ∙ ap (λ (ws : List (List ℕ)). t ∷ ws) (tag_words v pairs (spaceless v vw.1) vw.0 all))

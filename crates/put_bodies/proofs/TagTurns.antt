@@ -24,11 +24,11 @@ pub record TagsSoFar (ms : Members) (tokens : List Token) (old now : List ℕ) :
 pub tags_start : (ms : Members) (tokens : List Token) (line : List ℕ) → InMembers tokens ms → TagsSoFar ms tokens line line
 tags_start ms tokens line goes = record { pairs = []; rest = ms; goes = goes; strings = refl; words = tt; written = sym (append-nil line) }
 
-onto_more : (pairs : List Pair) (p : Pair) (rest : Members) → onto pairs (member p.0 (string p.1) rest) ≡ onto (pairs ++ p ∷ []) rest
+pub onto_more : (pairs : List Pair) (p : Pair) (rest : Members) → onto pairs (member p.0 (string p.1) rest) ≡ onto (pairs ++ p ∷ []) rest
 onto_more [] p rest = refl
 onto_more (q ∷ pairs) p rest = ap (member q.0 (string q.1)) (onto_more pairs p rest)
 
-text_more : (pairs : List Pair) (p : Pair) → tags_text (pairs ++ p ∷ []) ≡ tags_text pairs ++ tag_text p
+pub text_more : (pairs : List Pair) (p : Pair) → tags_text (pairs ++ p ∷ []) ≡ tags_text pairs ++ tag_text p
 text_more [] p = append-nil (tag_text p)
 text_more (q ∷ pairs) p = ap (λ (x : List ℕ). tag_text q ++ x) (text_more pairs p) ∙ sym (append_assoc (tag_text q) (tags_text pairs) (tag_text p))
 

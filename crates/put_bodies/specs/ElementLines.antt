@@ -12,8 +12,8 @@ use Rattle.put_bodies.specs.declared.element_line.LineRead.TheVariants.{Line, Ot
 abbrev pub IsLineOf : List ℕ → Data → Type 0
 IsLineOf line d = (point : DataPoint) → point_of line ≡ Ok point → element_of d ≡ Ok point
 
--- the line is of the first of these elements, and the tokens go on with the others; or the first has no line; or there is none
+-- the line is of the first of these elements, or it has none, and the tokens go on with the others; or there is none
 abbrev pub IsNext : List Data → LineRead → List ℕ → List Token → Type 0
 IsNext elements Line line after = (d : Data) × (rest : List Data) × (elements ≡ d ∷ rest) × IsLineOf line d × GoesOnWith after rest
-IsNext elements Other line after = (d : Data) × (rest : List Data) × (elements ≡ d ∷ rest)
+IsNext elements Other line after = (d : Data) × (rest : List Data) × (elements ≡ d ∷ rest) × GoesOnWith after rest
 IsNext elements End line after = elements ≡ []

@@ -1,5 +1,9 @@
+pub mod BodyLines
 pub mod BodyTapes
 pub mod ElementLines
 pub mod ElementMembers
+pub mod ElementParts
 pub mod LineWords
 pub mod PlainBodies
+pub mod TextNumbers
+pub mod TextScans

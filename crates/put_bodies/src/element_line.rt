@@ -7,7 +7,7 @@ ghost use Rattle.serde_json.specs.Read.{of_json};
 ghost use Rattle.put_bodies.specs.PlainBodies.{IsElement};
 ghost use Rattle.put_bodies.specs.BodyTapes.{GoesOnWith};
 ghost use Rattle.put_bodies.specs.ElementLines.{IsLineOf, IsNext};
-ghost use Rattle.put_bodies.specs.declared.element_line.LineRead.TheVariants.{Line};
+ghost use Rattle.put_bodies.specs.declared.element_line.LineRead.TheVariants.{Line, Other};
 
 use crate::element_members::members_of;
 use crate::put_words::{NoLine, write_tags, write_words};
@@ -30,6 +30,7 @@ pub enum LineRead {
 pub fn next_line(items: &mut Items<'_, '_>, line: &mut Vec<u8>) -> LineRead
     ensures next { (elements : List Data) → GoesOnWith items.old elements → IsNext elements result line.new.items items.new }
     ensures shorter { result ≡ Line → length items.new < length items.old }
+    ensures passed { result ≡ Other → length items.new < length items.old }
 {
     let Some(element) = items.next() else {
         return LineRead::End;

@@ -50,7 +50,7 @@ fn write_tag(key: &[u8], member: &Element<'_, '_>, line: &mut Vec<u8>) -> Result
 }
 
 #[tactic(auto, using(std::proofs::lemmas::List::append_assoc))]
-fn write_pair(key: &[u8], text: &[u8], line: &mut Vec<u8>) -> Result<(), NoLine>
+pub fn write_pair(key: &[u8], text: &[u8], line: &mut Vec<u8>) -> Result<(), NoLine>
     ensures { OnOk result (IsTagText (key.now, text.now) × (line.new.items ≡ line.old.items ++ tag_text (key.now, text.now))) }
 {
     if !is_word(key) || !is_word(text) {
@@ -64,7 +64,7 @@ fn write_pair(key: &[u8], text: &[u8], line: &mut Vec<u8>) -> Result<(), NoLine>
 }
 
 /// Whether bytes stay one word, and one side of a pair.
-fn is_word(bytes: &[u8]) -> bool
+pub fn is_word(bytes: &[u8]) -> bool
     ensures { result ≡ list_all is_word_byte bytes.now }
 {
     bytes.iter().all(|b| *b != b' ' && *b != b'=')

@@ -1,11 +1,11 @@
 use Rattle.point_put.specs.Admissions.{admission}
 use Rattle.http_put.proofs.ElementRuns.{may_have_put}
 use Rattle.http_put.proofs.OneElement.{at_err}
-use Rattle.http_put.proofs.TextTapes.{list_of_tape}
+use Rattle.http_put.proofs.BodyTexts.{list_of_lines}
 use Rattle.http_put.proofs.put_lines.put_lines.Goals as goal
 
 pub put_items-requires : goal.put_items-requires
-put_items-requires g c = list_of_tape c.args.body.now c.in-Ok.text.now c.in-Some.tape c.in-Some-tape_elements.items c.in-Ok.ensures.cases.0 c.in-Ok.ensures.cases.1 c.in-Some.ensures c.in-Some-tape_elements.ensures
+put_items-requires g c = list_of_lines c.args.body.now c.in-Ok.text.now c.in-Some.lines c.in-Ok.ensures.cases.0 c.in-Ok.ensures.cases.1 c.in-Some.ensures
 
 pub returns-in_err-outs-clause-queue : goal.returns-in_err-outs-clause-queue
 returns-in_err-outs-clause-queue g c =

@@ -14,4 +14,4 @@ returns-in-Ok-clause-next c elements goes =
 pub returns-in-Err-clause-next : goal.returns-in-Err-clause-next
 returns-in-Err-clause-next c elements goes =
     let t = taken c.args.items.now c.in-Some.element c.next.new.self elements goes c.in-Some.ensures.value in
-    (t.first.d, t.first.others, t.first.all)
+    (t.first.d, t.first.others, t.first.all, (t.rest, t.goes, t.first.have))
