@@ -34,8 +34,11 @@ use Rattle.name_requests.specs.AssignRequests.{AssignLists, assign_lists}
 use Rattle.name_requests.specs.declared.assign_request.AssignRequest.{AssignRequest}
 use Rattle.name_requests.specs.SuggestRequests.{Suggestion}
 use Rattle.http_api.specs.CallWork.{PutFlags, Work}
-use Rattle.http_api.specs.CallWork.Work.{Says, Puts, Assigns, Suggests, Asks}
-use Rattle.http_api.specs.HttpAnswers.{HasTexts, IsReplyTo, WorkBroken, WorkReplied, answers_in, named_in, names_in, told}
+use Rattle.series_meta.specs.LatestPoints.{Asking}
+use Rattle.series_meta.specs.declared.meta_faults.MetaFault.{MetaFault}
+use Rattle.http_series.specs.SeriesAnswers.{LastsTell}
+use Rattle.http_api.specs.CallWork.Work.{Says, Puts, Assigns, Suggests, Asks, AsksLast}
+use Rattle.http_api.specs.HttpAnswers.{HasTexts, IsReplyTo, IsSeriesReply, WorkBroken, WorkReplied, answers_in, named_in, names_in, told}
 
 -- no entry was made since
 none_since : (old new : Seen) (h : History) → Since old new → Fits new h → deeds h old.caller new.length new.length ≡ []
@@ -195,6 +198,24 @@ query_untold c q old new queue result says =
       begun = λ h l f. inr (plain_result result, asked.1 h l f);
       rows = λ h l f. may_have queue [] queue (deeds h old.caller old.length new.length) (rows_none queue);
     }
+
+-- ---- last points
+
+pub lasts_replied : (c : Admission) (series : List Asking) (closing : Bool) (old new : Seen) (queue : List Stored) (result : Result (List ℕ) MetaFault) (reply : List ℕ) → LastsTell series old result new → IsSeriesReply result closing reply
+    → WorkReplied c (AsksLast series) closing old queue reply new queue
+lasts_replied c series closing old new queue result reply asked (t, tells, is) = record {
+  stored = [];
+  since = asked.0;
+  answered = λ h l f. record { tells = t; done = (result, asked.1 h l f, tells, refl); reply_is = is };
+  rows = rows_none queue;
+}
+
+pub lasts_untold : (c : Admission) (series : List Asking) (old new : Seen) (queue : List Stored) (result : Result (List ℕ) MetaFault) → LastsTell series old result new → WorkBroken c (AsksLast series) old queue new queue
+lasts_untold c series old new queue result asked = record {
+  since = asked.0;
+  begun = λ h l f. inr (result, asked.1 h l f);
+  rows = λ h l f. may_have queue [] queue (deeds h old.caller old.length new.length) (rows_none queue);
+}
 
 -- ---- results
 

@@ -13,6 +13,7 @@ got_alike : (a b : ℕ) (r : Route) (form : List ℕ) → asks_moment (Some r) �
 got_alike a b route.Aggregators form other = refl
 got_alike a b route.Put form other = refl
 got_alike a b route.Query form other = absurd (cc)
+got_alike a b route.Last form other = absurd (cc)
 got_alike a b route.Suggest form other = refl
 got_alike a b route.Assign form other = refl
 got_alike a b route.Version form other = refl
@@ -21,6 +22,7 @@ posted_alike : (a b : ℕ) (r : Route) (form body : List ℕ) → asks_moment (S
 posted_alike a b route.Aggregators form body other = refl
 posted_alike a b route.Put form body other = refl
 posted_alike a b route.Query form body other = absurd (cc)
+posted_alike a b route.Last form body other = absurd (cc)
 posted_alike a b route.Suggest form body other = refl
 posted_alike a b route.Assign form body other = refl
 posted_alike a b route.Version form body other = refl

@@ -3,3 +3,4 @@ mod Bodies
 mod CallMoments
 mod ListPuts
 mod QueryTellings
+mod SeriesTellings

@@ -1,5 +1,5 @@
 -- What a call asks for, a function of the call alone.
-use Rattle.std.specs.Prelude.{ℕ, Bool, true, false, is_some, List, [], ◌∷◌, codes, Option, None, Some, Result, Ok, Err, if◌then◌else◌}
+use Rattle.std.specs.Prelude.{ℕ, min, Bool, true, false, is_some, List, [], ◌∷◌, codes, Option, None, Some, Result, Ok, Err, if◌then◌else◌}
 use Rattle.serde_json.specs.Data.{Data, Items, no_items, item}
 use Rattle.serde_json.specs.Find.{as_array, as_object}
 use Rattle.http_requests.specs.JsonBodies.{json_of}
@@ -27,19 +27,25 @@ use Rattle.query_requests.specs.JsonQueries.{query_by_json}
 use Rattle.query_text.specs.QueryFaultTexts.{query_fault_text}
 use Rattle.query_text.specs.declared.queries.Query.{Query}
 use Rattle.query_text.specs.declared.queries.QueryFault.{QueryFault}
+use Rattle.tsd_base.specs.declared.times.TheConstants.{LAST_TIME}
+use Rattle.series_meta.specs.LatestPoints.{Asking}
+use Rattle.http_series.specs.ArgumentTexts.{argument_fault_text}
+use Rattle.http_series.specs.SeriesRequests.{LastsAsked, askings, lasts_by_form}
+use Rattle.http_series.specs.declared.argument_fault.ArgumentFault.{ArgumentFault}
 
 -- what a reply to a put is to tell beside its status
 pub record PutFlags : Type 0 where
   pub details : Bool
   pub summary : Bool
 
--- a fixed answer; elements to put, one after the other; names to give ids; names to suggest; or a query to answer
+-- a fixed answer; elements to put, one after the other; names to give ids; names to suggest; a query to answer; or series whose last points are wanted
 pub data Work : Type 0 where
   Says : Status → List ℕ → Work
   Puts : PutFlags → List Data → Work
   Assigns : AssignLists → Work
   Suggests : Suggestion → Work
   Asks : Query → Work
+  AsksLast : List Asking → Work
 
 abbrev pub refuses : Status → List ℕ → Work
 refuses status message = Says status (error_body (code_of status) message)
@@ -114,6 +120,13 @@ abbrev pub asks_body : ℕ → Option Data → Work
 asks_body now None = no_json
 asks_body now (Some body) = asks (query_by_json now body)
 
+-- ---- last points
+
+-- a moment behind the last time counts as that
+abbrev pub asks_last : ℕ → Result LastsAsked ArgumentFault → Work
+asks_last now (Ok asked) = AsksLast (askings (min now LAST_TIME) asked)
+asks_last now (Err fault) = refuses status.BadRequest (argument_fault_text fault)
+
 -- ---- routes
 
 abbrev pub no_path : Work
@@ -127,6 +140,7 @@ abbrev pub got_by : ℕ → Route → List ℕ → Work
 got_by now route.Put form = no_method
 got_by now route.Assign form = assigns (assign_by_form form)
 got_by now route.Query form = asks (query_by_form now form)
+got_by now route.Last form = asks_last now (lasts_by_form form)
 got_by now route.Suggest form = suggests (suggest_by_form form)
 got_by now route.Version form = Says status.Ok version_body
 got_by now route.Aggregators form = Says status.Ok aggregators_body
@@ -136,6 +150,7 @@ abbrev pub posted_by : ℕ → Route → List ℕ → List ℕ → Work
 posted_by now route.Put form body = puts_body (put_flags form) (json_of body)
 posted_by now route.Assign form body = assigns (assign_by_body body)
 posted_by now route.Query form body = asks_body now (json_of body)
+posted_by now route.Last form body = no_method
 posted_by now route.Suggest form body = suggests (suggest_by_body body)
 posted_by now route.Version form body = Says status.Ok version_body
 posted_by now route.Aggregators form body = Says status.Ok aggregators_body
@@ -165,9 +180,10 @@ route_unless None path = route_of path
 abbrev pub call_route : Call → Option Route
 call_route call = route_unless call.refused call.path
 
--- the clock is asked where the path is that of queries, whatever the method
+-- the clock is asked where the path is that of queries or of last points, whatever the method
 abbrev pub asks_moment : Option Route → Bool
 asks_moment (Some route.Query) = true
+asks_moment (Some route.Last) = true
 asks_moment (Some route.Aggregators) = false
 asks_moment (Some route.Put) = false
 asks_moment (Some route.Suggest) = false

@@ -30,8 +30,10 @@ use Rattle.query_run.specs.AskFaultTexts.{ask_fault_text}
 use Rattle.query_run.specs.AskedQueries.{QueryAsked}
 use Rattle.query_run.specs.declared.fault.AskFault.{AskFault}
 use Rattle.query_run.specs.declared.fault.AskFault.TheVariants.{OutOfMemory, Stopped}
+use Rattle.series_meta.specs.declared.meta_faults.MetaFault.{MetaFault}
+use Rattle.http_series.specs.SeriesAnswers.{LastsTold, query_fault}
 use Rattle.http_api.specs.CallWork.{PutFlags, Work, work_of}
-use Rattle.http_api.specs.CallWork.Work.{Says, Puts, Assigns, Suggests, Asks}
+use Rattle.http_api.specs.CallWork.Work.{Says, Puts, Assigns, Suggests, Asks, AsksLast}
 
 -- ---- an assignment's elements
 
@@ -77,6 +79,11 @@ QueryTells (Err OutOfMemory) t = ⊥
 QueryTells (Err Stopped) t = ⊥
 QueryTells (Err fault) t = t ≡ told status.BadRequest (error_body (code_of status.BadRequest) (ask_fault_text fault))
 
+-- what is told of last points: the text, or why there is none
+abbrev pub SeriesTell : Result (List ℕ) MetaFault → Told → Type 0
+SeriesTell (Ok text) t = t ≡ told status.Ok text
+SeriesTell (Err fault) t = QueryTells (Err (query_fault fault)) t
+
 -- Work was done between two lengths of the history, and so much is told of it; these rows are of the points that were accepted. A fixed answer makes no
 -- entry. Elements and names are asked one after the other, each between two lengths of its own.
 abbrev pub Done : Admission → History → ℕ → ℕ → ℕ → Work → Told → List Stored → Type 0
@@ -89,6 +96,8 @@ Done c h caller n n2 (Suggests s) t stored =
     (names : List (List ℕ)) × SuggestAsked h caller n s.kind s.prefix s.max names n2 × (t ≡ told status.Ok (names_text names)) × (stored ≡ [])
 Done c h caller n n2 (Asks query) t stored =
     (result : Result (List Group) AskFault) × QueryAsked h caller n query result n2 × QueryTells result t × (stored ≡ [])
+Done c h caller n n2 (AsksLast series) t stored =
+    (result : Result (List ℕ) MetaFault) × LastsTold h caller n series result n2 × SeriesTell result t × (stored ≡ [])
 
 -- the reply to work that was done
 pub record WorkAnswered (c : Admission) (h : History) (caller n n2 : ℕ) (work : Work) (closing : Bool) (reply : List ℕ) (stored : List Stored) : Type 0 where
@@ -100,17 +109,22 @@ pub record WorkAnswered (c : Admission) (h : History) (caller n n2 : ℕ) (work 
 abbrev pub IsReplyTo : Result (List Group) AskFault → Bool → List ℕ → Type 0
 IsReplyTo result closing reply = (t : Told) × QueryTells result t × (reply ≡ reply_bytes t.status closing t.body)
 
+-- the reply that tells of last points
+abbrev pub IsSeriesReply : Result (List ℕ) MetaFault → Bool → List ℕ → Type 0
+IsSeriesReply result closing reply = (t : Told) × SeriesTell result t × (reply ≡ reply_bytes t.status closing t.body)
+
 -- a call was answered at a moment, between two lengths of the history, with this reply, and these rows are of the points that were accepted
 abbrev pub CallAnswered : Admission → History → ℕ → ℕ → ℕ → ℕ → Call → List ℕ → List Stored → Type 0
 CallAnswered c h caller n n2 now call reply stored = WorkAnswered c h caller n n2 (work_of now call) call.closing reply stored
 
--- elements, names or a query were begun between two lengths of the history
+-- elements, names, a query or series were begun between two lengths of the history
 abbrev pub WorkBegun : Admission → History → ℕ → ℕ → ℕ → Work → Type 0
 WorkBegun c h caller n n2 (Says status body) = ⊥
 WorkBegun c h caller n n2 (Puts flags elements) = (stored : List Stored) × PutBegun c h caller n elements stored n2
 WorkBegun c h caller n n2 (Assigns lists) = AssignBegun c.patterns h caller n (named_in lists) n2
 WorkBegun c h caller n n2 (Suggests s) = SuggestBegun h caller n n2
 WorkBegun c h caller n n2 (Asks query) = (result : Result (List Group) AskFault) × QueryAsked h caller n query result n2
+WorkBegun c h caller n n2 (AsksLast series) = (result : Result (List ℕ) MetaFault) × LastsTold h caller n series result n2
 
 -- no entry was made, or the work was begun
 abbrev pub BegunAtMost : Admission → History → ℕ → ℕ → ℕ → Work → Type 0

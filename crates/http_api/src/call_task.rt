@@ -1,14 +1,17 @@
 //! What a request asks for.
-ghost use Rattle.std.specs.Prelude.{◌≡◌, ℕ, false, IfOk, Result};
-ghost use Rattle.http_requests.specs.Routes.{route_table, valued};
+ghost use Rattle.std.specs.Prelude.{◌≡◌, ◌≤◌, IfOk, Result};
 ghost use Rattle.http_requests.specs.JsonBodies.{json_of};
 ghost use Rattle.name_requests.specs.AssignRequests.{AssignLists, GivesAssign, assign_lists};
 ghost use Rattle.name_requests.specs.SuggestRequests.{GivesSuggest, IsMax, Suggestion, suggestion};
 ghost use Rattle.query_requests.specs.QueryReadings.{CanWork, GivesQuery};
 ghost use Rattle.query_text.specs.declared.queries.Query.{Query};
 ghost use Rattle.query_text.specs.declared.queries.QueryFault.{QueryFault};
+ghost use Rattle.http_series.specs.ArgumentReading.{Gives};
+ghost use Rattle.http_series.specs.ArgumentTexts.{argument_fault_text};
+ghost use Rattle.http_series.specs.SeriesRequests.{LastsAsked, lasts_asked};
+ghost use Rattle.http_series.specs.declared.argument_fault.ArgumentFault.{ArgumentFault};
 ghost use Rattle.http_reply.specs.declared.reply_status.Status.{Status};
-ghost use Rattle.http_api.specs.CallWork.{work_of, by_route, refusal_status, refusal_message, refuses, put_flags, puts_body, assigns, suggests, asks, asks_body, asks_moment, call_route, got_by, posted_by};
+ghost use Rattle.http_api.specs.CallWork.{work_of, by_route, refusal_status, refusal_message, refuses, put_flags, puts_body, assigns, suggests, asks, asks_body, asks_last, call_route, got_by, posted_by};
 ghost use Rattle.http_api.specs.CallWork.Work.{Says};
 ghost use Rattle.http_api.specs.CallTasks.{IsTask};
 
@@ -18,9 +21,9 @@ use http_reply::reply_status::Status;
 use http_requests::form::Form;
 use http_requests::http_call::{Call, Refusal, Verb};
 use http_requests::json_body::read_json;
-use http_requests::routes::{Route, route_of};
+use http_requests::routes::Route;
+use http_series::{ArgumentFault, LastRequest, read_lasts};
 use json_reply::error_body::error_text;
-use matchit::Router;
 use name_requests::assign_request::{AssignRequest, assign_by_body, assign_by_form};
 use name_requests::fault::{AssignFault, SuggestFault};
 use name_requests::suggest_request::{SuggestRequest, suggest_by_body, suggest_by_form};
@@ -29,6 +32,7 @@ use query_requests::json_query::read_query_json;
 use query_text::queries::{Query, QueryFault};
 use serde_json::Value;
 use std::alloc::{AllocError, Global};
+use tsd_base::times::LAST_TIME;
 
 /// What a request asks for.
 #[derive(Drop)]
@@ -56,26 +60,11 @@ pub enum Task {
     Ask {
         query: Query,
     },
-}
-
-/// The route of a request that isn't refused, by its path. A request whose route doesn't ask the clock asks for the same at every
-/// moment.
-pub fn call_route(router: &Router<Route>, call: &Call) -> Option<Route>
-    requires { valued router.now ≡ route_table }
-    ensures route { result ≡ call_route call.now }
-    ensures alike { asks_moment result ≡ false → (a b : ℕ) → work_of a call.now ≡ work_of b call.now }
-{
-    match call.refused {
-        Some(_) => None,
-        None => route_of(router, call.path.list()),
-    }
-}
-
-/// Whether the clock is asked for a request of this route: that of queries, whatever its method.
-pub fn asks_clock(route: Option<Route>) -> bool
-    ensures { result ≡ asks_moment route }
-{
-    matches!(route, Some(Route::Query))
+    /// Series whose last points up to a moment are wanted.
+    AskLast {
+        request: LastRequest,
+        now: u64,
+    },
 }
 
 /// What a request of this route asks for at a moment, in milliseconds since 1970: the refusal of its head, or else what its path and its
@@ -159,6 +148,7 @@ fn get_task(alloc: Global, route: Route, form: &[u8], now: u64) -> Result<Task, 
         Route::Put => refuse(alloc, Status::MethodNotAllowed, b"no such method"),
         Route::Assign => assign_task(alloc, assign_by_form(alloc, form)),
         Route::Query => query_task(alloc, read_query_form(alloc, form, now)),
+        Route::Last => last_task(alloc, read_lasts(alloc, form), now),
         Route::Suggest => suggest_task(alloc, suggest_by_form(alloc, form)),
         Route::Version => say(alloc, version_body()),
         Route::Aggregators => say(alloc, aggregators_body()),
@@ -179,6 +169,7 @@ fn post_task(
         Route::Put => put_task(alloc, form, body),
         Route::Assign => assign_task(alloc, assign_by_body(alloc, body)),
         Route::Query => query_body_task(alloc, body, now),
+        Route::Last => refuse(alloc, Status::MethodNotAllowed, b"no such method"),
         Route::Suggest => suggest_task(alloc, suggest_by_body(alloc, body)),
         Route::Version => say(alloc, version_body()),
         Route::Aggregators => say(alloc, aggregators_body()),
@@ -259,4 +250,31 @@ fn query_task(alloc: Global, read: Result<Query, QueryFault>) -> Result<Task, Al
             refuse(alloc, Status::BadRequest, message.as_slice())
         }
     }
+}
+
+fn last_task(
+    alloc: Global,
+    read: Result<LastRequest, ArgumentFault>,
+    now: u64,
+) -> Result<Task, AllocError>
+    requires { IfOk read (λ request. request.back ≤ 8784) }
+    ensures { (asked : Result LastsAsked ArgumentFault) → Gives lasts_asked read asked → IfOk result (IsTask (asks_last now asked)) }
+{
+    match read {
+        Ok(request) => Ok(Task::AskLast {
+            request,
+            now: now.min(LAST_TIME),
+        }),
+        Err(ArgumentFault::OutOfMemory) => Err(AllocError),
+        Err(fault) => argument_task(alloc, fault),
+    }
+}
+
+/// The refusal of arguments that ask for no series.
+fn argument_task(alloc: Global, fault: ArgumentFault) -> Result<Task, AllocError>
+    ensures { IfOk result (IsTask (refuses Status.BadRequest (argument_fault_text fault))) }
+{
+    let mut message = Vec::new(alloc);
+    fault.write_text(&mut message)?;
+    refuse(alloc, Status::BadRequest, message.as_slice())
 }

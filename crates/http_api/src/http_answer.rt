@@ -19,6 +19,8 @@ use crate::call_task::{Task, task_of};
 use crate::list_put::answer_list;
 use crate::put_body::elements_of;
 use crate::query_reply::answer_query;
+use crate::routed_call::RoutedCall;
+use crate::series_reply::reply_lasts;
 use cell_model::answers::RowsFault;
 use cell_model::rows::Rows;
 use compactor::queue::Queue;
@@ -40,14 +42,32 @@ use std::alloc::{AllocError, Global};
 use tsd_hooks::UidRule;
 use uid_table::uids::Uids;
 
-/// Answers a request of this route with the bytes of its reply, over any rows.
+/// Answers a request with the bytes of its reply, over any rows.
 ///
 /// A refusal is told first: of the head, then of the path, the method, and of what the path's requests read. A put asks its
 /// elements and an assignment its names one after the other, and a new name of either is given an id only where the rule allows it;
 /// the row of each point that was accepted is added to the queue. `now` is the moment of the request in milliseconds since 1970, from
-/// which a query counts its times; no other request depends on it. It fails for want of memory, or where the caller was stopped before
-/// a step; what was done before stays done.
+/// which a query counts its times, and up to which last points are; no other request depends on it. It fails for want of memory, or
+/// where the caller was stopped before a step; what was done before stays done.
 pub fn answer<R: Rows + Drop>(
+    alloc: Global,
+    names: &mut Uids<R>,
+    rule: &UidRule,
+    config: &Config,
+    queue: &mut Queue,
+    call: &RoutedCall,
+    now: u64,
+) -> Result<Vec<u8>, RowsFault>
+    ensures ok { IfOk result (λ reply. CallReplied (admission config.now rule.now.patterns) now call.now (R.seen names.old.rows) queue.old reply.items (R.seen names.new.rows) queue.new) }
+    ensures err { OnErr result (CallBroken (admission config.now rule.now.patterns) now call.now (R.seen names.old.rows) queue.old (R.seen names.new.rows) queue.new) }
+    ensures stops { CountsStops is_stop result (R.stops names.old.rows) (R.stops names.new.rows) }
+{
+    let route = call.route();
+    answer_routed(alloc, route, names, rule, config, queue, call.call(), now)
+}
+
+/// Answers a request of this route.
+fn answer_routed<R: Rows + Drop>(
     alloc: Global,
     route: Option<Route>,
     names: &mut Uids<R>,
@@ -121,6 +141,7 @@ fn perform<R: Rows + Drop>(
         Task::Assign { request } => assign(alloc, names, rule, closing, request),
         Task::Suggest { request } => suggest(alloc, names, closing, request),
         Task::Ask { query } => answer_query(alloc, names, closing, query),
+        Task::AskLast { request, now } => reply_lasts(alloc, names, closing, request, *now),
     }
 }
 

@@ -7,6 +7,8 @@ pub mod http_answer;
 mod list_put;
 mod put_body;
 mod query_reply;
+pub mod routed_call;
+mod series_reply;
 
-pub use call_task::{asks_clock, call_route};
 pub use http_answer::answer;
+pub use routed_call::RoutedCall;

@@ -63,7 +63,11 @@ fn tell_groups(alloc: Global, closing: bool, groups: &Reply) -> Result<Vec<u8>, 
 }
 
 /// The reply to a query that has no answer, or why there is no reply.
-fn tell_fault(alloc: Global, closing: bool, fault: &AskFault) -> Result<Vec<u8>, RowsFault>
+pub(crate) fn tell_fault(
+    alloc: Global,
+    closing: bool,
+    fault: &AskFault,
+) -> Result<Vec<u8>, RowsFault>
     ensures ok { IfOk result (λ reply. IsReplyTo (Err fault.now) closing reply.items) }
     ensures stops { IfErr result (λ failed. is_stop failed ≡ ask_faults.is_stop fault.now) }
 {

@@ -17,6 +17,8 @@ pub enum Route {
     Put,
     /// `/api/query`: the points of series.
     Query,
+    /// `/api/query/last`: the last points of series.
+    Last,
     /// `/api/suggest`: names that begin with a prefix.
     Suggest,
     /// `/api/uid/assign`: giving ids to names.
@@ -25,7 +27,7 @@ pub enum Route {
     Version,
 }
 
-/// A router with the six routes. It fails only for want of memory.
+/// A router with the seven routes. It fails only for want of memory.
 #[tactic(auto, unfolding(matchit::specs::Route::scan))]
 pub fn make_router(alloc: Global) -> Result<Router<Route>, AllocError>
     ensures { IfOk result (λ router. valued router ≡ route_table) }
@@ -34,6 +36,7 @@ pub fn make_router(alloc: Global) -> Result<Router<Route>, AllocError>
     add(&mut router, "/api/aggregators", Route::Aggregators)?;
     add(&mut router, "/api/put", Route::Put)?;
     add(&mut router, "/api/query", Route::Query)?;
+    add(&mut router, "/api/query/last", Route::Last)?;
     add(&mut router, "/api/suggest", Route::Suggest)?;
     add(&mut router, "/api/uid/assign", Route::Assign)?;
     add(&mut router, "/api/version", Route::Version)?;

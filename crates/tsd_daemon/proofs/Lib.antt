@@ -10,3 +10,4 @@ mod Calls
 mod GivenMoments
 mod HeadlineLemmas
 pub mod CallerLemmas
+mod CompletingLemmas

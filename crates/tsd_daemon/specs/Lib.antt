@@ -10,3 +10,4 @@ pub mod PutAnswers
 pub mod TakenInTurn
 pub mod Headline
 pub mod HeadlineLaws
+pub mod ConnCompletes

@@ -1,14 +1,14 @@
 //! Working one call of an HTTP connection.
 ghost use Rattle.std.specs.Prelude.{◌≡◌, ℕ, true, List, [], option_to_list, IfOk, OnErr};
 ghost use Rattle.http_requests.specs.Routes.{route_table, valued};
-ghost use Rattle.http_api.specs.CallWork.{asks_moment, call_route};
+ghost use Rattle.http_api.specs.CallWork.{asks_clock};
 ghost use Rattle.tsd_io.specs.Causes.{HasCause};
 ghost use Rattle.tsd_io.specs.Ticks.{IsCalled};
 ghost use Rattle.point_put.specs.Admissions.{admission};
 ghost use Rattle.tsd_daemon.specs.ConnClocks.{ClockTells, Ticked};
 ghost use Rattle.tsd_daemon.specs.ConnRequests.{ConnRequest};
 ghost use Rattle.tsd_daemon.specs.ConnRequests.ConnRequest.{Http};
-ghost use Rattle.tsd_daemon.specs.Exchanges.{moment_by, moment_for};
+ghost use Rattle.tsd_daemon.specs.Exchanges.{moment_for};
 ghost use Rattle.tsd_daemon.specs.Talks.{Causes, ClockCauses, ClockMoves, IsNext};
 
 use crate::counts::Counted;
@@ -17,7 +17,7 @@ use crate::session::{Session, tell_last};
 use cell_model::answers::RowsFault;
 use cell_model::rows::Rows;
 use compactor::queue::Queue;
-use http_api::{answer, asks_clock, call_route};
+use http_api::{RoutedCall, answer};
 use http_requests::http_call::Call;
 use http_requests::routes::Route;
 use matchit::Router;
@@ -48,15 +48,15 @@ pub fn exchange_call<R: Rows + Drop, K: Sink, C: Clock>(
     ensures causes { ClockCauses (K.faults sink.old) (K.faults sink.new) (R.stops names.old.rows) (R.stops names.new.rows) (C.faults clock.old) (C.faults clock.new) result }
     ensures number { K.number sink.new ≡ K.number sink.old }
 {
+    let routed = RoutedCall::of(router, call);
     work_call(
-        alloc, router, names, rule, config, queue, sink, clock, session, &call,
+        alloc, names, rule, config, queue, sink, clock, session, &routed,
     )
 }
 
 /// Works one call. Replies that wait are given before it, since it may make a step.
 fn work_call<R: Rows + Drop, K: Sink, C: Clock>(
     alloc: Global,
-    router: &Router<Route>,
     names: &mut Uids<R>,
     rule: &UidRule,
     config: &Config,
@@ -64,9 +64,8 @@ fn work_call<R: Rows + Drop, K: Sink, C: Clock>(
     sink: &mut K,
     clock: &mut C,
     session: &mut Session,
-    call: &Call,
+    call: &RoutedCall,
 ) -> Option<Served>
-    requires { valued router.now ≡ route_table }
     ensures moves { (come come' : List ℕ → List ConnRequest) → IsNext (Http call.now) come come'
         → ClockMoves (admission config.now rule.now.patterns) (record { moments = C.moments clock.old; calls = C.calls clock.old }) (record { seen = R.seen names.old.rows; held = K.held sink.old; queue = queue.old; waiting = session.old.replies; counts = session.old.counts }) come
         (record { moments = C.moments clock.new; calls = C.calls clock.new }) (record { seen = R.seen names.new.rows; held = K.held sink.new; queue = queue.new; waiting = session.new.replies; counts = session.new.counts }) come' result }
@@ -75,7 +74,7 @@ fn work_call<R: Rows + Drop, K: Sink, C: Clock>(
 {
     match session.replies.give(sink) {
         Ok(()) => call_in_turn(
-            alloc, router, names, rule, config, queue, sink, clock, session, call,
+            alloc, names, rule, config, queue, sink, clock, session, call,
         ),
         Err(_) => Some(Served::WriteFault),
     }
@@ -84,7 +83,6 @@ fn work_call<R: Rows + Drop, K: Sink, C: Clock>(
 /// Works one call, where no reply waits. The clock is asked before it is worked, where the call asks for the moment.
 fn call_in_turn<R: Rows + Drop, K: Sink, C: Clock>(
     alloc: Global,
-    router: &Router<Route>,
     names: &mut Uids<R>,
     rule: &UidRule,
     config: &Config,
@@ -92,53 +90,47 @@ fn call_in_turn<R: Rows + Drop, K: Sink, C: Clock>(
     sink: &mut K,
     clock: &mut C,
     session: &mut Session,
-    call: &Call,
+    call: &RoutedCall,
 ) -> Option<Served>
-    requires router { valued router.now ≡ route_table }
-    requires quiet { session.old.replies ≡ [] }
+    requires { session.old.replies ≡ [] }
     ensures moves { (come come' : List ℕ → List ConnRequest) → IsNext (Http call.now) come come'
         → ClockMoves (admission config.now rule.now.patterns) (record { moments = C.moments clock.old; calls = C.calls clock.old }) (record { seen = R.seen names.old.rows; held = K.held sink.old; queue = queue.old; waiting = session.old.replies; counts = session.old.counts }) come
         (record { moments = C.moments clock.new; calls = C.calls clock.new }) (record { seen = R.seen names.new.rows; held = K.held sink.new; queue = queue.new; waiting = session.new.replies; counts = session.new.counts }) come' result }
     ensures causes { ClockCauses (K.faults sink.old) (K.faults sink.new) (R.stops names.old.rows) (R.stops names.new.rows) (C.faults clock.old) (C.faults clock.new) result }
     ensures number { K.number sink.new ≡ K.number sink.old }
 {
-    let route = call_route(router, call);
-    match moment_of(clock, route) {
-        Ok(now) => call_at(
-            alloc, route, names, rule, config, queue, sink, session, call, now,
-        ),
+    match moment_of(clock, call) {
+        Ok(now) => call_at(alloc, names, rule, config, queue, sink, session, call, now),
         Err(_) => Some(Served::ClockFault),
     }
 }
 
-/// The moment at which a call of this route is worked, in milliseconds since 1970: the clock's where the route asks it, else 0.
-fn moment_of<C: Clock>(clock: &mut C, route: Option<Route>) -> Result<u64, Failed>
-    ensures ok { IfOk result (λ now. Ticked (record { moments = C.moments clock.old; calls = C.calls clock.old }) (option_to_list (moment_by (asks_moment route) now)) (record { moments = C.moments clock.new; calls = C.calls clock.new })) }
-    ensures err { OnErr result ((asks_moment route ≡ true) × (C.moments clock.new ≡ C.moments clock.old)) }
+/// The moment at which a call is worked, in milliseconds since 1970: the clock's where the call asks it, else 0.
+fn moment_of<C: Clock>(clock: &mut C, call: &RoutedCall) -> Result<u64, Failed>
+    ensures ok { IfOk result (λ now. Ticked (record { moments = C.moments clock.old; calls = C.calls clock.old }) (option_to_list (moment_for call.now now)) (record { moments = C.moments clock.new; calls = C.calls clock.new })) }
+    ensures err { OnErr result ((asks_clock call.now ≡ true) × (C.moments clock.new ≡ C.moments clock.old)) }
     ensures called { OnErr result (IsCalled (C.calls clock.old) (C.calls clock.new)) }
     ensures cause { HasCause (C.faults clock.old) (C.faults clock.new) result }
 {
-    if asks_clock(route) {
+    if call.asks_clock() {
         return clock.now();
     }
     Ok(0)
 }
 
-/// Works one call of this route at this moment, where no reply waits.
+/// Works one call at this moment, where no reply waits.
 fn call_at<R: Rows + Drop, K: Sink>(
     alloc: Global,
-    route: Option<Route>,
     names: &mut Uids<R>,
     rule: &UidRule,
     config: &Config,
     queue: &mut Queue,
     sink: &mut K,
     session: &mut Session,
-    call: &Call,
+    call: &RoutedCall,
     now: u64,
 ) -> Option<Served>
-    requires route { route ≡ call_route call.now }
-    requires quiet { session.old.replies ≡ [] }
+    requires { session.old.replies ≡ [] }
     ensures moves { (come come' : List ℕ → List ConnRequest) → IsNext (Http call.now) come come'
         → (told told' : ClockTells) → Ticked told (option_to_list (moment_for call.now now)) told'
         → ClockMoves (admission config.now rule.now.patterns) told (record { seen = R.seen names.old.rows; held = K.held sink.old; queue = queue.old; waiting = session.old.replies; counts = session.old.counts }) come
@@ -146,12 +138,12 @@ fn call_at<R: Rows + Drop, K: Sink>(
     ensures causes { Causes (K.faults sink.old) (K.faults sink.new) (R.stops names.old.rows) (R.stops names.new.rows) result }
     ensures number { K.number sink.new ≡ K.number sink.old }
 {
-    let reply = match answer(alloc, route, names, rule, config, queue, call, now) {
+    let reply = match answer(alloc, names, rule, config, queue, call, now) {
         Ok(reply) => reply,
         Err(RowsFault::OutOfMemory) => return Some(Served::OutOfMemory),
         Err(RowsFault::Stopped) => return Some(Served::Stopped),
     };
-    if call.closing {
+    if call.closing() {
         return Some(tell_last(sink, &mut session.replies, reply.as_slice(), Served::Closed));
     }
     match session.tell(sink, reply.as_slice(), Counted::Other) {

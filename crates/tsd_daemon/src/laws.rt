@@ -1,4 +1,5 @@
 //! Laws of connections.
+ghost use Rattle.tsd_daemon.specs.ConnCompletes.{ConnCompletes};
 ghost use Rattle.tsd_daemon.specs.HeadlineLaws.{HasOneIdEach, QueriesArePlain, ServedHasHeadline, StaysAccepted};
 ghost use Rattle.tsd_daemon.specs.ServedConns.{ServesStands};
 
@@ -15,4 +16,10 @@ pub fn headline_holds()
     ensures ids { HasOneIdEach }
     ensures queries { QueriesArePlain }
     ensures served { ServedHasHeadline }
+{}
+
+/// Where no device fails, no step is stopped, fewer than 2^40 bytes come and memory suffices, each request of a connection has its reply.
+/// The connection ends where its input does, or with a request that ends it.
+pub fn connection_completes()
+    ensures { ConnCompletes }
 {}

@@ -1,11 +1,6 @@
-use Rattle.std.proofs.Common.{◌∙◌, sym, ap, subst}
-use Rattle.std.specs.Prelude.{Option, option_to_list}
-use Rattle.http_requests.specs.declared.routes.Route.{Route}
-use Rattle.http_api.specs.CallWork.{asks_moment}
 use Rattle.point_put.specs.Admissions.{admission}
-use Rattle.tsd_daemon.specs.ConnClocks.{ClockTells, Ticked}
+use Rattle.tsd_daemon.specs.ConnClocks.{ClockTells}
 use Rattle.tsd_daemon.specs.ConnRequests.ConnRequest.{Http}
-use Rattle.tsd_daemon.specs.Exchanges.{moment_by}
 use Rattle.tsd_daemon.proofs.Moving.{clock_failed}
 use Rattle.tsd_daemon.proofs.Pieces.{clock_causes, clock_fails}
 use Rattle.tsd_daemon.proofs.call_exchange.call_in_turn.Goals as goal
@@ -14,8 +9,7 @@ pub returns-in-Ok-clause-moves : goal.returns-in-Ok-clause-moves
 returns-in-Ok-clause-moves g c = λ come come' next.
     let told : ClockTells = record { moments = g.C.Clock.moments c.args.clock.now; calls = g.C.Clock.calls c.args.clock.now } in
     let told' : ClockTells = record { moments = g.C.Clock.moments c.moment_of.new.clock; calls = g.C.Clock.calls c.moment_of.new.clock } in
-    let ticked = subst (λ (r : Option Route). Ticked told (option_to_list (moment_by (asks_moment r) c.in-Ok.now)) told') c.call_route-route.ensures.route c.in-Ok.ensures.ok in
-    c.call_at.ensures.moves come come' next told told' ticked
+    c.call_at.ensures.moves come come' next told told' c.in-Ok.ensures.ok
 
 pub returns-in-Ok-clause-causes : goal.returns-in-Ok-clause-causes
 returns-in-Ok-clause-causes g c = clock_causes _ _ _ _ _ _ c.call_at.result c.in-Ok.ensures.cause.later c.call_at.ensures.causes
@@ -23,7 +17,7 @@ returns-in-Ok-clause-causes g c = clock_causes _ _ _ _ _ _ c.call_at.result c.in
 pub returns-in-Err-clause-moves : goal.returns-in-Err-clause-moves
 returns-in-Err-clause-moves g c = λ come come' next.
     clock_failed (admission c.args.config.now c.args.rule.now.patterns) (record { seen = g.R.Rows.seen c.args.names.now.rows; held = g.K.Sink.held c.args.sink.now; queue = c.args.queue.now; waiting = c.args.session.now.replies; counts = c.args.session.now.counts }) (g.C.Clock.moments c.args.clock.now) (g.C.Clock.moments c.moment_of.new.clock) (g.C.Clock.calls c.args.clock.now) (g.C.Clock.calls c.moment_of.new.clock)
-    (Http c.args.call.now) come come' c.requires.quiet (ap asks_moment (sym c.call_route-route.ensures.route) ∙ c.in-Err.ensures.err.0, c.in-Err.ensures.err.1) c.in-Err.ensures.called next
+    (Http c.args.call.now) come come' c.requires c.in-Err.ensures.err c.in-Err.ensures.called next
 
 pub returns-in-Err-clause-causes : goal.returns-in-Err-clause-causes
 returns-in-Err-clause-causes g c = clock_fails _ _ _ _ c.in-Err.ensures.cause.later c.in-Err.ensures.cause.failed

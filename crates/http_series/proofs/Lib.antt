@@ -1,0 +1,6 @@
+mod FaultLemmas
+mod Listing
+mod NumberLemmas
+mod PointLists
+mod PointRuns
+mod SeriesLemmas
