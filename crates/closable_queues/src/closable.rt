@@ -35,7 +35,7 @@ impl<X: Drop, P: Ledger, T: Ledger> ClosableQueues<X, P, T> {
     }
 
     /// Puts the one with this number, from 0, at the end of the queue whose turn it is, and wakes one that waits there.
-    /// Where there is no memory it comes back.
+    /// Where there is no memory, or the queues are closed, it comes back.
     pub fn put<R: Wait>(&self, rt: &R, number: u64, mine: &mut Share<P>, x: X) -> Result<(), X>
         requires some { 0 < mine.old.parts }
         ensures moved { MatchResult result (λ _. mine.new.amount ≡ mine.old.amount + 1)
@@ -61,6 +61,15 @@ impl<X: Drop, P: Ledger, T: Ledger> ClosableQueues<X, P, T> {
             lists.must_wait(at)
         });
         lists.take(at, mine)
+    }
+
+    /// Waits until the queue with this number, from 0, has one or the queues are closed. False says that they are closed.
+    pub fn wait<R: Wait>(&self, rt: &R, queue: usize) -> bool {
+        let at = queue % self.arrivals.len();
+        let lists = self.arrivals[at].wait_while(rt, self.lists.lock(rt), |lists| {
+            lists.must_wait(at)
+        });
+        !lists.is_closed()
     }
 
     /// Closes the queues and wakes all that wait.

@@ -39,14 +39,14 @@ impl<X: Drop, P: Ledger, T: Ledger> QueueLists<X, P, T> {
         })
     }
 
-    /// Puts one at the end of the list at this place. Where there is no memory, or no such list, it comes back.
+    /// Puts one at the end of the list at this place. Where there is no memory, or no such list, or they are closed, it comes back.
     pub fn put(&mut self, at: usize, mine: &mut Share<P>, x: X) -> Result<(), X>
         requires some { 0 < mine.old.parts }
         ensures moved { MatchResult result (λ _. mine.new.amount ≡ mine.old.amount + 1)
             (λ back. (back ≡ x) × (mine.new.amount ≡ mine.old.amount)) }
         ensures parts { mine.new.parts ≡ mine.old.parts }
     {
-        if at >= self.lists.len() {
+        if at >= self.lists.len() || self.closed {
             return Err(x);
         }
         match push_at(&mut self.lists, at, x) {
@@ -118,6 +118,11 @@ impl<X: Drop, P: Ledger, T: Ledger> QueueLists<X, P, T> {
             Some(list) => list.is_empty() && !self.closed,
             None => false,
         }
+    }
+
+    /// Whether the lists are closed.
+    pub fn is_closed(&self) -> bool {
+        self.closed
     }
 
     /// Closes all lists: no taker waits any more.

@@ -1,5 +1,5 @@
 //! What a worker has served, and how it is given back to the doors.
-ghost use Rattle.std.specs.Prelude.{◌≡◌, ◌≤◌, ◌+◌, ◌++◌, [], length, map, vec_capacity, IfOk, OnErr};
+ghost use Rattle.std.specs.Prelude.{◌≡◌, ◌<◌, ◌≤◌, ◌+◌, ◌++◌, [], length, map, vec_capacity, IfOk, OnErr};
 ghost use Rattle.link_workers.specs.Returns.{AllEnd, many_returned};
 
 use std::alloc::{AllocError, Global};
@@ -25,6 +25,15 @@ impl<W: Drop, K: Drop, E: Drop> LinkEnds<W, K, E> {
             work,
             ends: Vec::new(alloc),
         }
+    }
+
+    /// Takes room for a further end. It fails only for want of memory.
+    pub(crate) fn take_room(&mut self) -> Result<(), AllocError>
+        ensures work { self.new.work ≡ self.old.work }
+        ensures ends { self.new.ends.items ≡ self.old.ends.items }
+        ensures room { IfOk result (λ _. length self.new.ends.items < vec_capacity self.new.ends) }
+    {
+        self.ends.reserve(1)
     }
 }
 

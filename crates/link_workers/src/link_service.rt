@@ -114,13 +114,8 @@ fn serve_counted<
 {
     let (puts, mut put) = puts.open::<P>();
     let (takes, mut taken) = takes.open::<T>();
-    let Ok((queues, seated)) = make_queues::<D, W, P, T>(
-        alloc,
-        queue_count,
-        workers.len(),
-        puts,
-        takes,
-    ) else {
+    let Ok((queues, seated)) = make_queues::<D, W, P, T>(alloc, queue_count, workers, puts, takes)
+    else {
         return Accepted {
             links: 0,
             end: AcceptEnd::OutOfMemory,
@@ -140,11 +135,11 @@ fn serve_counted<
     }
 }
 
-/// The queues, and room for so many workers.
+/// The queues, and room for the workers and for the first end of each.
 fn make_queues<D: Doors, W: LinkWork<D::Inlet, D::Outlet> + Drop, P: Ledger, T: Ledger>(
     alloc: Global,
     queue_count: usize,
-    worker_count: usize,
+    workers: &mut Vec<LinkEnds<W, D::Kept, W::End>>,
     puts: Book<P>,
     takes: Book<T>,
 ) -> Result<
@@ -157,12 +152,36 @@ fn make_queues<D: Doors, W: LinkWork<D::Inlet, D::Outlet> + Drop, P: Ledger, T: 
     requires some { 0 < queue_count }
     requires puts { puts.total ≡ 0 }
     requires takes { takes.total ≡ 0 }
+    requires idle { All (λ worker. worker.ends.items ≡ []) workers.old.items }
+    requires begun { All (λ worker. W.served worker.work []) workers.old.items }
     ensures none { IfOk result (λ made. made.1.items ≡ []) }
-    ensures room { IfOk result (λ made. worker_count ≤ vec_capacity made.1) }
+    ensures room { IfOk result (λ made. vec_len workers.old ≤ vec_capacity made.1) }
+    ensures len { vec_len workers.new ≡ vec_len workers.old }
+    ensures idle { All (λ worker. worker.ends.items ≡ []) workers.new.items }
+    ensures begun { All (λ worker. W.served worker.work []) workers.new.items }
+    ensures ready { IfOk result (λ _. All (λ worker. 0 < vec_capacity worker.ends) workers.new.items) }
 {
-    let seated = Vec::with_capacity(alloc, worker_count)?;
+    take_rooms::<D, W>(workers)?;
+    let seated = Vec::with_capacity(alloc, workers.len())?;
     let queues = ClosableQueues::make(alloc, queue_count, puts, takes)?;
     Ok((queues, seated))
+}
+
+/// Takes room for the first end of each worker, so that none ends before it has served. It fails only for want of memory.
+fn take_rooms<D: Doors, W: LinkWork<D::Inlet, D::Outlet> + Drop>(
+    workers: &mut Vec<LinkEnds<W, D::Kept, W::End>>,
+) -> Result<(), AllocError>
+    requires idle { All (λ worker. worker.ends.items ≡ []) workers.old.items }
+    requires begun { All (λ worker. W.served worker.work []) workers.old.items }
+    ensures len { vec_len workers.new ≡ vec_len workers.old }
+    ensures idle { All (λ worker. worker.ends.items ≡ []) workers.new.items }
+    ensures begun { All (λ worker. W.served worker.work []) workers.new.items }
+    ensures ready { IfOk result (λ _. All (λ worker. 0 < vec_capacity worker.ends) workers.new.items) }
+{
+    for at in 0..workers.len() {
+        workers[at].take_room()?;
+    }
+    Ok(())
 }
 
 /// Gives each worker a queue and a part of the book of what is taken.

@@ -27,8 +27,8 @@ pub struct LinkWorker<W: Drop, K: Drop, E: Drop, T: Ledger> {
     ghost counted: { share.amount ≡ length links.ends.items },
 }
 
-/// Serves the connections of the worker's queue until it is closed and empty, or until there is no room for a further end,
-/// which is taken before the connection is.
+/// Serves the connections of the worker's queue until it is closed and empty. Room for a further end is taken before a connection is.
+/// Where there is none it tries again once a connection comes, and ends where the queue is closed.
 pub fn serve_worker<
     R: Wait,
     D: Doors,
@@ -48,31 +48,15 @@ pub fn serve_worker<
         share,
         queue,
     } = worker;
-    serve_queue::<R, D, W, P, T>(rt, queues, *queue, links, share);
-}
-
-/// Serves the connections of the queue with this number until it is closed and empty, or there is no room for a further end.
-fn serve_queue<R: Wait, D: Doors, W: LinkWork<D::Inlet, D::Outlet> + Drop, P: Ledger, T: Ledger>(
-    rt: &R,
-    queues: &ClosableQueues<Link<D::Inlet, D::Outlet>, P, T>,
-    queue: usize,
-    links: &mut LinkEnds<W, D::Kept, W::End>,
-    share: &mut Share<T>,
-)
-    requires some { 0 < share.old.parts }
-    requires served { AllServed W.served D.shown links.old.work links.old.ends.items }
-    ensures parts { share.new.parts ≡ share.old.parts }
-    ensures counted { share.new.amount + length links.old.ends.items ≡ share.old.amount + length links.new.ends.items }
-    ensures served { AllServed W.served D.shown links.new.work links.new.ends.items }
-{
     for _ in rt.forever() {
-        if links.ends.reserve(1).is_err() {
+        if links.ends.reserve(1).is_ok() {
+            let Some(link) = queues.take(rt, *queue, share) else {
+                return;
+            };
+            serve_next::<D, W>(links, link);
+        } else if !queues.wait(rt, *queue) {
             return;
         }
-        let Some(link) = queues.take(rt, queue, share) else {
-            return;
-        };
-        serve_next::<D, W>(links, link);
     }
 }
 
@@ -118,21 +102,10 @@ fn serve_next<D: Doors, W: LinkWork<D::Inlet, D::Outlet> + Drop>(
     ensures one { length links.new.ends.items ≡ length links.old.ends.items + 1 }
     ensures served { AllServed W.served D.shown links.new.work links.new.ends.items }
 {
-    let one = serve_link::<D, W>(&mut links.work, link);
-    links.ends.push_reserved(one);
-}
-
-/// Serves one connection to its end, and shuts it.
-fn serve_link<D: Doors, W: LinkWork<D::Inlet, D::Outlet>>(
-    work: &mut W,
-    link: Link<D::Inlet, D::Outlet>,
-) -> (D::Kept, W::End)
-    ensures { (before : List (Shut × W.End)) → W.served work.old before → W.served work.new (before ++ (D.shown result.0, result.1) ∷ []) }
-{
     let Link {
         mut inlet,
         mut outlet,
     } = link;
-    let end = work.serve(&mut inlet, &mut outlet);
-    (D::shut(inlet, outlet), end)
+    let end = links.work.serve(&mut inlet, &mut outlet);
+    links.ends.push_reserved((D::shut(inlet, outlet), end));
 }

@@ -5,7 +5,7 @@ use Rattle.link_workers.proofs.link_service.serve_counted.Goals as goal
 
 pub returns-in_default-clause-counted : goal.returns-in_default-clause-counted
 returns-in_default-clause-counted g c =
-    let idle = none_served (λ worker. worker.ends.items) c.args.workers.now.items c.requires.idle in
+    let idle = none_served (λ worker. worker.ends.items) c.make_queues.new.workers.items c.make_queues.ensures.idle in
     let own = ap length c.requires.own_idle in
     accounts_none _ _ (omega (arith, idle, own))
 
