@@ -4,3 +4,5 @@ pub mod ImageWrites
 pub mod Laws
 pub mod ImageTakes
 pub mod ImageGifts
+pub mod StoreImages
+pub mod LargeLines

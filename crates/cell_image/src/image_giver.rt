@@ -6,7 +6,7 @@ ghost use Rattle.listing_print.specs.GivenTexts.{GaveFront, GaveUpTo};
 ghost use Rattle.cell_image.specs.Images.{first_large, image};
 ghost use Rattle.cell_image.specs.ImageGifts.{GivesImage, told_of};
 
-use crate::image_writer::{first_large, push_cell, push_head};
+use crate::image_writer::{first_large, push_cell, push_head_of};
 use cell_model::Listing;
 use listing_print::{GiveFault, give_text};
 use std::alloc::Global;
@@ -57,11 +57,7 @@ fn told_of(fault: GiveFault) -> GiveImageFault
 }
 
 /// Gives the image of a listing of which each cell fits, piece by piece, as `give_image` does.
-pub fn give_fitting<K: Sink>(
-    alloc: Global,
-    sink: &mut K,
-    listing: &Listing,
-) -> Result<(), GiveFault>
+fn give_fitting<K: Sink>(alloc: Global, sink: &mut K, listing: &Listing) -> Result<(), GiveFault>
     requires { first_large listing.now.lines ≡ None }
     ensures ok { OnOk result (Appends (K.held sink.old) (K.held sink.new) (image listing.now)) }
     ensures err { OnErr result (GaveFront (K.held sink.old) (K.held sink.new) (image listing.now)) }
@@ -70,7 +66,7 @@ pub fn give_fitting<K: Sink>(
 {
     let cells = listing.lines();
     let mut bytes = Vec::new(alloc);
-    push_head(&mut bytes, listing)?;
+    push_head_of(&mut bytes, listing)?;
     for at in 0..cells.len() {
         push_cell(&mut bytes, &cells[at])?;
         give_full(sink, &mut bytes)?;

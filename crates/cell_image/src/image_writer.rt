@@ -2,7 +2,7 @@
 ghost use Rattle.std.specs.Prelude.{◌≡◌, ◌+◌, ◌^◌, ◌<◌, ◌++◌, true, not, None, length, position, IfSome, OnOk};
 ghost use Rattle.std.specs.Int.{w16, w32, w64, to_be_bytes};
 ghost use Rattle.cell_model.specs.PlaceOrder.{table_number};
-ghost use Rattle.cell_image.specs.Images.{cell_image, cells_image, first_large, fits, head_image, image, part_image, width_bytes};
+ghost use Rattle.cell_image.specs.Images.{cell_image, cells_image, first_large, fits, head_image, image, mark, part_image, width_bytes};
 ghost use Rattle.cell_image.specs.ImageWrites.{WritesImage};
 
 use crate::image_fault::WriteImageFault;
@@ -18,7 +18,7 @@ pub fn write_image(alloc: Global, listing: &Listing) -> Result<Vec<u8>, WriteIma
         return Err(WriteImageFault::TooLarge { cell });
     }
     let mut bytes = Vec::new(alloc);
-    push_head(&mut bytes, listing)?;
+    push_head_of(&mut bytes, listing)?;
     push_cells(&mut bytes, listing.lines())?;
     Ok(bytes)
 }
@@ -42,7 +42,7 @@ fn place_of_large(cells: &[ListLine]) -> Option<usize>
 }
 
 /// Whether the length of each part of a cell fits its bytes.
-fn fits(cell: &ListLine) -> bool
+pub(crate) fn fits(cell: &ListLine) -> bool
     ensures { result ≡ fits cell.now }
 {
     cell.row.list().len() < 1 << 16
@@ -51,12 +51,18 @@ fn fits(cell: &ListLine) -> bool
 }
 
 /// Adds the head of a listing's image. It fails only for want of memory.
-pub fn push_head(bytes: &mut Vec<u8>, listing: &Listing) -> Result<(), AllocError>
+pub(crate) fn push_head_of(bytes: &mut Vec<u8>, listing: &Listing) -> Result<(), AllocError>
     ensures { OnOk result (bytes.new.items ≡ bytes.old.items ++ head_image listing.now) }
 {
-    let number = listing.lines().len() as u64;
+    push_head(bytes, listing.widths(), listing.lines().len() as u64)
+}
+
+/// Adds the head of the image of so many cells, whose ids have these widths. It fails only for want of memory.
+pub(crate) fn push_head(bytes: &mut Vec<u8>, widths: Widths, number: u64) -> Result<(), AllocError>
+    ensures { OnOk result (bytes.new.items ≡ bytes.old.items ++ (mark ++ (width_bytes widths ++ to_be_bytes w64 number))) }
+{
     bytes.extend_from_slice(b"tsdimg01")?;
-    push_widths(bytes, listing.widths())?;
+    push_widths(bytes, widths)?;
     bytes.extend_from_slice(&number.to_be_bytes())
 }
 

@@ -1,5 +1,6 @@
 -- What is told of an image that is refused.
 use Rattle.std.specs.Prelude.{ℕ, true, List, ◌++◌, codes, decimal}
+use Rattle.cell_image.specs.LargeLines.{large_line}
 use Rattle.cell_image.specs.declared.image_fault.ImageFault.{ImageFault}
 use Rattle.cell_image.specs.declared.image_fault.ImageFault.TheVariants.{CutShort, BadMark, BadWidths, BadTable, EmptyPart, NotRising, Trailing, OutOfMemory}
 use Rattle.listing_check.specs.Faults.{flaw_text}
@@ -26,7 +27,7 @@ refused_by text = record { refused = true; text = codes "image: " ++ text ++ cod
 
 -- a cell, from 1, has a part that is too long
 abbrev pub large_told : ℕ → Told
-large_told cell = refused_by (placed (codes "cell ") cell ++ codes " too large")
+large_told cell = record { refused = true; text = large_line cell }
 
 -- a cell, from 1, has this flaw
 abbrev pub flaw_told : ℕ × Flaw → Told

@@ -4,6 +4,7 @@ ghost use Rattle.listing_job.specs.Shows.{told_of};
 ghost use Rattle.image_job.specs.ImageTexts.{flaw_told, image_fault_text, large_told, placed, refused_by};
 
 use cell_image::ImageFault;
+use cell_image::large_line::push_large_line;
 use listing_check::report::Flaw;
 use listing_job::shown::Shown;
 use std::alloc::{AllocError, Global};
@@ -28,10 +29,7 @@ pub fn large_told(alloc: Global, cell: u64) -> Result<Shown, AllocError>
     ensures { IfOk result (λ shown. told_of shown ≡ large_told cell) }
 {
     let mut text = Vec::new(alloc);
-    text.extend_from_slice(b"image: ")?;
-    push_placed(&mut text, b"cell ", cell)?;
-    text.extend_from_slice(b" too large")?;
-    text.extend_from_slice(b"\n")?;
+    push_large_line(&mut text, cell)?;
     Ok(Shown {
         refused: true,
         text,

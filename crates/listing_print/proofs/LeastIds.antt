@@ -28,14 +28,14 @@ use Rattle.cell_model.proofs.CallerLemmas.{greatest_fits}
 use Rattle.cell_laws.proofs.CallerLemmas.{same_kind}
 use Rattle.listing_print.specs.IdsLeft.{AreIds, all_ids, first_of, least_of, left_of, lesser, passed_all, without, without_first}
 use Rattle.listing_print.specs.MetricRows.{metric_end}
-use Rattle.listing_print.specs.StoreTexts.{row_at}
+use Rattle.listing_print.specs.StoreRows.{row_at}
 use Rattle.listing_print.specs.declared.ids_left.Left.{Left}
 use Rattle.listing_print.specs.declared.ids_left.IdsLeft.{IdsLeft}
 use Rattle.listing_print.proofs.IdOrder.{kind_below, kind_on}
 use Rattle.listing_print.proofs.NextRows.{row_between}
 use Rattle.listing_print.proofs.RowOrder.{not_back}
 use Rattle.listing_print.proofs.SoundRows.{at_row, clash, greater_metric, has_metric, le_or_gt, lt_less}
-use Rattle.listing_print.proofs.StoreLines.{Gap}
+use Rattle.listing_print.proofs.RowLines.{Gap}
 
 -- ---- how great an id may be
 

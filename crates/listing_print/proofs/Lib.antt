@@ -1,11 +1,11 @@
 mod GivenCells
-mod GivenIds
 mod Giving
 mod IdOrder
+mod IdsTaken
 mod LeastIds
 mod NextRows
 mod RangeSteps
+mod RowLines
 mod RowOrder
 mod SoundRows
 mod Steps
-mod StoreLines

@@ -23,7 +23,7 @@ use Rattle.list_lemmas.specs.BytesOrder.{bytes_cmp}
 use Rattle.list_lemmas.proofs.BoolTests.{T_left, T_right, T_less, both_true, is_equal, not_Some}
 use Rattle.list_lemmas.proofs.OrderedBytes.{behind, below_behind, from_on_from_on, less_behind, prefix_between}
 use Rattle.listing_print.proofs.RowOrder.{not_back}
-use Rattle.listing_print.proofs.StoreLines.{Gap}
+use Rattle.listing_print.proofs.RowLines.{Gap}
 
 lt_less : (r : Ordering) → is_lt r ≡ true → r ≡ Less
 lt_less Less e = refl

@@ -1,6 +1,6 @@
 -- One more row of a range, and where a range begins and ends.
 use Rattle.std.proofs.Common.{◌≡◌, ℕ, ◌+◌, ◌≤◌, ◌<◌, false, List, [], ◌∷◌, ◌++◌, refl, sym, ap, subst, ◌∙◌, arith}
-use Rattle.std.specs.Prelude.{Option, None, Some, Result, Ok, Err, OnOk, OnErr}
+use Rattle.std.specs.Prelude.{None, Some, Result, Ok, Err, OnOk, OnErr}
 use Rattle.std.specs.Int.{w32, to_be_bytes}
 use Rattle.std.specs.Ordering.{is_lt}
 use Rattle.std.specs.Cmp.Lexicographic.{nat_list_cmp_total}
@@ -15,16 +15,17 @@ use Rattle.row_key.specs.Key.{hour_bytes, id_bytes, most_ids}
 use Rattle.row_key.proofs.CallerLemmas.{length_bytes}
 use Rattle.cell_model.specs.declared.row.Row.{Row}
 use Rattle.cell_model.specs.declared.row.Found.{Found}
+use Rattle.cell_model.specs.declared.row.ListLine.{ListLine}
 use Rattle.cell_model.specs.Machine.{counter_of, counter_row}
 use Rattle.cell_model.specs.Ranges.{InOneRange}
 use Rattle.cell_model.specs.Sound.{IsSound}
 use Rattle.cell_model.specs.Store.{Store, cells_of, next_row_of}
-use Rattle.listing_print.specs.GivenTexts.{GaveFront, GaveUpTo}
+use Rattle.listing_print.specs.LineTaking.{JoinsLines}
 use Rattle.listing_print.specs.IdsLeft.{all_ids, least_of, passed_all}
 use Rattle.listing_print.specs.MetricRows.{metric_end, metric_start}
-use Rattle.listing_print.specs.StoreTexts.{GaveRows, GaveSome, row_at, row_text, text_from}
+use Rattle.listing_print.specs.StoreRows.{TookRows, TookSome, lines_from, row_at, row_lines}
 use Rattle.listing_print.specs.declared.ids_left.IdsLeft.{IdsLeft}
-use Rattle.listing_print.proofs.GivenIds.{IdsGiven}
+use Rattle.listing_print.proofs.IdsTaken.{IdsTaken}
 use Rattle.listing_print.proofs.IdOrder.{id_below, same_front}
 use Rattle.listing_print.proofs.LeastIds.{counter_fits, ids_begin, ids_on, least_gap, least_on, none_gap}
 use Rattle.listing_print.proofs.NextRows.{end_behind, end_on, found_on, next_between, next_cells, next_gap, next_none, range_behind}
@@ -44,73 +45,11 @@ err_map (Err e) A B f a = f a
 
 -- ---- the next row of a range
 
-module _ (s : Store) (table : Table) (first next to : List ℕ) (held held' held'' : Option (List ℕ)) (waited waits : List ℕ) (f : Found) (is : next_row_of s table next to ≡ Some f)
-    (so_far : GaveRows s (row_at table first) (row_at table next) held held' waited waits) where
-  pub range_on : (after waits' : List ℕ) → after ≡ f.row.bytes ++ 0 ∷ [] → GaveUpTo held' held'' (waits ++ row_text f.row f.cells) waits' → GaveRows s (row_at table first) (row_at table after) held held'' waited waits'
-  range_on after waits' after_is gave =
-      let b = next_between s table next to f is in
-      let there : behind_row f.row ≡ row_at table after = λ i. record { table = b.in_table i; bytes = sym after_is i } in
-      subst (λ (r : Row). GaveRows s (row_at table first) r held held'' waited waits') there
-      (rows_on s (row_at table first) (row_at table next) held held' waited waits so_far f.row f.cells held'' waits' (found_on table next to f.row b) (next_gap s table next to f is) (next_cells s table next to f is) gave)
-
-  pub range_front : GaveFront held' held'' (waits ++ row_text f.row f.cells) → GaveSome s (row_at table first) held held'' waited
-  range_front gave =
-      let b = next_between s table next to f is in
-      rows_front s (row_at table first) (row_at table next) held held' waited waits so_far f.row f.cells held'' (found_on table next to f.row b) (next_gap s table next to f is) (next_cells s table next to f is) gave
-
 pub range_left : (s : Store) (table : Table) (next to after : List ℕ) (f : Found) → next_row_of s table next to ≡ Some f → after ≡ f.row.bytes ++ 0 ∷ [] → InOneRange s.widths table next to → InOneRange s.widths table after to
 range_left s table next to after f is after_is range = subst (λ (xs : List ℕ). InOneRange s.widths table xs to) (sym after_is) (range_behind s.widths table next to f.row range (next_between s table next to f is))
 
 pub range_forward : (s : Store) (table : Table) (next to after : List ℕ) (f : Found) → next_row_of s table next to ≡ Some f → after ≡ f.row.bytes ++ 0 ∷ [] → is_lt (bytes_cmp to after) ≡ false
 range_forward s table next to after f is after_is = subst (λ (xs : List ℕ). is_lt (bytes_cmp to xs) ≡ false) (sym after_is) (end_behind table next to f.row (next_between s table next to f is))
-
-pub range_end : (s : Store) (table : Table) (first next to : List ℕ) (held held' : Option (List ℕ)) (waited waits : List ℕ) → next_row_of s table next to ≡ None → is_lt (bytes_cmp to next) ≡ false
-    → GaveRows s (row_at table first) (row_at table next) held held' waited waits → GaveRows s (row_at table first) (row_at table to) held held' waited waits
-range_end s table first next to held held' waited waits none forward so_far =
-    rows_over s (row_at table first) (row_at table next) held held' waited waits so_far (row_at table to) (end_on table next to forward) (next_none s table next to none)
-
--- ---- the counters
-
-pub counters_given : (s : Store) → IsSound s → (row : Row) (cells : List Cell) (held held' : Option (List ℕ)) (waited waits : List ℕ) → row ≡ counter_row → cells ≡ cells_of s row
-    → GaveUpTo held held' (waited ++ row_text row cells) waits → GaveRows s (row_at Ids []) (row_at Ids (1 ∷ [])) held held' waited waits
-counters_given s sound row cells held held' waited waits row_is cells_are gave =
-    let own : cells ≡ cells_of s counter_row = cells_are ∙ ap (cells_of s) row_is in
-    let given = subst (λ (r : Row). GaveUpTo held held' (waited ++ row_text r cells) waits) row_is gave in
-    rows_over s (row_at Ids []) (behind_row counter_row) held held' waited waits
-    (rows_on s (row_at Ids []) (row_at Ids []) held held waited waited (rows_begin s (row_at Ids []) held waited) counter_row cells held' waits refl (before_counters s sound) own given)
-    (row_at Ids (1 ∷ [])) refl (behind_counters s sound)
-
-pub counters_front : (s : Store) → IsSound s → (row : Row) (cells : List Cell) (held held' : Option (List ℕ)) (waited : List ℕ) → row ≡ counter_row → cells ≡ cells_of s row
-    → GaveFront held held' (waited ++ row_text row cells) → GaveSome s (row_at Ids []) held held' waited
-counters_front s sound row cells held held' waited row_is cells_are gave =
-    let own : cells ≡ cells_of s counter_row = cells_are ∙ ap (cells_of s) row_is in
-    let given = subst (λ (r : Row). GaveFront held held' (waited ++ row_text r cells)) row_is gave in
-    rows_front s (row_at Ids []) (row_at Ids []) held held waited waited (rows_begin s (row_at Ids []) held waited) counter_row cells held' refl (before_counters s sound) own given
-
--- ---- ids
-
-pub ids_start : (s : Store) (ids : IdsLeft) (held : Option (List ℕ)) (text : List ℕ) → ids ≡ all_ids s → IdsGiven s ids held held text text
-ids_start s ids held text is = subst (λ (x : IdsLeft). IdsGiven s x held held text text) (sym is) (record { bound = []; done = ids_begin s; gave = rows_begin s (row_at Names []) held text })
-
-pub ids_next : (s : Store) → IsSound s → (ids ids' : IdsLeft) (r : List ℕ) (cells : List Cell) (held held' held'' : Option (List ℕ)) (waited waits waits' : List ℕ) → least_of s.widths ids ≡ Some r → ids' ≡ passed_all s.widths ids r → cells ≡ cells_of s (row_at Names r)
-    → IdsGiven s ids held held' waited waits → GaveUpTo held' held'' (waits ++ row_text (row_at Names r) cells) waits' → IdsGiven s ids' held held'' waited waits'
-ids_next s sound ids ids' r cells held held' held'' waited waits waits' least ids_are cells_are g gave =
-    subst (λ (x : IdsLeft). IdsGiven s x held held'' waited waits') (sym ids_are)
-    (record {
-      bound = behind r;
-      done = ids_on s sound ids g.bound r g.done least;
-      gave = rows_on s (row_at Names []) (row_at Names g.bound) held held' waited waits g.gave (row_at Names r) cells held'' waits' (least_on s ids g.bound r g.done least) (least_gap s sound ids g.bound r g.done least) cells_are gave;
-    })
-
-pub ids_front : (s : Store) → IsSound s → (ids : IdsLeft) (r : List ℕ) (cells : List Cell) (held held' held'' : Option (List ℕ)) (waited waits : List ℕ) → least_of s.widths ids ≡ Some r → cells ≡ cells_of s (row_at Names r)
-    → IdsGiven s ids held held' waited waits → GaveFront held' held'' (waits ++ row_text (row_at Names r) cells) → GaveSome s (row_at Names []) held held'' waited
-ids_front s sound ids r cells held held' held'' waited waits least cells_are g gave =
-    rows_front s (row_at Names []) (row_at Names g.bound) held held' waited waits g.gave (row_at Names r) cells held'' (least_on s ids g.bound r g.done least) (least_gap s sound ids g.bound r g.done least) cells_are gave
-
-pub ids_end : (s : Store) → IsSound s → (ids : IdsLeft) (held held' : Option (List ℕ)) (waited waits : List ℕ) → least_of s.widths ids ≡ None → IdsGiven s ids held held' waited waits
-    → GaveRows s (row_at Names []) (row_at Points (metric_end s.widths 0)) held held' waited waits
-ids_end s sound ids held held' waited waits none g =
-    rows_over s (row_at Names []) (row_at Names g.bound) held held' waited waits g.gave (row_at Points (metric_end s.widths 0)) refl (none_gap s sound ids g.bound g.done none)
 
 -- ---- metrics
 
@@ -131,36 +70,97 @@ forward_here w metric from to from_is to_is = ap (λ (xs : List ℕ). is_lt (byt
 next_on : (w : Widths) (before : ℕ) → before + 1 ≤ most_ids w.metric → is_lt (bytes_cmp (metric_start w (before + 1)) (metric_end w before)) ≡ false
 next_on w before most = not_back nat_list_cmp_total (metric_end w before) (metric_start w (before + 1)) (id_below w.metric w.metric_fits before (before + 1) (to_be_bytes w32 4294967295) (to_be_bytes w32 0) (omega arith) most)
 
--- behind a metric the next one comes first
-metric_first : (s : Store) → IsSound s → (before : ℕ) (held : Option (List ℕ)) (waited : List ℕ) → before + 1 ≤ most_ids s.widths.metric
-    → GaveRows s (row_at Points (metric_end s.widths before)) (row_at Points (metric_start s.widths (before + 1))) held held waited waited
-metric_first s sound before held waited most =
-    let from = row_at Points (metric_end s.widths before) in
-    rows_over s from from held held waited waited (rows_begin s from held waited) (row_at Points (metric_start s.widths (before + 1)))
-    (end_on Points (metric_end s.widths before) (metric_start s.widths (before + 1)) (next_on s.widths before most)) (between_metrics s sound before most)
-
-pub metric_given : (s : Store) → IsSound s → (before : ℕ) (w : Widths) (from to : List ℕ) (held held' : Option (List ℕ)) (waited waits : List ℕ) → before + 1 ≤ most_ids s.widths.metric → w ≡ s.widths
-    → from ≡ hour_bytes w (before + 1) 0 → to ≡ hour_bytes w (before + 1) 4294967295 → GaveRows s (row_at Points from) (row_at Points to) held held' waited waits
-    → GaveRows s (row_at Points (metric_end s.widths before)) (row_at Points (metric_end s.widths (before + 1))) held held' waited waits
-metric_given s sound before w from to held held' waited waits most w_is from_is to_is gave =
-    let one : from ≡ metric_start s.widths (before + 1) = from_is ∙ ap (λ (x : Widths). hour_bytes x (before + 1) 0) w_is in
-    let two : to ≡ metric_end s.widths (before + 1) = to_is ∙ ap (λ (x : Widths). hour_bytes x (before + 1) 4294967295) w_is in
-    let given = subst (λ (xs : List ℕ). GaveRows s (row_at Points xs) (row_at Points (metric_end s.widths (before + 1))) held held' waited waits) one (subst (λ (xs : List ℕ). GaveRows s (row_at Points from) (row_at Points xs) held held' waited waits) two gave) in
-    rows_then s (row_at Points (metric_end s.widths before)) (row_at Points (metric_start s.widths (before + 1))) held held waited waited (metric_first s sound before held waited most) (row_at Points (metric_end s.widths (before + 1))) held' waits given
-
-pub metric_some : (s : Store) → IsSound s → (before : ℕ) (w : Widths) (from : List ℕ) (held held' : Option (List ℕ)) (waited : List ℕ) → before + 1 ≤ most_ids s.widths.metric → w ≡ s.widths
-    → from ≡ hour_bytes w (before + 1) 0 → GaveSome s (row_at Points from) held held' waited → GaveSome s (row_at Points (metric_end s.widths before)) held held' waited
-metric_some s sound before w from held held' waited most w_is from_is gave =
-    let one : from ≡ metric_start s.widths (before + 1) = from_is ∙ ap (λ (x : Widths). hour_bytes x (before + 1) 0) w_is in
-    some_then s (row_at Points (metric_end s.widths before)) (row_at Points (metric_start s.widths (before + 1))) held held waited waited (metric_first s sound before held waited most) held'
-    (subst (λ (xs : List ℕ). GaveSome s (row_at Points xs) held held' waited) one gave)
-
 pub metrics_fit : (s : Store) → IsSound s → (metrics before : ℕ) → metrics ≡ counter_of s Metric → before < metrics → before + 1 ≤ most_ids s.widths.metric
 metrics_fit s sound metrics before is lt = let fits = counter_fits s sound Metric in omega (arith, is, lt, fits)
 
-pub metrics_end : (s : Store) → IsSound s → (metrics before : ℕ) (held held' : Option (List ℕ)) (waited waits : List ℕ) → metrics ≡ counter_of s Metric → metrics ≤ before → before ≤ metrics
-    → GaveRows s (row_at Points (metric_end s.widths 0)) (row_at Points (metric_end s.widths before)) held held' waited waits → GaveUpTo held held' (waited ++ text_from s (row_at Points (metric_end s.widths 0))) waits
-metrics_end s sound metrics before held held' waited waits is over within so_far =
-    let same : before ≡ counter_of s Metric = omega (arith, is, over, within) in
-    let all = subst (λ (n : ℕ). GaveRows s (row_at Points (metric_end s.widths 0)) (row_at Points (metric_end s.widths n)) held held' waited waits) same so_far in
-    rows_end s (row_at Points (metric_end s.widths 0)) (row_at Points (metric_end s.widths (counter_of s Metric))) held held' waited waits all (behind_metrics s sound (counter_fits s sound Metric))
+-- ---- what was taken
+
+module _ {S : Type 0} {took ended : List ListLine → S → S → Type 0} (laws : JoinsLines took ended) where
+  pub range_on : (s : Store) (table : Table) (first next to after : List ℕ) (f : Found) (a b c : S) → next_row_of s table next to ≡ Some f → after ≡ f.row.bytes ++ 0 ∷ [] → TookRows took s (row_at table first) (row_at table next) a b
+      → took (row_lines f.row f.cells) b c → TookRows took s (row_at table first) (row_at table after) a c
+  range_on s table first next to after f a b c is after_is so_far on =
+      let within = next_between s table next to f is in
+      let there : behind_row f.row ≡ row_at table after = λ i. record { table = within.in_table i; bytes = sym after_is i } in
+      subst (λ (r : Row). TookRows took s (row_at table first) r a c) there
+      (rows_on laws s (row_at table first) (row_at table next) f.row f.cells a b c so_far (found_on table next to f.row within) (next_gap s table next to f is) (next_cells s table next to f is) on)
+
+  pub range_front : (s : Store) (table : Table) (first next to : List ℕ) (f : Found) (a b c : S) → next_row_of s table next to ≡ Some f → TookRows took s (row_at table first) (row_at table next) a b
+      → ended (row_lines f.row f.cells) b c → TookSome ended s (row_at table first) a c
+  range_front s table first next to f a b c is so_far on =
+      let within = next_between s table next to f is in
+      rows_front laws s (row_at table first) (row_at table next) f.row f.cells a b c so_far (found_on table next to f.row within) (next_gap s table next to f is) (next_cells s table next to f is) on
+
+  pub range_end : (s : Store) (table : Table) (first next to : List ℕ) (a b : S) → next_row_of s table next to ≡ None → is_lt (bytes_cmp to next) ≡ false → TookRows took s (row_at table first) (row_at table next) a b
+      → TookRows took s (row_at table first) (row_at table to) a b
+  range_end s table first next to a b none forward so_far = rows_over laws s (row_at table first) (row_at table next) (row_at table to) a b so_far (end_on table next to forward) (next_none s table next to none)
+
+  -- ---- the counters
+
+  pub counters_taken : (s : Store) → IsSound s → (row : Row) (cells : List Cell) (a b : S) → row ≡ counter_row → cells ≡ cells_of s row → took (row_lines row cells) a b → TookRows took s (row_at Ids []) (row_at Ids (1 ∷ [])) a b
+  counters_taken s sound row cells a b row_is cells_are on =
+      let own : cells ≡ cells_of s counter_row = cells_are ∙ ap (cells_of s) row_is in
+      let taken = subst (λ (r : Row). took (row_lines r cells) a b) row_is on in
+      rows_over laws s (row_at Ids []) (behind_row counter_row) (row_at Ids (1 ∷ [])) a b
+      (rows_on laws s (row_at Ids []) (row_at Ids []) counter_row cells a a b (rows_begin laws s (row_at Ids []) a) refl (before_counters s sound) own taken)
+      refl (behind_counters s sound)
+
+  pub counters_front : (s : Store) → IsSound s → (row : Row) (cells : List Cell) (a b : S) → row ≡ counter_row → cells ≡ cells_of s row → ended (row_lines row cells) a b → TookSome ended s (row_at Ids []) a b
+  counters_front s sound row cells a b row_is cells_are on =
+      let own : cells ≡ cells_of s counter_row = cells_are ∙ ap (cells_of s) row_is in
+      let taken = subst (λ (r : Row). ended (row_lines r cells) a b) row_is on in
+      rows_front laws s (row_at Ids []) (row_at Ids []) counter_row cells a a b (rows_begin laws s (row_at Ids []) a) refl (before_counters s sound) own taken
+
+  -- ---- ids
+
+  pub ids_start : (s : Store) (ids : IdsLeft) (a : S) → ids ≡ all_ids s → IdsTaken took s ids a a
+  ids_start s ids a is = subst (λ (x : IdsLeft). IdsTaken took s x a a) (sym is) (record { bound = []; done = ids_begin s; taken = rows_begin laws s (row_at Names []) a })
+
+  pub ids_next : (s : Store) → IsSound s → (ids ids' : IdsLeft) (r : List ℕ) (cells : List Cell) (a b c : S) → least_of s.widths ids ≡ Some r → ids' ≡ passed_all s.widths ids r → cells ≡ cells_of s (row_at Names r)
+      → IdsTaken took s ids a b → took (row_lines (row_at Names r) cells) b c → IdsTaken took s ids' a c
+  ids_next s sound ids ids' r cells a b c least ids_are cells_are g on =
+      subst (λ (x : IdsLeft). IdsTaken took s x a c) (sym ids_are)
+      (record {
+        bound = behind r;
+        done = ids_on s sound ids g.bound r g.done least;
+        taken = rows_on laws s (row_at Names []) (row_at Names g.bound) (row_at Names r) cells a b c g.taken (least_on s ids g.bound r g.done least) (least_gap s sound ids g.bound r g.done least) cells_are on;
+      })
+
+  pub ids_front : (s : Store) → IsSound s → (ids : IdsLeft) (r : List ℕ) (cells : List Cell) (a b c : S) → least_of s.widths ids ≡ Some r → cells ≡ cells_of s (row_at Names r)
+      → IdsTaken took s ids a b → ended (row_lines (row_at Names r) cells) b c → TookSome ended s (row_at Names []) a c
+  ids_front s sound ids r cells a b c least cells_are g on =
+      rows_front laws s (row_at Names []) (row_at Names g.bound) (row_at Names r) cells a b c g.taken (least_on s ids g.bound r g.done least) (least_gap s sound ids g.bound r g.done least) cells_are on
+
+  pub ids_end : (s : Store) → IsSound s → (ids : IdsLeft) (a b : S) → least_of s.widths ids ≡ None → IdsTaken took s ids a b → TookRows took s (row_at Names []) (row_at Points (metric_end s.widths 0)) a b
+  ids_end s sound ids a b none g = rows_over laws s (row_at Names []) (row_at Names g.bound) (row_at Points (metric_end s.widths 0)) a b g.taken refl (none_gap s sound ids g.bound g.done none)
+
+  -- ---- metrics
+
+  -- behind a metric the next one comes first
+  metric_first : (s : Store) → IsSound s → (before : ℕ) (a : S) → before + 1 ≤ most_ids s.widths.metric → TookRows took s (row_at Points (metric_end s.widths before)) (row_at Points (metric_start s.widths (before + 1))) a a
+  metric_first s sound before a most =
+      let from = row_at Points (metric_end s.widths before) in
+      rows_over laws s from from (row_at Points (metric_start s.widths (before + 1))) a a (rows_begin laws s from a)
+      (end_on Points (metric_end s.widths before) (metric_start s.widths (before + 1)) (next_on s.widths before most)) (between_metrics s sound before most)
+
+  pub metric_taken : (s : Store) → IsSound s → (before : ℕ) (w : Widths) (from to : List ℕ) (a b : S) → before + 1 ≤ most_ids s.widths.metric → w ≡ s.widths
+      → from ≡ hour_bytes w (before + 1) 0 → to ≡ hour_bytes w (before + 1) 4294967295 → TookRows took s (row_at Points from) (row_at Points to) a b
+      → TookRows took s (row_at Points (metric_end s.widths before)) (row_at Points (metric_end s.widths (before + 1))) a b
+  metric_taken s sound before w from to a b most w_is from_is to_is on =
+      let one : from ≡ metric_start s.widths (before + 1) = from_is ∙ ap (λ (x : Widths). hour_bytes x (before + 1) 0) w_is in
+      let two : to ≡ metric_end s.widths (before + 1) = to_is ∙ ap (λ (x : Widths). hour_bytes x (before + 1) 4294967295) w_is in
+      let taken = subst (λ (xs : List ℕ). TookRows took s (row_at Points xs) (row_at Points (metric_end s.widths (before + 1))) a b) one (subst (λ (xs : List ℕ). TookRows took s (row_at Points from) (row_at Points xs) a b) two on) in
+      rows_then laws s (row_at Points (metric_end s.widths before)) (row_at Points (metric_start s.widths (before + 1))) (row_at Points (metric_end s.widths (before + 1))) a a b (metric_first s sound before a most) taken
+
+  pub metric_some : (s : Store) → IsSound s → (before : ℕ) (w : Widths) (from : List ℕ) (a b : S) → before + 1 ≤ most_ids s.widths.metric → w ≡ s.widths
+      → from ≡ hour_bytes w (before + 1) 0 → TookSome ended s (row_at Points from) a b → TookSome ended s (row_at Points (metric_end s.widths before)) a b
+  metric_some s sound before w from a b most w_is from_is on =
+      let one : from ≡ metric_start s.widths (before + 1) = from_is ∙ ap (λ (x : Widths). hour_bytes x (before + 1) 0) w_is in
+      some_then laws s (row_at Points (metric_end s.widths before)) (row_at Points (metric_start s.widths (before + 1))) a a b (metric_first s sound before a most)
+      (subst (λ (xs : List ℕ). TookSome ended s (row_at Points xs) a b) one on)
+
+  pub metrics_end : (s : Store) → IsSound s → (metrics before : ℕ) (a b : S) → metrics ≡ counter_of s Metric → metrics ≤ before → before ≤ metrics
+      → TookRows took s (row_at Points (metric_end s.widths 0)) (row_at Points (metric_end s.widths before)) a b → took (lines_from s (row_at Points (metric_end s.widths 0))) a b
+  metrics_end s sound metrics before a b is over within so_far =
+      let same : before ≡ counter_of s Metric = omega (arith, is, over, within) in
+      let all = subst (λ (n : ℕ). TookRows took s (row_at Points (metric_end s.widths 0)) (row_at Points (metric_end s.widths n)) a b) same so_far in
+      rows_end laws s (row_at Points (metric_end s.widths 0)) (row_at Points (metric_end s.widths (counter_of s Metric))) a b all (behind_metrics s sound (counter_fits s sound Metric))

@@ -32,7 +32,7 @@ use Rattle.cell_laws.proofs.CallerLemmas.{not_zero, same_kind}
 use Rattle.listing_print.specs.MetricRows.{metric_end, metric_start}
 use Rattle.listing_print.proofs.IdOrder.{id_below}
 use Rattle.listing_print.proofs.RowOrder.{behind_row, not_back, not_less}
-use Rattle.listing_print.proofs.StoreLines.{Gap, NoneFrom, first_row}
+use Rattle.listing_print.proofs.RowLines.{Gap, NoneFrom, first_row}
 use Rattle.listing_print.proofs.NextRows.{row_between}
 
 -- ---- names

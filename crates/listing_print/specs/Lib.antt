@@ -1,4 +1,6 @@
 pub mod GivenTexts
 pub mod IdsLeft
+pub mod LineTaking
 pub mod MetricRows
-pub mod StoreTexts
+pub mod StoreRows
+pub mod TakenTexts

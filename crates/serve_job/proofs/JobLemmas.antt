@@ -1,6 +1,6 @@
 -- What a fleet printed, and why its job ended.
 use Rattle.std.proofs.Common.{◌≡◌, ℕ, ◌≤◌, List, [], ◌++◌, ◌⊎◌, inl, inr, refl, sym, subst, ap, ◌∙◌, append-nil, arith}
-use Rattle.std.specs.Prelude.{◌≢◌, Bool, true, false, ◌&&◌, Option, None, Some, Ok, Err}
+use Rattle.std.specs.Prelude.{◌≢◌, Bool, true, false, ◌&&◌, Option, None, Some}
 use Rattle.std.proofs.lemmas.List.{append_assoc}
 use Rattle.std.specs.Io.KnownBytes.{Appends}
 use Rattle.std.proofs.KnownBytes.{Appends-nil, Appends-trans}
@@ -9,14 +9,16 @@ use Rattle.link_workers.specs.Accepting.{IsNoneLeft}
 use Rattle.cell_model.specs.declared.answers.Tally.{Tally}
 use Rattle.cell_model.specs.Store.{Store}
 use Rattle.cell_region.specs.DividedStore.{DividedStore}
-use Rattle.listing_print.specs.declared.cell_giver.GiveFault.{GiveFault}
-use Rattle.listing_print.specs.declared.cell_giver.GiveFault.TheVariants as give
+use Rattle.cell_model.specs.Sound.{IsSound}
+use Rattle.cell_laws.proofs.CallerLemmas.{sound_after}
+use Rattle.listing_print.specs.GivenTexts.{GaveFront}
 use Rattle.tsd_daemon.specs.declared.served.Served.{Served}
 use Rattle.tsd_fleet.specs.declared.fleet_end.FleetEnd.{FleetEnd}
 use Rattle.tsd_fleet.specs.declared.fleet_end.FleetEnd.TheVariants as end
 use Rattle.tsd_fleet.specs.Devices.{FleetDevices, NoneFalls, OutputTold, Terms}
-use Rattle.tsd_fleet.specs.FleetServes.{BeginsToListen, CountsLinks, FleetDoes, FleetKeeps, HasFleetReason, HasListened, IsFirstFront, Listens, Outcome, listening_line}
-use Rattle.serve_job.specs.FleetRuns.{EndsJob, EndsSo, FinishesJob, FleetCauses, FleetPrints, GivesLast, IsFleetFront, RanOutSaving, RunsFleet, WriteCause, has_no_more, is_too_large, last_lines}
+use Rattle.tsd_fleet.specs.FleetServes.{BeginsToListen, CountsLinks, FleetDoes, FleetKeeps, HasFleetReason, HasListened, IsFirstFront, KeepsRows, Listens, Outcome, listening_line}
+use Rattle.serve_job.specs.FleetRuns.{EndsJob, EndsSo, FinishesJob, FleetCauses, FleetPrints, IsFleetFront, IsLast, RunsFleet, WriteCause, has_no_more, is_too_large, last_lines}
+use Rattle.serve_job.specs.declared.last_lines.LastLines.{LastLines}
 
 -- ---- the last lines
 
@@ -34,7 +36,7 @@ finish_early served save held links tally store last = record {
     front = refl;
     whole = λ is. let t : false ≡ true = sym last ∙ is in absurd cc;
     nothing = λ is. refl;
-    memory = λ none is. refl;
+    memory = λ is. refl;
     so = inl refl;
   };
   refused_is = ap (λ (b : Bool). b && is_too_large save store) (sym last);
@@ -50,7 +52,7 @@ finish_none served save held links tally store more = record {
     front = refl;
     whole = λ is. let t : false ≡ true = is in absurd cc;
     nothing = λ is. refl;
-    memory = λ none is. refl;
+    memory = λ is. refl;
     so = inr (more, inl refl);
   };
   refused_is = refl;
@@ -67,102 +69,72 @@ finish_kept served result refused save held held' links tally rows d left more i
     value (Some x) = x
 
 -- all was printed
-pub finish_whole : (served : FleetEnd) (refused save : Bool) (held held' : Option (List ℕ)) (links : ℕ) (tally : Tally) (store : Store) → has_no_more served ≡ true → GivesLast (last_lines links tally save store) save store held held' (Ok refused)
-    → FinishesJob served served refused save held held' links tally store
-finish_whole served refused save held held' links tally store more gave = record {
+pub finish_whole : (served : FleetEnd) (save : Bool) (held held' : Option (List ℕ)) (links : ℕ) (tally : Tally) (store : Store) (l : LastLines) → has_no_more served ≡ true → IsLast (last_lines links tally save store) (is_too_large save store) l
+    → Appends held held' (l.text.items ++ l.cells.items) → FinishesJob served served l.refused save held held' links tally store
+finish_whole served save held held' links tally store l more is gave = record {
   job = record {
-    printed = last_lines links tally save store;
+    printed = l.text.items ++ l.cells.items;
     rest = [];
-    gives = gave.0;
-    front = append-nil (last_lines links tally save store);
-    whole = λ is. refl;
-    nothing = λ is. let t : true ≡ false = sym more ∙ is in absurd cc;
-    memory = λ none is. let t : false ≡ true = sym (ap has_no_more is) ∙ more in absurd cc;
+    gives = gave;
+    front = append-nil (l.text.items ++ l.cells.items) ∙ sym is.lines_are;
+    whole = λ last. sym is.lines_are;
+    nothing = λ last. let t : true ≡ false = sym more ∙ last in absurd cc;
+    memory = λ out. let t : false ≡ true = sym (ap has_no_more out) ∙ more in absurd cc;
     so = inl refl;
   };
-  refused_is = gave.1 ∙ ap (λ (b : Bool). b && is_too_large save store) (sym more);
+  refused_is = is.refused_is ∙ ap (λ (b : Bool). b && is_too_large save store) (sym more);
 }
 
 -- a front was printed, and the output failed
-failed_so : (served : FleetEnd) (save : Bool) (held held' : Option (List ℕ)) (links : ℕ) (tally : Tally) (store : Store) → has_no_more served ≡ true → GivesLast (last_lines links tally save store) save store held held' (Err give.Failed)
-    → FinishesJob served end.WriteFault false save held held' links tally store
-failed_so served save held held' links tally store more f = record {
+pub finish_failed : (served : FleetEnd) (save : Bool) (held held' : Option (List ℕ)) (links : ℕ) (tally : Tally) (store : Store) (l : LastLines) → has_no_more served ≡ true → IsLast (last_lines links tally save store) (is_too_large save store) l
+    → GaveFront held held' (l.text.items ++ l.cells.items) → FinishesJob served end.WriteFault false save held held' links tally store
+finish_failed served save held held' links tally store l more is f = record {
   job = record {
     printed = f.front;
     rest = f.rest;
     gives = f.gives;
-    front = sym f.text_is;
-    whole = λ is. let t : false ≡ true = is in absurd cc;
-    nothing = λ is. let t : true ≡ false = sym more ∙ is in absurd cc;
-    memory = λ none is. let t : end.WriteFault ≡ end.OutOfMemory = is in absurd cc;
+    front = sym f.text_is ∙ sym is.lines_are;
+    whole = λ last. let t : false ≡ true = last in absurd cc;
+    nothing = λ last. let t : true ≡ false = sym more ∙ last in absurd cc;
+    memory = λ out. let t : end.WriteFault ≡ end.OutOfMemory = out in absurd cc;
     so = inr (more, inr refl);
   };
   refused_is = refl;
 }
 
--- memory ran out
-starved_so : (served : FleetEnd) (save : Bool) (held held' : Option (List ℕ)) (links : ℕ) (tally : Tally) (store : Store) → has_no_more served ≡ true → GivesLast (last_lines links tally save store) save store held held' (Err give.OutOfMemory)
-    → FinishesJob served end.OutOfMemory false save held held' links tally store
-starved_so served true held held' links tally store more gave = record {
-  job = record {
-    printed = gave.0.front;
-    rest = gave.0.rest;
-    gives = gave.0.gives;
-    front = sym gave.0.text_is;
-    whole = λ is. let t : false ≡ true = is in absurd cc;
-    nothing = λ is. let t : true ≡ false = sym more ∙ is in absurd cc;
-    memory = λ none is. let t : true ≡ false = none in absurd cc;
-    so = inr (more, inl refl);
-  };
-  refused_is = refl;
-}
-starved_so served false held held' links tally store more gave = record {
-  job = record {
-    printed = [];
-    rest = last_lines links tally false store;
-    gives = gave.1 refl;
-    front = refl;
-    whole = λ is. let t : false ≡ true = is in absurd cc;
-    nothing = λ is. refl;
-    memory = λ none is. refl;
-    so = inr (more, inl refl);
-  };
-  refused_is = refl;
-}
-
-module _ (served : FleetEnd) (save : Bool) (held held' : Option (List ℕ)) (links : ℕ) (tally : Tally) (store : Store) (fault : GiveFault) (more : has_no_more served ≡ true) (f : GivesLast (last_lines links tally save store) save store held held' (Err fault)) where
-  pub finish_failed : fault ≡ give.Failed → FinishesJob served end.WriteFault false save held held' links tally store
-  finish_failed is = failed_so served save held held' links tally store more (subst (λ (e : GiveFault). GivesLast (last_lines links tally save store) save store held held' (Err e)) is f)
-
-  pub finish_starved : fault ≡ give.OutOfMemory → FinishesJob served end.OutOfMemory false save held held' links tally store
-  finish_starved is = starved_so served save held held' links tally store more (subst (λ (e : GiveFault). GivesLast (last_lines links tally save store) save store held held' (Err e)) is f)
+-- what is handed back of a sound store
+pub left_sound : (served : FleetEnd) (n : ℕ) (store : Store) (rows : Option DividedStore) → IsSound store → KeepsRows served store n rows → (left : DividedStore) → served ≢ end.OutOfMemory → rows ≡ Some left → IsSound left.content
+left_sound served n store rows sound keeps left memory is =
+    subst (λ (x : DividedStore). IsSound x.content) (ap value (sym (keeps.kept memory) ∙ is)) sound
+  where
+    value : Option DividedStore → DividedStore
+    value None = record { data_regions = n; content = store }
+    value (Some x) = x
 
 -- ---- what the job printed
 
--- nothing was printed behind the first line, but where no more came, the output failed, or memory ran out while a store was saved
-early_by : {served result : FleetEnd} {save : Bool} {held held' : Option (List ℕ)} {lines : List ℕ} (e : EndsJob served result save held held' lines) → EndsSo served result → has_no_more result ≡ false → result ≢ end.WriteFault
-    → (RanOutSaving save result → ⊥) → e.printed ≡ []
-early_by e (inl same) last not_write enough = e.nothing (sym (ap has_no_more same) ∙ last)
-early_by {save = true} e (inr (more, inl memory)) last not_write enough = absurd (enough (refl, memory))
-early_by {save = false} e (inr (more, inl memory)) last not_write enough = e.memory refl memory
-early_by e (inr (more, inr write)) last not_write enough = absurd (not_write write)
+-- nothing was printed behind the first line, but where no more came or the output failed
+early_by : {served result : FleetEnd} {held held' : Option (List ℕ)} {lines : List ℕ} (e : EndsJob served result held held' lines) → EndsSo served result → has_no_more result ≡ false → result ≢ end.WriteFault → e.printed ≡ []
+early_by e (inl same) last not_write = e.nothing (sym (ap has_no_more same) ∙ last)
+early_by e (inr (more, inl memory)) last not_write = e.memory memory
+early_by e (inr (more, inr write)) last not_write = absurd (not_write write)
 
-early : {served result : FleetEnd} {save : Bool} {held held' : Option (List ℕ)} {lines : List ℕ} (e : EndsJob served result save held held' lines) → has_no_more result ≡ false → result ≢ end.WriteFault → (RanOutSaving save result → ⊥) → e.printed ≡ []
-early e last not_write enough = early_by e e.so last not_write enough
+early : {served result : FleetEnd} {held held' : Option (List ℕ)} {lines : List ℕ} (e : EndsJob served result held held' lines) → has_no_more result ≡ false → result ≢ end.WriteFault → e.printed ≡ []
+early e last not_write = early_by e e.so last not_write
 
 -- behind the line of the port
-after_line : {served result : FleetEnd} {save : Bool} (before after : FleetDevices) (o : OutputTold) (asked : ℕ) (lines : List ℕ) → Listens asked before.output.held after.output.held after.doors.counts
-    → EndsJob served result save after.output.held o.held lines → FleetPrints asked lines save before (record after { output = o }) result
-after_line {result = result} {save = save} before after o asked lines l e =
-    let line : has_no_more result ≡ false → result ≢ end.WriteFault → (RanOutSaving save result → ⊥) → listening_line l.0 ++ e.printed ≡ listening_line l.0 =
-    λ last not_write enough. ap (λ (x : List ℕ). listening_line l.0 ++ x) (early e last not_write enough) ∙ append-nil (listening_line l.0) in
+after_line : {served result : FleetEnd} (before after : FleetDevices) (o : OutputTold) (asked : ℕ) (lines : List ℕ) → Listens asked before.output.held after.output.held after.doors.counts
+    → EndsJob served result after.output.held o.held lines → FleetPrints asked lines before (record after { output = o }) result
+after_line {result = result} before after o asked lines l e =
+    let line : has_no_more result ≡ false → result ≢ end.WriteFault → listening_line l.0 ++ e.printed ≡ listening_line l.0 =
+    λ last not_write. ap (λ (x : List ℕ). listening_line l.0 ++ x) (early e last not_write) ∙ append-nil (listening_line l.0) in
     record {
       printed = listening_line l.0 ++ e.printed;
       gives = Appends-trans before.output.held after.output.held o.held (listening_line l.0) e.printed l.2 e.gives;
       front = inr (l.0, e.rest, l.1, append_assoc (listening_line l.0) e.printed e.rest ∙ ap (λ (x : List ℕ). listening_line l.0 ++ x) e.front);
       whole = λ is. (l.0, l.1, ap (λ (x : List ℕ). listening_line l.0 ++ x) (e.whole is));
-      first = λ last not_write enough. inr (l.0, [], l.1, append-nil (listening_line l.0 ++ e.printed) ∙ line last not_write enough);
-      stopped = λ is. (l.0, l.1, line (ap has_no_more is) (λ write. let t : end.Stopped ≡ end.WriteFault = sym is ∙ write in absurd cc) (λ out. let t : end.Stopped ≡ end.OutOfMemory = sym is ∙ out.1 in absurd cc));
+      first = λ last not_write. inr (l.0, [], l.1, append-nil (listening_line l.0 ++ e.printed) ∙ line last not_write);
+      stopped = λ is. (l.0, l.1, line (ap has_no_more is) (λ write. let t : end.Stopped ≡ end.WriteFault = sym is ∙ write in absurd cc));
     }
 
 -- a front of the first line is one of all lines
@@ -171,8 +143,8 @@ front_of_all given lines asked bound (inl nothing) = inl nothing
 front_of_all given lines asked bound (inr (port, rest, is, line)) = inr (port, rest ++ lines, is, sym (append_assoc given rest lines) ∙ ap (λ (x : List ℕ). x ++ lines) line)
 
 -- where not even that was written whole
-after_front : {served result : FleetEnd} {save : Bool} (before after : FleetDevices) (o : OutputTold) (asked : ℕ) (lines : List ℕ) → BeginsToListen asked before.output.held after.output.held after.doors.counts
-    → (e : EndsJob served result save after.output.held o.held lines) → e.printed ≡ [] → has_no_more result ≡ false → result ≢ end.Stopped → FleetPrints asked lines save before (record after { output = o }) result
+after_front : {served result : FleetEnd} (before after : FleetDevices) (o : OutputTold) (asked : ℕ) (lines : List ℕ) → BeginsToListen asked before.output.held after.output.held after.doors.counts
+    → (e : EndsJob served result after.output.held o.held lines) → e.printed ≡ [] → has_no_more result ≡ false → result ≢ end.Stopped → FleetPrints asked lines before (record after { output = o }) result
 after_front before after o asked lines (given, gives, begun) e none more no_stop =
     let all : given ++ e.printed ≡ given = ap (λ (x : List ℕ). given ++ x) none ∙ append-nil given in
     record {
@@ -180,7 +152,7 @@ after_front before after o asked lines (given, gives, begun) e none more no_stop
       gives = subst (Appends before.output.held o.held) all (Appends-trans before.output.held after.output.held o.held given e.printed gives e.gives);
       front = front_of_all given lines asked after.doors.counts.port begun;
       whole = λ is. let t : false ≡ true = sym more ∙ is in absurd cc;
-      first = λ last not_write enough. begun;
+      first = λ last not_write. begun;
       stopped = λ is. absurd (no_stop is);
     }
 
@@ -189,8 +161,8 @@ same_end : {served result : FleetEnd} → EndsSo served result → has_no_more s
 same_end (inl same) last = same
 same_end (inr (more, why)) last = let t : false ≡ true = sym last ∙ more in absurd cc
 
-prints : (served : FleetEnd) {result : FleetEnd} {save : Bool} (before after : FleetDevices) (o : OutputTold) (asked : ℕ) (lines : List ℕ) → HasListened asked before after served → EndsJob served result save after.output.held o.held lines
-    → FleetPrints asked lines save before (record after { output = o }) result
+prints : (served : FleetEnd) {result : FleetEnd} (before after : FleetDevices) (o : OutputTold) (asked : ℕ) (lines : List ℕ) → HasListened asked before after served → EndsJob served result after.output.held o.held lines
+    → FleetPrints asked lines before (record after { output = o }) result
 prints end.Closed before after o asked lines l e = after_line before after o asked lines (l.closed refl) e
 prints end.Died before after o asked lines l e = after_line before after o asked lines (l.died refl) e
 prints end.Stopped before after o asked lines l e = after_line before after o asked lines (l.stopped refl) e
@@ -270,6 +242,13 @@ module _ {H : Type 0} (answers : H → Bool → H → Type 0) where
     write_fault = λ is. write_rose o.end before.output.faults after.output.faults w.faults d.later.writes c.later d.reason.write_fault (c.cause is);
     later = falls_none before after w d.later c.later;
   }
+
+  -- what a fleet left is sound
+  pub left_is_sound : (terms : Terms) (before after : FleetDevices) (old new : H) (o : Outcome) (n : ℕ) (rows : Option DividedStore) → FleetKeeps answers terms before after old new o n rows
+      → (left : DividedStore) → o.end ≢ end.OutOfMemory → rows ≡ Some left → IsSound left.content
+  left_is_sound terms before after old new o n rows k =
+      let s = k.does.serves.stands in
+      left_sound o.end n k.does.serves.store rows (subst IsSound (sym s.store_is) (sound_after s.history s.lawful)) k.keeps
 
   pub runs : (terms : Terms) (save : Bool) (before after : FleetDevices) (w : OutputTold) (old new : H) (o : Outcome) (n : ℕ) (rows : Option DividedStore) (result : FleetEnd) (refused : Bool) → FleetKeeps answers terms before after old new o n rows
       → ((left : DividedStore) → (o.end ≢ end.OutOfMemory → rows ≡ Some left) → FinishesJob o.end result refused save after.output.held w.held o.links o.tally left.content)

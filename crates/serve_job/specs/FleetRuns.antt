@@ -1,5 +1,5 @@
 -- What a fleet's job does: what it serves, and what it prints.
-use Rattle.std.specs.Prelude.{◌≡◌, ◌≢◌, ◌≤◌, ◌⊎◌, ℕ, Bool, true, false, ◌&&◌, length, List, [], ◌++◌, codes, decimal, flat_map, Option, None, Some, is_some, Result, Ok, Err}
+use Rattle.std.specs.Prelude.{◌≡◌, ◌≢◌, ◌≤◌, ◌⊎◌, ℕ, Bool, true, false, ◌&&◌, length, List, [], ◌++◌, codes, decimal, flat_map, Option, None, Some, is_some}
 use Rattle.std.specs.List.{list_any}
 use Rattle.std.specs.Io.KnownBytes.{Appends}
 use Rattle.tsd_io.specs.Causes.{Rose}
@@ -9,9 +9,8 @@ use Rattle.cell_model.specs.declared.row.Listing.{Listing}
 use Rattle.cell_model.specs.Store.{Store}
 use Rattle.cell_model.specs.Counts.{lines_of, listing_of}
 use Rattle.cell_image.specs.Images.{first_large, image}
-use Rattle.listing_print.specs.GivenTexts.{GaveFront}
-use Rattle.listing_print.specs.declared.cell_giver.GiveFault.{GiveFault}
-use Rattle.listing_print.specs.declared.cell_giver.GiveFault.TheVariants as give
+use Rattle.cell_image.specs.LargeLines.{large_line}
+use Rattle.serve_job.specs.declared.last_lines.LastLines.{LastLines}
 use Rattle.tsd_daemon.specs.declared.served.Served.{Served}
 use Rattle.tsd_fleet.specs.declared.fleet_end.FleetEnd.{FleetEnd}
 use Rattle.tsd_fleet.specs.declared.fleet_end.FleetEnd.TheVariants as ended
@@ -28,10 +27,6 @@ summary_lines links tally =
 -- how many bytes an image has
 abbrev pub size_line : ℕ → List ℕ
 size_line size = codes "image " ++ decimal size ++ codes "\n"
-
--- which cell is too large for an image
-abbrev pub large_line : ℕ → List ℕ
-large_line cell = codes "image: cell " ++ decimal cell ++ codes " too large\n"
 
 -- a store to be saved: its image behind the number of its bytes, or the first cell that is too large for an image
 abbrev pub image_text : Option ℕ → Listing → List ℕ
@@ -60,18 +55,14 @@ has_no_more ended.Closed = true
 has_no_more ended.Died = true
 has_no_more other = false
 
--- memory may have run out while a store was saved, behind a front of the last lines
-abbrev pub RanOutSaving : Bool → FleetEnd → Type 0
-RanOutSaving save result = (save ≡ true) × (result ≡ ended.OutOfMemory)
-
 -- The port that was bound, the one that was asked for or for 0 any, and its line come first. Where no more connections come the last lines are printed, where the halt refused, the first one alone, and in
--- any other case no more than that, unless the output failed or memory ran out while the store was saved.
-pub record FleetPrints (asked : ℕ) (lines : List ℕ) (save : Bool) (before after : FleetDevices) (result : FleetEnd) : Type 0 where
+-- any other case no more than that, unless the output failed. So where memory ran out none of the last lines was printed, also where the store is to be saved.
+pub record FleetPrints (asked : ℕ) (lines : List ℕ) (before after : FleetDevices) (result : FleetEnd) : Type 0 where
   pub printed : List ℕ
   pub gives : Appends before.output.held after.output.held printed
   pub front : IsFleetFront printed asked after.doors.counts.port lines
   pub whole : has_no_more result ≡ true → (port : ℕ) × BindsAsked asked after.doors.counts.port port × (printed ≡ listening_line port ++ lines)
-  pub first : has_no_more result ≡ false → result ≢ ended.WriteFault → (RanOutSaving save result → ⊥) → IsFirstFront printed asked after.doors.counts.port
+  pub first : has_no_more result ≡ false → result ≢ ended.WriteFault → IsFirstFront printed asked after.doors.counts.port
   pub stopped : result ≡ ended.Stopped → (port : ℕ) × BindsAsked asked after.doors.counts.port port × (printed ≡ listening_line port)
 
 -- ---- the job
@@ -85,7 +76,7 @@ pub record RunsFleet (terms : Terms) (save : Bool) (before after : FleetDevices)
   pub counted : CountsLinks before after result links (length ends)
   pub closed : result ≡ ended.Closed → list_any is_die ends ≡ false
   pub died : result ≡ ended.Died → list_any is_die ends ≡ true
-  pub prints : FleetPrints terms.port (last_lines links tally save serves.store) save before after result
+  pub prints : FleetPrints terms.port (last_lines links tally save serves.store) before after result
   pub refused_is : refused ≡ (has_no_more result && is_too_large save serves.store)
 
 -- a fleet's job ended so only for its reason, and where the halt refused it ended so, or for want of memory; no count fell
@@ -99,35 +90,29 @@ pub record FleetCauses (before after : FleetDevices) (result : FleetEnd) : Type 
 
 -- ---- the last lines
 
--- a store that is saved was given behind a text, and whether a cell is too large is told; else a front
-abbrev pub GivesSaved : List ℕ → Store → (held held' : Option (List ℕ)) → Result Bool GiveFault → Type 0
-GivesSaved text store held held' (Ok refused) = Appends held held' (text ++ saved_text true store) × (refused ≡ is_too_large true store)
-GivesSaved text store held held' (Err fault) = GaveFront held held' (text ++ saved_text true store)
-
--- all last lines were given, and whether a cell is too large is told; else a front of them was, and nothing where memory ran out and no store is saved
-abbrev pub GivesLast : List ℕ → Bool → Store → (held held' : Option (List ℕ)) → Result Bool GiveFault → Type 0
-GivesLast lines save store held held' (Ok refused) = Appends held held' lines × (refused ≡ is_too_large save store)
-GivesLast lines save store held held' (Err give.Failed) = GaveFront held held' lines
-GivesLast lines save store held held' (Err give.OutOfMemory) = GaveFront held held' lines × (save ≡ false → Appends held held' [])
+-- these two pieces are the last lines, and whether a cell is too large is told
+pub record IsLast (lines : List ℕ) (refused : Bool) (l : LastLines) : Type 0 where
+  pub lines_are : lines ≡ l.text.items ++ l.cells.items
+  pub refused_is : l.refused ≡ refused
 
 -- it ended so, or, where no more connections came, for want of memory or because the output failed
 abbrev pub EndsSo : FleetEnd → FleetEnd → Type 0
 EndsSo served result = (result ≡ served) ⊎ ((has_no_more served ≡ true) × ((result ≡ ended.OutOfMemory) ⊎ (result ≡ ended.WriteFault)))
 
 -- Where a fleet ended because no more connections came, its last lines are printed, or a front of them, and then the end tells why.
-pub record EndsJob (served result : FleetEnd) (save : Bool) (held held' : Option (List ℕ)) (lines : List ℕ) : Type 0 where
+pub record EndsJob (served result : FleetEnd) (held held' : Option (List ℕ)) (lines : List ℕ) : Type 0 where
   pub printed : List ℕ
   pub rest : List ℕ
   pub gives : Appends held held' printed
   pub front : printed ++ rest ≡ lines
   pub whole : has_no_more result ≡ true → printed ≡ lines
   pub nothing : has_no_more served ≡ false → printed ≡ []
-  pub memory : save ≡ false → result ≡ ended.OutOfMemory → printed ≡ []
+  pub memory : result ≡ ended.OutOfMemory → printed ≡ []
   pub so : EndsSo served result
 
 -- the same of the rows that a fleet left, of which one is refused where a cell is too large
 pub record FinishesJob (served result : FleetEnd) (refused save : Bool) (held held' : Option (List ℕ)) (links : ℕ) (tally : Tally) (store : Store) : Type 0 where
-  pub job : EndsJob served result save held held' (last_lines links tally save store)
+  pub job : EndsJob served result held held' (last_lines links tally save store)
   pub refused_is : refused ≡ (has_no_more result && is_too_large save store)
 
 -- the output failed only where its count rose, before or now

@@ -1,16 +1,15 @@
 //! A fleet over a store of its own, from the line of its port to its last lines.
 ghost use Rattle.std.specs.Prelude.{◌≡◌, ◌≢◌, ◌≤◌, true, Some};
-ghost use Rattle.cell_model.specs.Sound.{IsBase};
+ghost use Rattle.cell_model.specs.Sound.{IsBase, IsSound};
 ghost use Rattle.cell_region.specs.DividedStore.{DividedStore};
 ghost use Rattle.point_put.specs.Admissions.{admission};
 ghost use Rattle.conn_workers.specs.ServedLinks.{AllTell};
 ghost use Rattle.serve_job.specs.FleetRuns.{FinishesJob, FleetCauses, RunsFleet, WriteCause, has_no_more};
 
-use crate::last_lines::give_last;
+use crate::last_lines::last_lines;
 use cell_model::Tally;
 use cell_region::Regions;
 use cell_store::NoGate;
-use listing_print::GiveFault;
 use point_put::Config;
 use std::alloc::Global;
 use std::sync::Wait;
@@ -20,7 +19,7 @@ use tsd_fleet::{Fleet, FleetDone, FleetEnd, FleetKept, serve_from};
 use tsd_hooks::UidRule;
 use tsd_io::clock::Clock;
 use tsd_io::halt::Halt;
-use tsd_io::ports::Sink;
+use tsd_io::ports::{Failed, Sink};
 
 /// How a fleet's job ended.
 #[derive(Drop)]
@@ -37,7 +36,8 @@ pub struct Finished<H> {
 
 /// Serves the connections of a fleet as `serve_from` does. Where no more come it prints how many were accepted, and the numbers of the
 /// store that they left: `links N`, `ids A B C`, `rows R`, `cells C`, a line each. A store that is to be saved follows: `image N`, and the
-/// N bytes of its image, or `image: cell N too large` where it has none. Where the output fails then, the end is `WriteFault`.
+/// N bytes of its image, or `image: cell N too large` where it has none. Where the output fails then, the end is `WriteFault`. Where memory
+/// runs out nothing is printed behind the port's line.
 pub fn serve_fleet<
     T: Threads + Wait + Sync,
     K: Sink,
@@ -107,6 +107,7 @@ fn finish<K: Sink>(
     rows: Option<Regions>,
     output: &mut K,
 ) -> JobEnd
+    requires sound { (left : DividedStore) → end ≢ FleetEnd.OutOfMemory → rows ≡ Some left → IsSound left.content }
     ensures prints { (left : DividedStore) → (end ≢ FleetEnd.OutOfMemory → rows ≡ Some left) → FinishesJob end result.end result.refused save (K.held output.old) (K.held output.new) links tally.now left.content }
     ensures cause { WriteCause end result.end (K.faults output.old) (K.faults output.new) }
 {
@@ -136,20 +137,24 @@ fn print_last<K: Sink>(
     output: &mut K,
 ) -> JobEnd
     requires more { has_no_more end ≡ true }
+    requires sound { IsSound rows.now.content }
     ensures prints { FinishesJob end result.end result.refused save (K.held output.old) (K.held output.new) links tally.now rows.now.content }
     ensures cause { WriteCause end result.end (K.faults output.old) (K.faults output.new) }
 {
-    match give_last(alloc, links, tally, save, rows, output) {
-        Ok(refused) => JobEnd { end, refused },
-        Err(fault) => match fault {
-            GiveFault::Failed => JobEnd {
-                end: FleetEnd::WriteFault,
-                refused: false,
-            },
-            GiveFault::OutOfMemory => JobEnd {
-                end: FleetEnd::OutOfMemory,
-                refused: false,
-            },
+    let Ok(lines) = last_lines(alloc, links, tally, save, rows) else {
+        return JobEnd {
+            end: FleetEnd::OutOfMemory,
+            refused: false,
+        };
+    };
+    match lines.give(output) {
+        Ok(()) => JobEnd {
+            end,
+            refused: lines.refused,
+        },
+        Err(Failed) => JobEnd {
+            end: FleetEnd::WriteFault,
+            refused: false,
         },
     }
 }

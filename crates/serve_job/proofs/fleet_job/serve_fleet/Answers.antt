@@ -1,5 +1,10 @@
-use Rattle.serve_job.proofs.JobLemmas.{causes, runs}
+use Rattle.serve_job.proofs.JobLemmas.{causes, left_is_sound, runs}
 use Rattle.serve_job.proofs.fleet_job.serve_fleet.Goals as goal
+
+pub finish-finished-requires : goal.finish-finished-requires
+finish-finished-requires g c =
+    let d = c.serve_from-done.result.done in
+    record { sound = left_is_sound g.H.Halt.answers _ _ _ _ _ (record { end = d.end; links = d.links; ends = d.ends.items; tally = d.tally }) _ c.serve_from-done.result.rows c.serve_from-done.ensures.keeps }
 
 pub returns-clause-runs : goal.returns-clause-runs
 returns-clause-runs g c =
