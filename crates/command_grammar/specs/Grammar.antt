@@ -32,9 +32,9 @@ with_patterns app = with_rule (with_rule (with_rule app (valued (codes "allow-me
 abbrev pub with_puts : App → App
 with_puts app = with_rule (with_patterns (with_auto app)) (flag (codes "appends"))
 
--- stdio, all of these, and [--widths M,K,V]
+-- stdio, all of these, [--widths M,K,V] and [--publish P]
 abbrev pub stdio_grammar : Shape
-stdio_grammar = (with_rule (with_puts (new_app (codes "stdio"))) (valued (codes "widths"))).top
+stdio_grammar = (with_rule (with_rule (with_puts (new_app (codes "stdio"))) (valued (codes "widths"))) (valued (codes "publish"))).top
 
 -- serve PORT [--daemons N] [--workers N] [--regions N]
 abbrev pub with_sizes : App

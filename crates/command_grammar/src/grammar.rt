@@ -127,7 +127,8 @@ fn stdio_grammar<'a>(alloc: Global) -> Result<Command<'a>, AllocError>
     ensures local { IfOk result (λ made. (fields_of made).has_globals ≡ false) }
 {
     let command = with_puts(alloc, begun(alloc, "stdio"))?;
-    with_arg(command, valued(alloc, "widths"))
+    let command = with_arg(command, valued(alloc, "widths"))?;
+    with_arg(command, valued(alloc, "publish"))
 }
 
 /// `serve` with its words.

@@ -29,11 +29,12 @@ pub record NameOptions : Type 0 where
   pub auto_tag_value : Bool
   pub patterns : Patterns
 
--- what `stdio` is asked: which names are given ids, whether points are appended, and how many bytes the ids of each kind have
+-- what `stdio` is asked: which names are given ids, whether points are appended, how many bytes the ids of each kind have, and how the metrics of points begin that are published
 pub record Stdio : Type 0 where
   pub names : NameOptions
   pub appends : Bool
   pub widths : Widths
+  pub publish : Option (List ℕ)
 
 -- what `serve` is asked: the port, how many daemons, workers of each and regions of data points there are, which names are given ids, whether points are appended, whether the store begins from
 -- an image, and whether one is saved
@@ -118,16 +119,20 @@ names_with rows patterns = record {
 abbrev pub names_in : List Row → Option NameOptions
 names_in rows = if are_names (patterns_in rows) then Some (names_with rows (patterns_in rows)) else None
 
-abbrev pub stdio_with : Option NameOptions → Option Widths → Bool → Option Stdio
-stdio_with (Some names) (Some widths) appends = Some (record { names = names; appends = appends; widths = widths })
-stdio_with _ _ appends = None
+-- how the metrics of points begin that are published, where the option is among the words
+abbrev pub publish_in : List Row → Option (Option Text)
+publish_in rows = if is_pattern (first_of (codes "publish") rows) then Some (first_of (codes "publish") rows) else None
+
+abbrev pub stdio_with : Option NameOptions → Option Widths → Option (Option Text) → Bool → Option Stdio
+stdio_with (Some names) (Some widths) (Some publish) appends = Some (record { names = names; appends = appends; widths = widths; publish = publish })
+stdio_with _ _ _ appends = None
 
 -- how many bytes the ids of each kind have, three where nothing is said
 abbrev pub widths_in : List Row → Option Widths
 widths_in rows = widths_said (first_of (codes "widths") rows)
 
 abbrev pub stdio_in : List Row → Option Stdio
-stdio_in rows = stdio_with (names_in rows) (widths_in rows) (is_given (codes "appends") rows)
+stdio_in rows = stdio_with (names_in rows) (widths_in rows) (publish_in rows) (is_given (codes "appends") rows)
 
 abbrev pub within : ℕ → ℕ → ℕ → Option ℕ
 within least most n = if nat_le least n && nat_le n most then Some n else None

@@ -28,7 +28,7 @@ abbrev pub plain_names : options.NameOptions → NameOptions
 plain_names n = record { auto_metric = n.auto_metric; auto_tag_key = n.auto_tag_key; auto_tag_value = n.auto_tag_value; patterns = plain_patterns n.patterns }
 
 abbrev pub plain_stdio : stdio.Stdio → Stdio
-plain_stdio s = record { names = plain_names s.names; appends = s.appends; widths = s.widths }
+plain_stdio s = record { names = plain_names s.names; appends = s.appends; widths = s.widths; publish = plain_pattern s.publish }
 
 abbrev pub plain_serve : serve.Serve → Serve
 plain_serve s = record { port = s.port; daemons = s.daemons; workers = s.workers; regions = s.regions; names = plain_names s.names; appends = s.appends; image = s.image; save = s.save }

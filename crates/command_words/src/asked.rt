@@ -30,13 +30,14 @@ pub struct NameOptions<'a> {
     pub patterns: PatternTexts<'a>,
 }
 
-/// What `stdio` is asked: which names are given ids, whether points are appended to the columns of their rows, and how many bytes
-/// the ids of each kind have.
+/// What `stdio` is asked: which names are given ids, whether points are appended to the columns of their rows, how many bytes
+/// the ids of each kind have, and how the metrics of points begin that are published at the end, if any are.
 #[derive(Clone, Copy, Drop)]
 pub struct Stdio<'a> {
     pub names: NameOptions<'a>,
     pub appends: bool,
     pub widths: Widths,
+    pub publish: Option<&'a [u8]>,
 }
 
 /// What `serve` is asked: the port to listen on, or 0 for one that the system chooses, how many daemons there are, how many

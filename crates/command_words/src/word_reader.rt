@@ -4,7 +4,7 @@ ghost use Rattle.tsd_base.specs.declared.times.TheConstants.{LAST_TIME};
 ghost use Rattle.clap.specs.Matches.{found_of};
 ghost use Rattle.clap.specs.Walk.{first_of, rows_of};
 ghost use Rattle.clap.specs.Simple.{subcommand_rows_of};
-ghost use Rattle.command_words.specs.CommandWords.{are_names, asked_by, asked_in, asked_of, batch_from, batch_in, count_of, fleet_asked, image_asked, import_in, is_given, is_name, is_pattern, names_in, names_with, number_within, patterns_in, port_in, serve_in, stdio_in, tool_asked, weave_in, widths_in, within};
+ghost use Rattle.command_words.specs.CommandWords.{are_names, asked_by, asked_in, asked_of, batch_from, batch_in, count_of, fleet_asked, image_asked, import_in, is_given, is_name, is_pattern, names_in, names_with, number_within, patterns_in, port_in, publish_in, serve_in, stdio_in, tool_asked, weave_in, widths_in, within};
 ghost use Rattle.command_words.specs.PlainAsked.{InRange, IsFleet, batch_of, import_of, names_of, plain_names, plain_pattern, plain_patterns, serve_of, stdio_of, weave_of, what_asked};
 ghost use Rattle.command_words.specs.WidthWords.{width_of, widths_from, widths_said};
 ghost use Rattle.row_key.specs.IdWidths.{IsWidth};
@@ -43,8 +43,8 @@ const MOST_OPERATIONS: u32 = 1_000_000;
 /// `batch START END M` may have the option `--ms`, with START and END times as `read_fixed_time` reads them, and END not
 /// below START. An END in seconds is that second's first millisecond. `stdio` may have the options `--auto-metric`,
 /// `--no-auto-tagk` and `--no-auto-tagv`, and with a value `--allow-metric P`, `--allow-tagk P` and `--allow-tagv P`, where P
-/// is the bytes of a name as `Name::read` reads it, and `--appends`. `serve PORT` may have these too, `--image`, `--save`, `--daemons N`,
-/// `--workers N` and `--regions N`, with a port from 0 to 65535, 1 to 8 daemons, 1 to 16 workers of each and 1 to 16 regions, in digits alone.
+/// is the bytes of a name as `Name::read` reads it, and `--appends`. `stdio` alone may have `--publish P`, with P of the same form.
+/// `serve PORT` may have the others too, `--image`, `--save`, `--daemons N`, `--workers N` and `--regions N`, with a port from 0 to 65535, 1 to 8 daemons, 1 to 16 workers of each and 1 to 16 regions, in digits alone.
 /// `stdio`, `import`, `dump`, `fsck`, `fix` and `pack` may have `--widths M,K,V`, three digits from 2 to 4 with commas between them: how many
 /// bytes the ids of metrics, of tag keys and of tag values have. `import` may have `--compact` too. `weave SEED N` has a seed that is a `u64`
 /// and at most 1,000,000 operations, in digits alone. `unpack` has no more words. An option is given at most once, and `clap` says where it
@@ -222,12 +222,25 @@ fn stdio_in<'a>(alloc: Global, words: &ArgMatches<'a>) -> Option<Stdio<'a>>
 {
     let names = names_in(alloc, words)?;
     let widths = widths_in(words)?;
+    let publish = publish_in(alloc, words)?;
     let appends = is_given(words, "appends");
     Some(Stdio {
         names,
         appends,
         widths,
+        publish,
     })
+}
+
+/// How the metrics of points begin that are published, where the option is among the words, in the bytes of a name.
+fn publish_in<'a>(alloc: Global, words: &ArgMatches<'a>) -> Option<Option<&'a [u8]>>
+    ensures { option_map plain_pattern result ≡ publish_in (rows_of (found_of words.now)) }
+{
+    let prefix = text(words, "publish");
+    if !is_pattern(alloc, prefix) {
+        return None;
+    }
+    Some(prefix)
 }
 
 /// How many bytes the ids of each kind have, by the text that says so, and three where there is none.

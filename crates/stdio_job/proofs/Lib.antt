@@ -1,2 +1,4 @@
 pub mod CallerLemmas
 mod Alone
+mod Fronts
+mod Publishing

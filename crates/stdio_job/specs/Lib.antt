@@ -1,1 +1,3 @@
 pub mod LoneConnections
+pub mod Publications
+pub mod FedConnections

@@ -1,10 +1,11 @@
 //! Serving one connection over a store of its own.
-ghost use Rattle.std.specs.Prelude.{◌≡◌};
+ghost use Rattle.std.specs.Prelude.{◌≡◌, None, option_map};
 ghost use Rattle.std.specs.Io.KnownBytes.{IsAtEnd};
 ghost use Rattle.point_put.specs.Admissions.{admission};
 ghost use Rattle.tsd_daemon.specs.ServedConns.{ConnCauses, Passes};
 ghost use Rattle.stdio_job.specs.LoneConnections.{ServesAlone};
 
+use crate::published_connection::serve_published;
 use compactor::queue::Queue;
 use lone_store::{empty, halt_of};
 use point_put::Config;
@@ -25,7 +26,36 @@ pub struct Finished<H> {
 
 /// Serves one connection over an empty store of its own, whose ids have these widths and each step of which asks the halt first. A new
 /// name is given an id only where the rule allows it. Rows that were put to are not compacted: the store goes with the connection.
+///
+/// With a prefix to `publish`, where the connection ends by itself the line `published N` follows behind the replies, and the lines of the N
+/// points that were accepted and whose metric begins with the prefix, in the order in which they were put. Where it ends otherwise nothing
+/// follows.
 pub fn serve_alone<S: Source, K: Sink, C: Clock, H: Halt + Drop>(
+    alloc: Global,
+    widths: Widths,
+    rule: &UidRule,
+    config: &Config,
+    publish: Option<&[u8]>,
+    source: &mut S,
+    sink: &mut K,
+    clock: &mut C,
+    halt: H,
+) -> Finished<H>
+    ensures served { Passes (S.taken source.old) (S.taken source.new) (S.left source.old) (S.left source.new) (K.held sink.old) (K.held sink.new) (C.moments clock.old) (C.moments clock.new)
+        (ServesAlone widths (admission config.now rule.now.patterns) (option_map (λ prefix. prefix.now) publish.entry) result.served) }
+    ensures end { result.served ≡ Served.End → IsAtEnd (S.left source.new) }
+    ensures causes { ConnCauses (S.faults source.old) (S.faults source.new) (K.faults sink.old) (K.faults sink.new) (H.stops halt) (H.stops result.halt) (C.faults clock.old) (C.faults clock.new) result.served }
+{
+    match publish {
+        Some(prefix) => serve_published(
+            alloc, widths, rule, config, prefix, source, sink, clock, halt,
+        ),
+        None => serve_plain(alloc, widths, rule, config, source, sink, clock, halt),
+    }
+}
+
+/// Serves one connection, and publishes nothing.
+fn serve_plain<S: Source, K: Sink, C: Clock, H: Halt + Drop>(
     alloc: Global,
     widths: Widths,
     rule: &UidRule,
@@ -36,7 +66,7 @@ pub fn serve_alone<S: Source, K: Sink, C: Clock, H: Halt + Drop>(
     halt: H,
 ) -> Finished<H>
     ensures served { Passes (S.taken source.old) (S.taken source.new) (S.left source.old) (S.left source.new) (K.held sink.old) (K.held sink.new) (C.moments clock.old) (C.moments clock.new)
-        (ServesAlone widths (admission config.now rule.now.patterns) result.served) }
+        (ServesAlone widths (admission config.now rule.now.patterns) None result.served) }
     ensures end { result.served ≡ Served.End → IsAtEnd (S.left source.new) }
     ensures causes { ConnCauses (S.faults source.old) (S.faults source.new) (K.faults sink.old) (K.faults sink.new) (H.stops halt) (H.stops result.halt) (C.faults clock.old) (C.faults clock.new) result.served }
 {

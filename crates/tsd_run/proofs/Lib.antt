@@ -6,3 +6,4 @@ mod RunLemmas
 mod StdioLemmas
 mod PlainBatches
 mod RunHeadlineLemmas
+mod CompletingLemmas

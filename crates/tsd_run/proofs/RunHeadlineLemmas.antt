@@ -73,15 +73,20 @@ module _ (s : Store) (no_cell : (row : Row) (qual : List ℕ) → value_at s row
 
 -- ---- one connection
 
-stdio_headline : (s : Stdio) (status : Status) (input output times : List ℕ) → ServesStdio s status input output times → StdioHeadline status input output times
+stdio_headline : (s : Stdio) (status : Status) (input output times : List ℕ) → ServesStdio s status input output times → StdioHeadline s.publish status input output times
 stdio_headline s status input output times w =
-    let alone = w.1.0 in
+    let alone = w.1.alone in
     record {
       history = alone.history;
       own = own_history (no_cells s.widths) (no_cell s.widths) alone.history alone.lawful alone.base;
+      replies = w.1.replies;
+      given = w.1.given;
+      output_is = w.1.output_is;
+      ended = w.1.ended;
+      headline = served_headline _ alone.history 1 1 (len alone.history) input w.1.replies times w.1.ended alone.lawful alone.served;
       result = w.0;
+      behind = w.1.behind;
       status_is = w.2;
-      headline = served_headline _ alone.history 1 1 (len alone.history) input output times w.0 alone.lawful alone.served;
     }
 
 -- ---- what waits for nobody

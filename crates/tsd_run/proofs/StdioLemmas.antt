@@ -11,7 +11,7 @@ use Rattle.tsd_daemon.specs.declared.served.Served.{Served}
 use Rattle.tsd_daemon.specs.ServedConns.{Passes}
 use Rattle.stdio_job.specs.LoneConnections.{ServesAlone}
 use Rattle.tsd_daemon.specs.declared.served.Served.TheVariants as served
-use Rattle.stdio_job.proofs.CallerLemmas.{none_served, nothing_fills}
+use Rattle.stdio_job.proofs.CallerLemmas.{none_alone}
 use Rattle.row_key.specs.declared.widths.Widths.{Widths}
 use Rattle.cell_listing.specs.ListedLines.{ListingRead}
 use Rattle.listing_job.specs.declared.listing_end.ListingEnd.TheVariants as listing
@@ -31,7 +31,7 @@ admitted s appends config patterns is same = ap (λ (c : Config). admission c pa
 
 -- a connection was served as the words say
 pub served_by : (s : Stdio) (c : Admission) (taken taken' left left' held held' moments moments' : Option (List ℕ)) (result : Served) (status : Status) → c ≡ admission_of s.names s.appends → HasStatus result status
-    → Passes taken taken' left left' held held' moments moments' (ServesAlone s.widths c result) → Passes taken taken' left left' held held' moments moments' (ServesStdio s status)
+    → Passes taken taken' left left' held held' moments moments' (ServesAlone s.widths c s.publish result) → Passes taken taken' left left' held held' moments moments' (ServesStdio s status)
 served_by s c taken taken' left left' held held' moments moments' result status is how p = record {
   input = p.input;
   output = p.output;
@@ -40,7 +40,7 @@ served_by s c taken taken' left left' held held' moments moments' result status 
   leaves = p.leaves;
   gives = p.gives;
   ticks = p.ticks;
-  so = (result, subst (λ (a : Admission). ServesAlone s.widths a result p.input p.output p.times) is p.so, how);
+  so = (result, subst (λ (a : Admission). ServesAlone s.widths a s.publish result p.input p.output p.times) is p.so, how);
 }
 
 module _ (taken left held moments : Option (List ℕ)) where
@@ -49,16 +49,8 @@ module _ (taken left held moments : Option (List ℕ)) where
 
   -- there was no memory to serve a connection
   pub unserved : (s : Stdio) (status : Status) → status ≡ Memory → Passes taken taken left left held held moments moments (ServesStdio s status)
-  unserved s status is = record {
-    input = [];
-    output = [];
-    times = [];
-    takes = Appends-nil taken;
-    leaves = Consumes-nil left;
-    gives = Appends-nil held;
-    ticks = refl;
-    so = (served.OutOfMemory, (none_served s.widths (admission_of s.names s.appends), nothing_fills), is);
-  }
+  unserved s status is = served_by s (admission_of s.names s.appends) taken taken left left held held moments moments served.OutOfMemory status refl is
+      (none_alone s.widths (admission_of s.names s.appends) s.publish taken left held moments served.OutOfMemory refl)
 
   -- nor to read a listing
   unread_listing : (Tells : ListingRead → Told → Type 0) (widths : Widths) → RunsOver Tells widths taken taken left left held held Memory

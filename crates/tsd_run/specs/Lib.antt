@@ -10,3 +10,4 @@ pub mod Statuses
 pub mod FleetStatuses
 pub mod RunPromises
 pub mod RunHeadlines
+pub mod RunCompletes

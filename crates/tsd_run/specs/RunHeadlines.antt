@@ -21,6 +21,7 @@ use Rattle.command_words.specs.CommandWords.{Batch, Asked, Serve, fleet_asked}
 use Rattle.command_words.specs.CommandWords.Asked.{BatchAsked, StdioAsked}
 use Rattle.batch_job.specs.PointLines.{points_of}
 use Rattle.tsd_daemon.specs.declared.served.Served.{Served}
+use Rattle.stdio_job.specs.LoneConnections.{TellsBehind}
 use Rattle.tsd_daemon.specs.ServedConns.{Passes}
 use Rattle.tsd_daemon.specs.TakenInTurn.{InTurn}
 use Rattle.tsd_daemon.specs.Headline.{Headline, OneIdEach}
@@ -67,13 +68,18 @@ pub record IsOwnHistory (h : History) : Type 0 where
   pub no_name : (n : NameOf) → IsResolved (first 0 h) n → ⊥
   pub no_point : (r : Reading) → Accepted (first 0 h) r → ⊥
 
--- the connection has the headline in such a history, behind its caller's opening
-pub record StdioHeadline (status : Status) (input output times : List ℕ) : Type 0 where
+-- The connection has the headline in such a history, behind its caller's opening. Behind its replies the points of that history are published that are asked for.
+pub record StdioHeadline (publish : Option (List ℕ)) (status : Status) (input output times : List ℕ) : Type 0 where
   pub history : History
   pub own : IsOwnHistory history
+  pub replies : List ℕ
+  pub given : List ℕ
+  pub output_is : output ≡ replies ++ given
+  pub ended : Served
+  pub headline : Headline history 1 (len history) input replies times ended
   pub result : Served
+  pub behind : TellsBehind publish ended result history given
   pub status_is : HasStatus result status
-  pub headline : Headline history 1 (len history) input output times result
 
 -- a connection that was given back has it between two lengths, with the bytes that its ends tell
 pub record LinkHeadline (inlets_tell outlets_tell : Type 0) (moments : Option (List ℕ)) (h : History) (from to : ℕ) (link : ServedLink) : Type 0 where
@@ -109,7 +115,7 @@ abbrev pub LoneHeadline : Option Asked → (before after : LoneDevices) → Stat
 LoneHeadline (Some (BatchAsked batch)) before after status =
     Passes before.input.taken after.input.taken before.input.left after.input.left before.output.held after.output.held before.clock.moments after.clock.moments (BatchHeadline batch status)
 LoneHeadline (Some (StdioAsked s)) before after status =
-    Passes before.input.taken after.input.taken before.input.left after.input.left before.output.held after.output.held before.clock.moments after.clock.moments (StdioHeadline status)
+    Passes before.input.taken after.input.taken before.input.left after.input.left before.output.held after.output.held before.clock.moments after.clock.moments (StdioHeadline s.publish status)
 LoneHeadline other before after status = Unit {0}
 
 -- of any words

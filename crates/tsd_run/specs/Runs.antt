@@ -119,10 +119,10 @@ HasStatus served.OutOfMemory status = status ≡ Memory
 abbrev pub admission_of : NameOptions → Bool → Admission
 admission_of s appends = admission (record { auto_metric = s.auto_metric; auto_tag_key = s.auto_tag_key; auto_tag_value = s.auto_tag_value; appends = appends }) s.patterns
 
--- One connection was served over an empty store of the widths that are asked for, which nobody else steps: these bytes were taken and these given, the clock gave these moments, and the
--- status is that of its end.
+-- One connection was served over an empty store of the widths that are asked for, which nobody else steps: these bytes were taken and these given, what is asked to be published among them, the clock
+-- gave these moments, and the status is that of its end.
 abbrev pub ServesStdio : Stdio → Status → List ℕ → List ℕ → List ℕ → Type 0
-ServesStdio s status input output times = (result : Served) × ServesAlone s.widths (admission_of s.names s.appends) result input output times × HasStatus result status
+ServesStdio s status input output times = (result : Served) × ServesAlone s.widths (admission_of s.names s.appends) s.publish result input output times × HasStatus result status
 
 -- the words ask for a connection
 abbrev pub is_stdio : Option Asked → Bool

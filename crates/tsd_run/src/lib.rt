@@ -3,6 +3,7 @@
 
 mod fleet_base;
 mod input;
+pub mod laws;
 mod new_names;
 mod on_image;
 mod on_import;

@@ -80,7 +80,8 @@ struct Decided<H> {
 /// time, or a sum outside `i64`.
 ///
 /// `stdio [--auto-metric] [--no-auto-tagk] [--no-auto-tagv] [--allow-metric P] [--allow-tagk P] [--allow-tagv P] [--appends]
-/// [--widths M,K,V]` serves one connection over an empty store, whose requests come from the input and whose replies go to the output. A
+/// [--widths M,K,V] [--publish P]` serves one connection over an empty store, whose requests come from the input and whose replies go to the
+/// output. Where it ends by itself, with `--publish` the points that were accepted and whose metric begins with P follow behind the replies. A
 /// name that has no id is given one only where it begins with the P of its kind, if there is one. With `--appends` a point is added to the
 /// column of its row, and else it gets a cell. The ids of metrics have M bytes, those of tag keys K and those of tag values V, each 2 to 4,
 /// and three where nothing is said.
@@ -289,6 +290,7 @@ fn serve_by<S: Source, K: Sink, C: Clock, H: Halt + Drop>(
         stdio.widths,
         rule,
         &config,
+        stdio.publish,
         input,
         output,
         clock,

@@ -6,4 +6,5 @@ use Rattle.command_grammar.proofs.grammar.stdio_grammar.Goals as goal
 pub returns-clause-shape : goal.returns-clause-shape
 returns-clause-shape c =
     let puts = c.in_ok-command.ensures.app ∙ ap with_puts c.begun.ensures.app in
-    shaped_as c.with_arg.result (with_rules puts c.valued.ensures.rule) c.with_arg.ensures.app
+    let second = c.in_ok-command-2.ensures.app ∙ with_rules puts c.valued.ensures.rule in
+    shaped_as c.with_arg-2.result (with_rules second c.valued-2.ensures.rule) c.with_arg-2.ensures.app

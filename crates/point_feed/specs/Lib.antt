@@ -1,0 +1,3 @@
+pub mod FedEntries
+pub mod FedRows
+pub mod KeptLines
