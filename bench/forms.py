@@ -69,7 +69,7 @@ class Row:
         length = width(value)
         qual = second * 16 + length - 1
         if self.even and qual not in self.cells and not self.push(second, length):
-            self.even, self.left = False, self.slots
+            self.even, self.left = False, self.slots if self.slots > 1 else 0
         self.cells[qual] = length
         self.values.add(value)
 
@@ -116,6 +116,8 @@ class Row:
         return chunk(HEAD * room_by_quarters(len(self.cells))) + chunk(room) + chunk(80)
 
     def bytes_now(self):
+        if len(self.cells) == 1:
+            return 0  # The only cell of a row stands in the row itself.
         if self.even:
             return EVEN * room_to_hour(self.slots, self.first, self.step)
         return self.as_strip(self.left)

@@ -1,5 +1,5 @@
 #!/usr/bin/env python3
-"""Measures `import`, `fsck`, `fix` and `dump` beside plain Rust that does the same, by turns, and prints a Markdown table for each size.
+"""Measures `import`, `fsck`, `fix`, `dump`, `pack` and `unpack` beside plain Rust that does the same, by turns, and prints a Markdown table for each size.
 
     bench/tools.py PROGRAM PLAIN [RUNS] [SERIESxPOINTS[xTAGS] ..]
 
@@ -60,22 +60,24 @@ def main():
     runs = int(rest.pop(0)) if rest and rest[0].isdigit() else 5
     sizes = rest or ["1000x1000", "100000x10", "1000x1000x8", "10000x1000"]
     with tempfile.TemporaryDirectory() as folder:
-        points, listing, shuffled = (os.path.join(folder, name) for name in ("points", "listing", "shuffled"))
+        points, listing, shuffled, image = (os.path.join(folder, name) for name in ("points", "listing", "shuffled", "image"))
         for size in sizes:
             series, each, *more = map(int, size.split("x"))
             count = more[0] if more else 2
             lines(points, series, each, count)
             with open(points, "rb") as file, open(listing, "wb") as out:
                 subprocess.run([plain, "import"], stdin=file, stdout=out, check=True)
+            with open(listing, "rb") as file, open(image, "wb") as out:
+                subprocess.run([plain, "pack"], stdin=file, stdout=out, check=True)
             with open(listing) as file:
                 all_lines = file.readlines()
             random.Random(3).shuffle(all_lines)
             with open(shuffled, "w") as file:
                 file.writelines(all_lines)
             del all_lines
-            print(f"\n{series:,} series of {each:,} points, {count} tags each; a listing of {os.path.getsize(listing) / 1e6:.0f} MB\n")
+            print(f"\n{series:,} series of {each:,} points, {count} tags each; a listing of {os.path.getsize(listing) / 1e6:.0f} MB, an image of {os.path.getsize(image) / 1e6:.0f} MB\n")
             print("| Job | tsd, s | plain Rust, s | tsd / plain | tsd, MB | plain, MB | tsd / plain |\n|---|---|---|---|---|---|---|")
-            for job, words, path in [("fsck", ["fsck"], listing), ("dump", ["dump"], listing), ("fix", ["fix"], listing), ("fix, no order", ["fix"], shuffled), ("import", ["import"], points)]:
+            for job, words, path in [("fsck", ["fsck"], listing), ("dump", ["dump"], listing), ("fix", ["fix"], listing), ("fix, no order", ["fix"], shuffled), ("pack", ["pack"], listing), ("unpack", ["unpack"], image), ("import", ["import"], points)]:
                 both = by_turns(runs, {"tsd": (program, words, path), "plain": (plain, words, path)})
                 if both["tsd"][2] != both["plain"][2]:
                     sys.exit(f"{job}: the two print other bytes")
@@ -86,4 +88,5 @@ def main():
             print(f"| `batch` of the same lines | {seconds[0]:.2f} | | | {seconds[1]:.0f} | | |", flush=True)
 
 
-main()
+if __name__ == "__main__":
+    main()

@@ -1,8 +1,9 @@
-//! The jobs of `tsd import`, `fsck`, `fix` and `dump` in plain Rust with `std` alone: what their speed is measured against. Ids have three
-//! bytes, and no line is told as bad by its length. It prints the same bytes for lines of points in either form and for listings.
+//! The jobs of `tsd import`, `fsck`, `fix`, `dump`, `pack` and `unpack` in plain Rust with `std` alone: what their speed is measured against.
+//! Ids have three bytes, and no line is told as bad by its length. It prints the same bytes for lines of points in either form, for listings
+//! and for images. `restart` reads an image into maps, says so by a line, and prints their image.
 
 use std::collections::{BTreeMap, HashMap};
-use std::io::{self, BufRead, Write};
+use std::io::{self, BufRead, Read, Write};
 use std::process::ExitCode;
 
 const HOUR: u64 = 3600;
@@ -313,15 +314,12 @@ fn fsck() -> u8 {
     }
 }
 
-fn dump() -> u8 {
-    let (cells, bad, _) = read_listing();
-    let uids = Uids::of(&cells);
-    let mut out = io::BufWriter::with_capacity(65_536, io::stdout().lock());
+/// The first fault of a listing, by the number of its line.
+fn first_fault<'a>(cells: &'a [Cell], bad: &[u64], uids: &Uids<'a>) -> Option<(u64, &'static str)> {
     let (mut row, mut dots) = ((Vec::new(), None), Vec::new());
-    // The first fault, by the number of its line.
     let mut number = 0;
-    let mut fault = bad.first().map(|n| (*n, "bad line"));
-    for cell in &cells {
+    let fault = bad.first().map(|n| (*n, "bad line"));
+    for cell in cells {
         number += 1;
         while bad.binary_search(&number).is_ok() {
             number += 1;
@@ -330,10 +328,112 @@ fn dump() -> u8 {
             break;
         }
         if let Some(text) = uids.flaw(cell, &mut row, &mut dots) {
-            fault = Some((number, text));
-            break;
+            return Some((number, text));
         }
     }
+    fault
+}
+
+fn print_head(out: &mut impl Write, number: usize) {
+    out.write_all(b"tsdimg01\x03\x03\x03").unwrap();
+    out.write_all(&(number as u64).to_be_bytes()).unwrap();
+}
+
+fn print_image_cell(out: &mut impl Write, table: u8, row: &[u8], qual: &[u8], value: &[u8]) {
+    out.write_all(&[table]).unwrap();
+    out.write_all(&(row.len() as u16).to_be_bytes()).unwrap();
+    out.write_all(row).unwrap();
+    out.write_all(&(qual.len() as u32).to_be_bytes()).unwrap();
+    out.write_all(qual).unwrap();
+    out.write_all(&(value.len() as u32).to_be_bytes()).unwrap();
+    out.write_all(value).unwrap();
+}
+
+fn pack() -> u8 {
+    let (cells, bad, _) = read_listing();
+    let mut out = io::BufWriter::with_capacity(65_536, io::stdout().lock());
+    if let Some((number, text)) = first_fault(&cells, &bad, &Uids::of(&cells)) {
+        writeln!(out, "line {number}: {text}").unwrap();
+        return 2;
+    }
+    print_head(&mut out, cells.len());
+    for cell in &cells {
+        print_image_cell(&mut out, cell.table, &cell.row, &cell.qual, &cell.value);
+    }
+    0
+}
+
+/// The next part of an image, whose length has so many bytes.
+fn part(input: &mut impl Read, width: usize) -> Vec<u8> {
+    let mut length = [0; 8];
+    input.read_exact(&mut length[8 - width..]).unwrap();
+    let mut part = vec![0; u64::from_be_bytes(length) as usize];
+    assert!(!part.is_empty());
+    input.read_exact(&mut part).unwrap();
+    part
+}
+
+/// The cells of the image of the input, which is to be one.
+fn image_cells(mut each: impl FnMut(Cell)) {
+    let mut input = io::BufReader::with_capacity(65_536, io::stdin().lock());
+    let mut head = [0; 19];
+    input.read_exact(&mut head).unwrap();
+    assert!(head.starts_with(b"tsdimg01\x03\x03\x03"));
+    for _ in 0..u64::from_be_bytes(head[11..].try_into().unwrap()) {
+        let mut table = [0];
+        input.read_exact(&mut table).unwrap();
+        let (row, qual, value) = (part(&mut input, 2), part(&mut input, 4), part(&mut input, 4));
+        each(Cell { table: table[0], row, qual, value });
+    }
+    assert_eq!(input.read(&mut [0]).unwrap(), 0);
+}
+
+fn unpack() -> u8 {
+    let mut cells = Vec::<Cell>::new();
+    image_cells(|cell| {
+        assert!(cells.last().is_none_or(|last| (last.table, &last.row, &last.qual) < (cell.table, &cell.row, &cell.qual)));
+        cells.push(cell);
+    });
+    let mut out = io::BufWriter::with_capacity(65_536, io::stdout().lock());
+    if let Some((number, text)) = first_fault(&cells, &[], &Uids::of(&cells)) {
+        writeln!(out, "image: cell {number}: {text}").unwrap();
+        return 2;
+    }
+    let mut text = Vec::new();
+    for cell in &cells {
+        print_cell(&mut out, cell, &mut text);
+    }
+    0
+}
+
+fn restart() -> u8 {
+    let mut tables: [BTreeMap<Vec<u8>, BTreeMap<Vec<u8>, Vec<u8>>>; 3] = Default::default();
+    image_cells(|cell| {
+        tables[cell.table as usize].entry(cell.row).or_default().insert(cell.qual, cell.value);
+    });
+    let mut out = io::BufWriter::with_capacity(65_536, io::stdout().lock());
+    out.write_all(b"loaded\n").unwrap();
+    out.flush().unwrap();
+    print_head(&mut out, tables.iter().flat_map(|rows| rows.values()).map(|cells| cells.len()).sum());
+    for (table, rows) in tables.iter().enumerate() {
+        for (row, cells) in rows {
+            for (qual, value) in cells {
+                print_image_cell(&mut out, table as u8, row, qual, value);
+            }
+        }
+    }
+    out.flush().unwrap();
+    drop(out);
+    // As the server does, it ends without giving back what it holds.
+    std::process::exit(0);
+}
+
+fn dump() -> u8 {
+    let (cells, bad, _) = read_listing();
+    let uids = Uids::of(&cells);
+    let mut out = io::BufWriter::with_capacity(65_536, io::stdout().lock());
+    let mut dots = Vec::new();
+    let fault = first_fault(&cells, &bad, &uids);
     if let Some((number, text)) = fault {
         writeln!(out, "line {number}: {text}").unwrap();
         return 2;
@@ -558,6 +658,9 @@ fn main() -> ExitCode {
         Some("fsck") => fsck(),
         Some("fix") => fix(),
         Some("dump") => dump(),
+        Some("pack") => pack(),
+        Some("unpack") => unpack(),
+        Some("restart") => restart(),
         _ => 1,
     })
 }
