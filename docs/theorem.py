@@ -66,6 +66,7 @@ LEAVES = {
         ("tsd_io", "Ticks", "Ticks"),
         ("tsd_doors", "Links", "Shut"),
     ],
+    "What is published": [("stdio_job", "LoneConnections", "TellsBehind")],
     "An image": [("tsd_run", "FleetStatuses", "TakesStore")],
     "The last lines": [("serve_job", "FleetRuns", "last_lines")],
     "The numbers of a store": [("cell_model", "Counts", "counters_of point_rows point_entries"), ("cell_model", "Store", "Store")],
