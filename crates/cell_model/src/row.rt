@@ -6,9 +6,9 @@ ghost use Rattle.cell_model.specs.PlaceOrder.{place_cmp, table_number};
 ghost use Rattle.cell_model.specs.Store.{value_among};
 ghost use Rattle.cell_model.specs.Rising.{RiseByQual, IsAboveCells, LinesRise, Adds, is_above, may_follow, place_of_line};
 
-use packed_cells::block::Block;
-use packed_cells::small_value::{Narrow, Wide};
-use packed_cells::strip::Strip;
+use cell_blocks::block::Block;
+use cell_blocks::small_value::{Narrow, Wide};
+use cell_blocks::strip::Strip;
 use qual_codec::{Bytes, CellRef};
 use row_key::{Table, Widths};
 use std::alloc::{AllocError, Global};

@@ -15,15 +15,16 @@ use Rattle.std.proofs.lemmas.List.Edits.{insert_end, length-insert, length-remov
 use Rattle.std.proofs.lemmas.Nat.{from_be_bytes-to_be_bytes_2, from_le_bytes-to_le_bytes_8, mul-le, same_from_place}
 use Rattle.qual_codec.specs.declared.cells.Cell.{Cell}
 use Rattle.list_lemmas.specs.BytesOrder.{bytes_cmp}
-use Rattle.packed_cells.specs.Seeks.{Rises, IsCellAt, IsCellGap}
+use Rattle.cell_blocks.specs.Seeks.{Rises, IsCellAt, IsCellGap}
 use Rattle.packed_cells.specs.Keyed.{map_of, cells_in, stamped, stamped_over, goes, without}
 use Rattle.packed_cells.specs.EvenCells.{second_qual, flags_in, bytes_in, value_cell, even_cell, places, present, even_cells, IsGrid, IsEven, IsSlotAt}
 use Rattle.packed_cells.specs.declared.even_cells.EvenSlot.{EvenSlot}
 use Rattle.packed_cells.specs.declared.even_cells.EvenValue.{EvenValue}
 use Rattle.packed_cells.specs.declared.even_cells.EvenValue.TheVariants.{One, Two, Gone}
-use Rattle.packed_cells.proofs.Halves.{turn}
-use Rattle.packed_cells.proofs.Order.{tri}
-use Rattle.packed_cells.proofs.Keyed.{none, value_of_some, len_is, cells_are, get_at, set_is_put, insert_is_put, goes_at, stays_at, remove_is_without}
+use Rattle.cell_blocks.proofs.Halves.{turn}
+use Rattle.cell_blocks.proofs.Order.{tri}
+use Rattle.packed_cells.proofs.Keyed.{value_of_some, len_is, cells_are, get_at, set_is_put, insert_is_put, goes_at, stays_at, remove_is_without}
+use Rattle.cell_blocks.proofs.Order.{none}
 use Rattle.packed_cells.proofs.EvenPlaces.{no_cell, rank, within, rank_below, at_rank, present_set, present_gone, present_more, present_joined, get_none, length-places, place_at, place_set, place_more}
 
 -- ---- two bytes are in the order of their numbers

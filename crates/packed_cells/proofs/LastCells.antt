@@ -3,11 +3,12 @@ use Rattle.std.proofs.Common.{◌≡◌, ◌⊎◌, inl, inr, ℕ, ◌-◌, Bool
 use Rattle.std.specs.Prelude.{IsTrue, insert, if◌then◌else◌}
 use Rattle.std.specs.FinMap as fin
 use Rattle.qual_codec.specs.declared.cells.Cell.{Cell}
-use Rattle.packed_cells.specs.Seeks.{Rises, AllBefore, IsCellGap, IsBehindLast, IsLastStamped}
+use Rattle.cell_blocks.specs.Seeks.{Rises, AllBefore, IsCellGap, IsBehindLast, IsLastStamped}
 use Rattle.packed_cells.specs.Keyed.{map_of, stamped}
-use Rattle.packed_cells.proofs.Halves.{up_to}
-use Rattle.packed_cells.proofs.Order.{rises_insert, rises_stamp}
-use Rattle.packed_cells.proofs.Keyed.{none, insert_is_put, stamp_is_stamped}
+use Rattle.cell_blocks.proofs.Halves.{up_to}
+use Rattle.cell_blocks.proofs.Order.{rises_insert, rises_stamp}
+use Rattle.packed_cells.proofs.Keyed.{insert_is_put, stamp_is_stamped}
+use Rattle.cell_blocks.proofs.Order.{none}
 
 behind_gap : (q : List ℕ) (cells : List Cell) → Rises cells → IsBehindLast q cells → IsCellGap q cells (length cells)
 behind_gap q cells rises is = record {

@@ -5,11 +5,11 @@ use Rattle.std.specs.FinMap.{empty, get, insert, remove, get-empty, len, len-ins
 use Rattle.std.specs.Cmp.Lexicographic.{nat_list_cmp_total}
 use Rattle.list_lemmas.specs.BytesOrder.{bytes_cmp}
 use Rattle.qual_codec.specs.declared.cells.Cell.{Cell}
-use Rattle.packed_cells.specs.Packed.{overwritten}
-use Rattle.packed_cells.specs.Seeks.{Rises}
+use Rattle.cell_blocks.specs.Packed.{overwritten}
+use Rattle.cell_blocks.specs.Seeks.{Rises}
 use Rattle.packed_cells.specs.Keyed.{CellMap, cells_in, map_of, stamped, stamped_over, goes, without}
 use Rattle.packed_cells.specs.SoleCells.{sole_map, Fits}
-use Rattle.packed_cells.proofs.Packed.{written_at, written_before, written_length}
+use Rattle.cell_blocks.proofs.Packed.{written_at, written_before, written_length}
 use Rattle.packed_cells.proofs.Keyed.{cells_are, insert_is_put}
 use Rattle.packed_cells.proofs.Columns.{Held, get_here, get_other, held_is, twice, put_and_taken}
 

@@ -2,13 +2,13 @@
 ghost use Rattle.std.specs.Prelude.{◌≡◌, ◌≢◌, ℕ, List, None, Some, IfOk, IsOk, OnOk, OnErr, length, option_map};
 ghost use Rattle.std.specs.FinMap.{get, insert, len, remove};
 ghost use Rattle.qual_codec.specs.CellDots.{column_qual};
-ghost use Rattle.packed_cells.specs.Seeks.{Rises};
+ghost use Rattle.cell_blocks.specs.Seeks.{Rises};
 ghost use Rattle.packed_cells.specs.Keyed.{CellMap, appended, cells_in, stamped, goes, without};
 
-use crate::block::Block;
-use crate::mixed_cells::overwrite;
 use crate::plain_cells::PlainCells;
-use crate::room::make_room;
+use cell_blocks::block::Block;
+use cell_blocks::mixed_cells::overwrite;
+use cell_blocks::room::make_room;
 use qual_codec::is_column;
 use std::alloc::{AllocError, Global};
 use std::marker::Model;

@@ -5,14 +5,14 @@ ghost use Rattle.packed_cells.specs.declared.even_cells.EvenSlot.{EvenSlot};
 ghost use Rattle.std.specs.FinMap.{empty, get, insert, len};
 ghost use Rattle.packed_cells.specs.EvenCells.{places, present, even_cell, even_cells, flags_in, bytes_in, IsGrid, IsSlotAt};
 ghost use Rattle.packed_cells.specs.Keyed.{cells_in, map_of, stamped, goes, without};
-ghost use Rattle.packed_cells.specs.Seeks.{Rises};
+ghost use Rattle.cell_blocks.specs.Seeks.{Rises};
 ghost use Rattle.packed_cells.specs.SoleCells.{sole_map};
 
-use crate::block::Block;
 use crate::plain_cells::PlainCells;
-use crate::small_value::Narrow;
 use crate::sole_cell::SoleCell;
-use crate::strip::Strip;
+use cell_blocks::block::Block;
+use cell_blocks::small_value::Narrow;
+use cell_blocks::strip::Strip;
 use row_hours::HOUR;
 use std::alloc::{AllocError, Global};
 use std::marker::Model;

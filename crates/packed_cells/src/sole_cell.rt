@@ -1,14 +1,14 @@
 //! The only cell of a row.
 ghost use Rattle.std.specs.Prelude.{◌≡◌, ◌↔◌, ◌+◌, ◌≤◌, ℕ, Some, IfOk, IfSome, IsSome, IsTrue, length, option_map, true, List, if◌then◌else◌};
 ghost use Rattle.std.specs.FinMap.{empty, get, insert, len};
-ghost use Rattle.packed_cells.specs.Packed.{overwritten, stamped_at};
+ghost use Rattle.cell_blocks.specs.Packed.{overwritten, stamped_at};
 ghost use Rattle.packed_cells.specs.Keyed.{cells_in, stamped, goes, without};
-ghost use Rattle.packed_cells.specs.Seeks.{Rises};
+ghost use Rattle.cell_blocks.specs.Seeks.{Rises};
 ghost use Rattle.packed_cells.specs.SoleCells.{sole_map};
 
-use crate::block::Block;
 use crate::even_cells::EvenCells;
 use crate::plain_cells::PlainCells;
+use cell_blocks::block::Block;
 use std::alloc::{AllocError, Global};
 use std::marker::Model;
 

@@ -6,9 +6,9 @@ ghost use Rattle.tsd_base.specs.Dots.{IsAboveAll};
 ghost use Rattle.row_scan.specs.RowTimes.{IsColumnRead, KeepsPoints, dot_at};
 
 use crate::merged_points::row_points;
+use cell_blocks::small_value::SmallValue;
+use cell_blocks::strip::Strip;
 use cell_model::Cells;
-use packed_cells::small_value::SmallValue;
-use packed_cells::strip::Strip;
 use qual_codec::merge::is_within;
 use qual_codec::{Dot, MergeFault, is_column, next_piece, short_dot};
 use std::alloc::{AllocError, Global};

@@ -1,6 +1,6 @@
 use Rattle.std.proofs.Common.{List, sym, subst, ◌∙◌}
 use Rattle.qual_codec.specs.declared.cells.Cell.{Cell}
-use Rattle.packed_cells.specs.Seeks.{Rises}
+use Rattle.cell_blocks.specs.Seeks.{Rises}
 use Rattle.packed_cells.proofs.EvenRows.{rises_even}
 use Rattle.packed_cells.proofs.even_cells.EvenCells.plain.Goals as goal
 

@@ -2,8 +2,9 @@ use Rattle.std.proofs.Common.{◌≡◌, length, sym, ap, ◌∙◌}
 use Rattle.std.specs.Prelude.{slice_index_or, Some, None}
 use Rattle.std.specs.FinMap as fin
 use Rattle.packed_cells.specs.Keyed.{map_of}
-use Rattle.packed_cells.proofs.Order.{found_length}
-use Rattle.packed_cells.proofs.Keyed.{none, get_at, get_gap, value_of_some}
+use Rattle.cell_blocks.proofs.Order.{found_length}
+use Rattle.packed_cells.proofs.Keyed.{get_at, get_gap, value_of_some}
+use Rattle.cell_blocks.proofs.Order.{none}
 use Rattle.packed_cells.proofs.plain_cells.PlainCells.put_among.Goals as goal
 
 pub returns-in-Ok-clause-in_place : goal.returns-in-Ok-clause-in_place

@@ -1,6 +1,7 @@
 use Rattle.std.proofs.Common.{sym, ap, ◌∙◌, arith}
 use Rattle.packed_cells.specs.Keyed.{map_of}
-use Rattle.packed_cells.proofs.Keyed.{none, goes_at, stays_at, stays_gap, kept_without, remove_is_without}
+use Rattle.packed_cells.proofs.Keyed.{goes_at, stays_at, stays_gap, kept_without, remove_is_without}
+use Rattle.cell_blocks.proofs.Order.{none}
 use Rattle.packed_cells.proofs.plain_cells.PlainCells.remove.Goals as goal
 
 pub returns-in_default-clause-gone : goal.returns-in_default-clause-gone

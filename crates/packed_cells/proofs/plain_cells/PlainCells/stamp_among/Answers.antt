@@ -1,9 +1,10 @@
 use Rattle.std.proofs.Common.{List, sym, ap, subst, ◌∙◌}
 use Rattle.qual_codec.specs.declared.cells.Cell.{Cell}
-use Rattle.packed_cells.specs.Seeks.{Rises}
+use Rattle.cell_blocks.specs.Seeks.{Rises}
 use Rattle.packed_cells.specs.Keyed.{map_of}
-use Rattle.packed_cells.proofs.Order.{rises_stamp}
-use Rattle.packed_cells.proofs.Keyed.{none, stamp_is_stamped, gap_is_stamped}
+use Rattle.cell_blocks.proofs.Order.{rises_stamp}
+use Rattle.packed_cells.proofs.Keyed.{stamp_is_stamped, gap_is_stamped}
+use Rattle.cell_blocks.proofs.Order.{none}
 use Rattle.packed_cells.proofs.plain_cells.PlainCells.stamp_among.Goals as goal
 
 pub invariant_of-self : goal.invariant_of-self

@@ -1,6 +1,7 @@
 use Rattle.std.proofs.Common.{ℕ, List, sym, ap, ◌∙◌}
 use Rattle.std.specs.Prelude.{Some, option_map}
-use Rattle.packed_cells.proofs.Keyed.{none, get_at, get_gap}
+use Rattle.packed_cells.proofs.Keyed.{get_at, get_gap}
+use Rattle.cell_blocks.proofs.Order.{none}
 use Rattle.packed_cells.proofs.plain_cells.PlainCells.value.Goals as goal
 
 pub returns-in-Ok : goal.returns-in-Ok

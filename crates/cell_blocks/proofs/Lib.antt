@@ -1,0 +1,5 @@
+pub mod Packed
+pub mod Halves
+pub mod Order
+mod Spans
+mod Strips

@@ -1,0 +1,5 @@
+pub mod Packed
+pub mod SmallValues
+pub mod Strips
+pub mod BlockForms
+pub mod Seeks

@@ -1,5 +1,0 @@
-use Rattle.std.proofs.Common.{◌≡◌, ◌≤◌, take, length}
-use Rattle.packed_cells.proofs.mixed_cells.MixedCells.rebuilt.Given as goal
-
-abbrev pub invariant-loop-i : goal.invariant-loop-i
-invariant-loop-i l = record { within : l.i ≤ l.i-end; all : l.i-end ≡ length l.self; copied : l.made ≡ take l.i l.self }

@@ -1,7 +1,0 @@
-use Rattle.std.proofs.Common.{sym, subst}
-use Rattle.packed_cells.specs.Packed.{IsKept}
-use Rattle.packed_cells.proofs.Spans.{removed_kept}
-use Rattle.packed_cells.proofs.mixed_cells.MixedCells.take_out.Goals as goal
-
-pub invariant_of-self : goal.invariant_of-self
-invariant_of-self c = subst (IsKept c.self.inside.bytes.items c.self.inside.longs.items) (sym c.remove-head.ensures.items) (removed_kept c.self.inside.bytes.items c.self.inside.longs.items c.self.inside.heads.items c.args.i c.self.invariant)
