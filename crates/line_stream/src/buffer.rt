@@ -6,10 +6,13 @@ use memchr::memchr;
 use std::alloc::{AllocError, Global};
 use std::marker::Model;
 
+/// The most memory in bytes that a buffer keeps once all its bytes are used up.
+const MOST_KEPT: usize = 1 << 20;
+
 /// Bytes that are fed piece by piece and used up line by line. Contracts see those that aren't used up.
 ///
 /// All work is linear in the bytes: each is searched for its LF once, and bytes are moved to the front only once as many
-/// were used up. What is kept is at most twice what isn't used up, and a piece.
+/// were used up. What is kept is at most twice what isn't used up, and a piece. Where all is used up, more than 1 MiB is given back.
 #[derive(Drop)]
 pub struct LineBuffer {
     block: Vec<u8>,
@@ -90,8 +93,30 @@ impl LineBuffer {
         requires { count ≤ length self.old }
         ensures { self.new ≡ drop count self.old }
     {
+        self.go_on(count);
+        if self.bytes().is_empty() && self.block.capacity() > MOST_KEPT {
+            self.give_back();
+        }
+    }
+
+    /// Goes on behind the first `count` bytes.
+    fn go_on(&mut self, count: usize)
+        requires { count ≤ length self.old }
+        ensures { self.new ≡ drop count self.old }
+    {
         self.start += count;
         self.searched = self.searched.max(self.start);
+    }
+
+    /// Gives the memory back, where all bytes are used up.
+    fn give_back(&mut self)
+        requires { self.old ≡ [] }
+        ensures { self.new ≡ [] }
+    {
+        self.block.truncate(0);
+        self.block.shrink_to_fit();
+        self.start = 0;
+        self.searched = 0;
     }
 }
 

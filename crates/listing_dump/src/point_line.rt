@@ -10,11 +10,25 @@ use tsd_base::decimals::write_signed;
 use tsd_base::names::Name;
 use tsd_base::points::Point;
 
+/// The most bytes that a time, a value, the spaces before them and LF take.
+const READING: usize = 48;
+
+/// For how many bytes there is to be room, so that a point's line fits.
+fn room_for(point: &Point) -> usize {
+    let mut room = point.metric.bytes().len().saturating_add(READING);
+    for pair in point.tags.pairs() {
+        let tag = pair.0.bytes().len().saturating_add(pair.1.bytes().len());
+        room = room.saturating_add(tag).saturating_add(2);
+    }
+    room
+}
+
 /// The line of a point, with LF, as a dump has it. It fails only for want of memory.
 pub fn point_line(alloc: Global, point: &Point) -> Result<Vec<u8>, AllocError>
     ensures { IfOk result (λ text. text.items ≡ point_text (data_point point.now)) }
 {
-    let mut text = Vec::from_slice(alloc, point.metric.bytes())?;
+    let mut text = Vec::with_capacity(alloc, room_for(point))?;
+    text.extend_from_slice(point.metric.bytes())?;
     push_reading(&mut text, point.time, point.fine, point.value)?;
     push_tags(&mut text, point.tags.pairs())?;
     text.push(b'\n')?;

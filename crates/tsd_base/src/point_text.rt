@@ -85,6 +85,8 @@ fn read_pairs(alloc: Global, text: &[u8]) -> Result<Vec<(Name, Name)>, PointFaul
     ensures { Gives (λ pairs. pairs.items) result (pairs_of 1 (words_of text.now)) }
 {
     let mut pairs = Vec::new(alloc);
+    // Many series have two tags, and the list is kept with a series that is known.
+    let _ = pairs.reserve_exact(2);
     let mut rest = text;
     while let Some((word, after)) = next_word(rest) {
         let pair = read_tag(alloc, pairs.len() + 1, word)?;

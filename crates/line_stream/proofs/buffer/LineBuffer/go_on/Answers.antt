@@ -1,6 +1,6 @@
 use Rattle.std.proofs.Common.{ap, arith, length}
 use Rattle.line_stream.proofs.SearchLemmas.{skip_searched}
-use Rattle.line_stream.proofs.buffer.LineBuffer.skip.Goals as goal
+use Rattle.line_stream.proofs.buffer.LineBuffer.go_on.Goals as goal
 
 pub invariant_of-self : goal.invariant_of-self
 invariant_of-self c =
