@@ -1,5 +1,5 @@
 -- Buckets of times, and what the values of one make.
-use Rattle.std.specs.Prelude.{ℕ, zero, suc, ◌+◌, ◌-◌, ◌/◌, ◌%◌, ℤ, pos, not, nat_eq, List, [], ◌∷◌, Option, Some, map, filter, fold}
+use Rattle.std.specs.Prelude.{ℕ, Bool, true, false, zero, suc, ◌+◌, ◌-◌, ◌/◌, ◌%◌, ℤ, pos, not, nat_eq, List, [], ◌∷◌, Option, Some, map, filter, fold}
 use Rattle.tsd_base.specs.declared.kinds.Function.{Function}
 use Rattle.tsd_base.specs.declared.kinds.Function.TheVariants as function
 use Rattle.tsd_base.specs.declared.kinds.Aggregator.TheVariants as aggregator
@@ -44,3 +44,16 @@ value_of_some function.Mimmax value values = made_of aggregator.Mimmax (value �
 abbrev pub value_of : Function → List ℤ → Option ℤ
 value_of how [] = Some (pos 0)
 value_of how (value ∷ values) = value_of_some how value values
+
+-- whether the function makes a value of itself alone
+abbrev pub keeps_one : Function → Bool
+keeps_one function.Sum = true
+keeps_one function.Min = true
+keeps_one function.Max = true
+keeps_one function.Avg = true
+keeps_one function.Count = false
+keeps_one function.First = true
+keeps_one function.Last = true
+keeps_one function.Zimsum = true
+keeps_one function.Mimmin = true
+keeps_one function.Mimmax = true

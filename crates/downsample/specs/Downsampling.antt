@@ -1,13 +1,14 @@
 -- A series with one value for each bucket.
 -- A series is an unordered list of readings, each a time in milliseconds with its value.
-use Rattle.std.specs.Prelude.{◌≡◌, ℕ, ℤ, List, [], ◌∷◌, Option, Some, None, Result, Ok, Err}
+use Rattle.std.specs.Prelude.{◌≡◌, ℕ, ℤ, true, All, List, [], ◌∷◌, Option, Some, None, Result, Ok, Err}
 use Rattle.std.specs.FinMap.{from_entries, entries}
 use Rattle.std.specs.Ordering.{nat_cmp}
 use Rattle.tsd_base.specs.declared.kinds.Function.{Function}
 use Rattle.tsd_base.specs.declared.kinds.Fill.{Fill}
 use Rattle.tsd_base.specs.declared.kinds.Fill.TheVariants.{NoFill, Zero}
 use Rattle.tsd_base.specs.declared.kinds.Down.{Down}
-use Rattle.downsample.specs.Buckets.{buckets_of, all_buckets, values_in, value_of}
+use Rattle.lerp_aggregate.specs.Aggregation.{fits}
+use Rattle.downsample.specs.Buckets.{bucket_of, keeps_one, buckets_of, all_buckets, values_in, value_of}
 use Rattle.downsample.specs.declared.downsampling.DownFault.{DownFault}
 use Rattle.downsample.specs.declared.downsampling.DownFault.TheVariants.{Overflow, OutOfMemory}
 
@@ -40,3 +41,11 @@ abbrev pub GivesDown : Result (List (ℕ × ℤ)) DownFault → Result (List (�
 GivesDown (Ok dots) wanted = wanted ≡ Ok dots
 GivesDown (Err (Overflow time)) wanted = wanted ≡ Err time
 GivesDown (Err OutOfMemory) wanted = Unit {0}
+
+-- a bucket begins at the point, whose value is one of an i64
+abbrev pub Begins : ℕ → ℕ × ℤ → Type 0
+Begins interval point = (bucket_of interval point.0 ≡ point.0) × (fits point.1 ≡ true)
+
+-- without a fill the points are their own downsampled series
+abbrev pub AreBuckets : Down → List (ℕ × ℤ) → Type 0
+AreBuckets how points = (how.fill ≡ NoFill) × (keeps_one how.function ≡ true) × All (Begins how.interval) points

@@ -95,7 +95,7 @@ made_none : (b : Bool) (z : ℤ) → cond b None (Some z) ≡ None → b ≡ tru
 made_none true z e = refl
 made_none false z e = absurd (none-some z (sym e))
 
-made_some : (b : Bool) (z v : ℤ) → cond b None (Some z) ≡ Some v → (b ≡ false) × (z ≡ v)
+pub made_some : (b : Bool) (z v : ℤ) → cond b None (Some z) ≡ Some v → (b ≡ false) × (z ≡ v)
 made_some true z v e = absurd (none-some v e)
 made_some false z v e = (refl, same_Some _ _ e)
 

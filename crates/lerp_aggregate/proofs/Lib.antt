@@ -9,3 +9,4 @@ pub mod Unordered
 pub mod Walking
 pub mod Finding
 pub mod Bundling
+pub mod Placing

@@ -3,3 +3,4 @@ pub mod Interpolation
 pub mod Laws
 pub mod Tally
 pub mod Walks
+pub mod EqualTimes

@@ -4,6 +4,7 @@ ghost use Rattle.lerp_aggregate.specs.Aggregation.{aggregated, interpolates, Giv
 ghost use Rattle.lerp_aggregate.specs.Walks.{walked, StandAt};
 
 use crate::cursors::Walk;
+use crate::equal_times::by_place;
 use crate::tally::Tally;
 use std::alloc::{AllocError, Global};
 use tsd_base::dots::Dots;
@@ -45,6 +46,9 @@ pub fn aggregate(alloc: Global, list: &[Dots], how: Aggregator) -> Result<Dots, 
 {
     if list.is_empty() {
         return Ok(Dots::make(alloc));
+    }
+    if let Some(dots) = by_place(alloc, list, how)? {
+        return Ok(dots);
     }
     let walk = Walk::start(alloc, list, 0, list.len())?;
     walk_on(alloc, list, how, walk)

@@ -3,6 +3,7 @@
 
 pub mod aggregation;
 mod cursors;
+mod equal_times;
 pub mod interpolation;
 pub mod laws;
 pub mod tally;
