@@ -1,1 +1,3 @@
 mod RisingTags
+mod Wilds
+mod PlainFilters

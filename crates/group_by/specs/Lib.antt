@@ -1,2 +1,3 @@
 pub mod TagFilters
 pub mod Shared
+pub mod Wildcards

@@ -5,23 +5,41 @@ use Rattle.tsd_base.specs.declared.kinds.Aggregator.{Aggregator}
 use Rattle.tsd_base.specs.declared.kinds.Aggregator.TheVariants.{Sum, Min, Max, Avg, Count, Zimsum, Mimmin, Mimmax, NoneOf}
 use Rattle.tsd_base.specs.TagList.{Pair, is_same}
 use Rattle.query_text.specs.declared.queries.Test.{Test}
-use Rattle.query_text.specs.declared.queries.Test.TheVariants.{Any, OneOf, NotOneOf}
+use Rattle.query_text.specs.declared.queries.Test.TheVariants.{Any, OneOf, NotOneOf, Wild, Pattern}
 use Rattle.query_text.specs.declared.queries.Filter.{Filter}
 use Rattle.query_text.specs.declared.queries.Sub.{Sub}
+use Rattle.group_by.specs.Wildcards.{fits}
+
+-- whether a pattern is found in a value
+abbrev pub Finds : Type 0
+Finds = List ℕ → List ℕ → Bool
 
 -- the value passes the test
-abbrev pub passes_test : Test → List ℕ → Bool
-passes_test Any value = true
-passes_test (OneOf names) value = list_any (is_same value) names
-passes_test (NotOneOf names) value = not (list_any (is_same value) names)
+abbrev pub passes_test : Finds → Test → List ℕ → Bool
+passes_test finds Any value = true
+passes_test finds (OneOf names) value = list_any (is_same value) names
+passes_test finds (NotOneOf names) value = not (list_any (is_same value) names)
+passes_test finds (Wild text) value = fits text value
+passes_test finds (Pattern text) value = finds text value
 
 -- a tag has the filter's key, and its value passes the test
-abbrev pub passes_filter : Filter → List Pair → Bool
-passes_filter f tags = list_any (λ pair. is_same f.key pair.0 && passes_test f.test pair.1) tags
+abbrev pub passes_filter : Finds → Filter → List Pair → Bool
+passes_filter finds f tags = list_any (λ pair. is_same f.key pair.0 && passes_test finds f.test pair.1) tags
 
 -- the tags pass each filter
-abbrev pub passes : List Filter → List Pair → Bool
-passes filters tags = list_all (λ f. passes_filter f tags) filters
+abbrev pub passes : Finds → List Filter → List Pair → Bool
+passes finds filters tags = list_all (λ f. passes_filter finds f tags) filters
+
+-- no pattern is found in any value
+abbrev pub nowhere : Finds
+nowhere text value = false
+
+abbrev pub is_pattern : Test → Bool
+is_pattern Any = false
+is_pattern (OneOf names) = false
+is_pattern (NotOneOf names) = false
+is_pattern (Wild text) = false
+is_pattern (Pattern text) = true
 
 abbrev pub is_none : Aggregator → Bool
 is_none Sum = false

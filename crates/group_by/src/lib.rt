@@ -3,5 +3,6 @@
 
 pub mod shared_tags;
 pub mod tag_filters;
+pub mod wildcards;
 
 pub use tag_filters::{group_key, passes};

@@ -1,17 +1,26 @@
 //! Filters over the tags of a series.
-ghost use Rattle.std.specs.Prelude.{◌≡◌, IfOk};
+ghost use Rattle.std.specs.Prelude.{◌≡◌, false, All, IfOk};
 ghost use Rattle.tsd_base.specs.TagList.{RiseByKey};
-ghost use Rattle.group_by.specs.TagFilters.{passes, passes_filter, passes_test, is_none, has_grouping, is_grouped, group_key};
+ghost use Rattle.group_by.specs.TagFilters.{passes, passes_filter, passes_test, nowhere, is_pattern, Finds, is_none, has_grouping, is_grouped, group_key};
 
+use crate::wildcards::fits;
 use query_text::queries::{Filter, Sub, Test};
 use std::alloc::{AllocError, Global};
 use tsd_base::kinds::Aggregator;
 use tsd_base::names::Name;
 use tsd_base::tags::Tags;
 
-/// Whether a series with these tags passes each of the filters. It passes none whose key it hasn't.
+/// Whether a series with these tags passes each of the filters, none of which is a pattern. It passes none whose key it hasn't.
 pub fn passes(filters: &[Filter], tags: &Tags) -> bool
-    ensures { result ≡ passes filters.now tags.now }
+    requires { All (λ f. is_pattern f.test ≡ false) filters.now }
+    ensures { (finds : Finds) → result ≡ passes finds filters.now tags.now }
+{
+    passes_plain(filters, tags)
+}
+
+/// The same, where no value passes a pattern.
+fn passes_plain(filters: &[Filter], tags: &Tags) -> bool
+    ensures { result ≡ passes nowhere filters.now tags.now }
 {
     filters
         .iter()
@@ -19,18 +28,28 @@ pub fn passes(filters: &[Filter], tags: &Tags) -> bool
 }
 
 fn passes_filter(filter: &Filter, pairs: &[(Name, Name)]) -> bool
-    ensures { result ≡ passes_filter filter.now pairs.now }
+    ensures { result ≡ passes_filter nowhere filter.now pairs.now }
 {
-    pairs.iter().any(|pair| filter.key == pair.0 && passes_test(&filter.test, &pair.1))
+    pairs.iter().any(|pair| filter.key == pair.0 && passes_plain_test(&filter.test, &pair.1))
 }
 
-fn passes_test(test: &Test, value: &Name) -> bool
-    ensures { result ≡ passes_test test.now value.now }
+/// Whether a value passes a test, which is no pattern.
+pub fn passes_test(test: &Test, value: &Name) -> bool
+    requires { is_pattern test.now ≡ false }
+    ensures { (finds : Finds) → result ≡ passes_test finds test.now value.now }
+{
+    passes_plain_test(test, value)
+}
+
+fn passes_plain_test(test: &Test, value: &Name) -> bool
+    ensures { result ≡ passes_test nowhere test.now value.now }
 {
     match test {
         Test::Any => true,
         Test::OneOf { names } => names.list().contains(value),
         Test::NotOneOf { names } => !names.list().contains(value),
+        Test::Wild { text } => fits(text.list(), value.bytes()),
+        Test::Pattern { .. } => false,
     }
 }
 

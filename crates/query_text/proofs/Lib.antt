@@ -1,3 +1,4 @@
 pub mod Parts
 pub mod FilterParts
 pub mod Intervals
+pub mod AsciiTexts

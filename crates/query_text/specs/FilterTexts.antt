@@ -6,8 +6,9 @@ use Rattle.std.specs.Option.{option_map}
 use Rattle.tsd_base.specs.Alphabet.{is_name}
 use Rattle.tsd_base.specs.Tags.{is_same}
 use Rattle.query_text.specs.Cuts.{place_of, before, behind, parts_by, is_byte}
+use Rattle.query_text.specs.TestTexts.{is_wild_text, is_pattern_text}
 use Rattle.query_text.specs.declared.queries.Test.{Test}
-use Rattle.query_text.specs.declared.queries.Test.TheVariants.{Any, OneOf, NotOneOf}
+use Rattle.query_text.specs.declared.queries.Test.TheVariants.{Any, OneOf, NotOneOf, Wild, Pattern}
 use Rattle.query_text.specs.declared.queries.Filter.{Filter}
 use Rattle.query_text.specs.declared.queries.QueryFault.{QueryFault}
 use Rattle.query_text.specs.declared.queries.QueryFault.TheVariants.{BadM, BadFilter, OutOfMemory}
@@ -30,14 +31,25 @@ one_of names = option_map (λ list. OneOf list) names
 abbrev pub not_one_of : Option (List (List ℕ)) → Option Test
 not_one_of names = option_map (λ list. NotOneOf list) names
 
-abbrev pub test_by : Option (List ℕ) → Option (List ℕ) → List ℕ → Option Test
-test_by (Some names) other text = one_of (names_of names)
-test_by None (Some names) text = not_one_of (names_of names)
-test_by None None text = one_of (names_of text)
+abbrev pub wild : List ℕ → Option Test
+wild text = if is_wild_text text then Some (Wild text) else None
 
--- `*`, names, `literal_or(names)` or `not_literal_or(names)`
+abbrev pub pattern : List ℕ → Option Test
+pattern text = if is_pattern_text text then Some (Pattern text) else None
+
+-- the first of these that a call has between its brackets tells the test, and else the text is names
+abbrev pub test_by : Option (List ℕ) → Option (List ℕ) → Option (List ℕ) → Option (List ℕ) → List ℕ → Option Test
+test_by (Some names) nots w p text = one_of (names_of names)
+test_by None (Some names) w p text = not_one_of (names_of names)
+test_by None None (Some w) p text = wild w
+test_by None None None (Some p) text = pattern p
+test_by None None None None text = one_of (names_of text)
+
+-- `*`, names, `literal_or(names)`, `not_literal_or(names)`, `wildcard(text)` or `regexp(text)`
 abbrev pub test_of : List ℕ → Option Test
-test_of text = if is_same text (codes "*") then Some Any else test_by (called (codes "literal_or(") text) (called (codes "not_literal_or(") text) text
+test_of text =
+    if is_same text (codes "*") then Some Any
+    else test_by (called (codes "literal_or(") text) (called (codes "not_literal_or(") text) (called (codes "wildcard(") text) (called (codes "regexp(") text) text
 
 abbrev pub filter_with : Bool → List ℕ → Option Test → Option Filter
 filter_with group key None = None
@@ -46,6 +58,14 @@ filter_with group key (Some test) = if is_name key then Some (record { key = key
 abbrev pub filter_by : Bool → List ℕ → Option (List ℕ) → Option Filter
 filter_by group key None = None
 filter_by group key (Some test) = filter_with group key (test_of test)
+
+-- the value is tested by its text, and not against names
+abbrev pub is_of_text : Test → Bool
+is_of_text Any = false
+is_of_text (OneOf names) = false
+is_of_text (NotOneOf names) = false
+is_of_text (Wild text) = true
+is_of_text (Pattern text) = true
 
 -- a name, `=` and a test
 abbrev pub filter_of : Bool → List ℕ → Option Filter

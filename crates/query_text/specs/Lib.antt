@@ -4,3 +4,4 @@ pub mod Downs
 pub mod FilterTexts
 pub mod QueryFaultTexts
 pub mod Subs
+pub mod TestTexts

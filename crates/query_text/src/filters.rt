@@ -1,11 +1,13 @@
 //! Filters in text.
-ghost use Rattle.std.specs.Prelude.{◌≡◌, ◌≤◌, ◌<◌, [], ◌∷◌, ◌++◌, length, IfOk, OnOk, IsTrue};
+ghost use Rattle.std.specs.Prelude.{◌≡◌, ◌≤◌, ◌<◌, [], ◌∷◌, ◌++◌, codes, length, None, IfOk, OnOk, IsTrue};
 ghost use Rattle.std.specs.Option.{option_map};
 ghost use Rattle.query_text.specs.Cuts.{parts_by};
-ghost use Rattle.query_text.specs.FilterTexts.{called, each_filter, filter_of, filters_in, filters_of, is_call, names_of, not_one_of, one_of, part_at, test_of, GivesFilters, GivesMore, GivesOne, GivesPart};
+ghost use Rattle.query_text.specs.FilterTexts.{called, each_filter, filter_of, filters_in, filters_of, is_call, names_of, not_one_of, one_of, part_at, pattern, test_by, test_of, wild, GivesFilters, GivesMore, GivesOne, GivesPart};
 
 use crate::cuts::{cut, name_of, place_of};
-use crate::queries::{Filter, NameList, QueryFault, Test};
+use crate::queries::{Filter, NameList, PatternText, QueryFault, Test};
+use crate::test_texts::is_wild_text;
+use short_bytes::short::Bytes;
 use std::alloc::{AllocError, Global};
 
 /// The filters of a sub query's text, from its first `{` on.
@@ -141,7 +143,39 @@ pub fn read_test(alloc: Global, text: &[u8]) -> Result<Option<Test>, AllocError>
     if let Some(names) = called(text, b"not_literal_or(") {
         return not_one_of(alloc, names);
     }
+    read_text_test(alloc, text)
+}
+
+/// The test by the text of a value, or of names alone, that a text is, if it is one. It fails only for want of memory.
+fn read_text_test(alloc: Global, text: &[u8]) -> Result<Option<Test>, AllocError>
+    ensures { IfOk result (λ test. test ≡ test_by None None (called (codes "wildcard(") text.now) (called (codes "regexp(") text.now) text.now) }
+{
+    if let Some(wild) = called(text, b"wildcard(") {
+        return read_wild(alloc, wild);
+    }
+    if let Some(pattern) = called(text, b"regexp(") {
+        return read_pattern(alloc, pattern);
+    }
     one_of(alloc, text)
+}
+
+fn read_wild(alloc: Global, text: &[u8]) -> Result<Option<Test>, AllocError>
+    ensures { IfOk result (λ test. test ≡ wild text.now) }
+{
+    if !is_wild_text(text) {
+        return Ok(None);
+    }
+    let text = Bytes::of(alloc, text)?;
+    Ok(Some(Test::Wild { text }))
+}
+
+fn read_pattern(alloc: Global, text: &[u8]) -> Result<Option<Test>, AllocError>
+    ensures { IfOk result (λ test. test ≡ pattern text.now) }
+{
+    match PatternText::read(alloc, text)? {
+        Some(text) => Ok(Some(Test::Pattern { text })),
+        None => Ok(None),
+    }
 }
 
 /// What stands between this beginning and a `)` at the end.

@@ -8,3 +8,4 @@ pub mod filters;
 pub mod queries;
 mod query_faults;
 pub mod subs;
+mod test_texts;

@@ -1,7 +1,10 @@
 //! What queries ask.
-ghost use Rattle.std.specs.Prelude.{◌≡◌};
+ghost use Rattle.std.specs.Prelude.{◌≡◌, Some, None, IfOk, if◌then◌else◌};
+ghost use Rattle.query_text.specs.TestTexts.{is_pattern_text};
 
-use std::alloc::{AllocError, AllocFailed};
+use crate::test_texts::{ascii_text, is_pattern_text};
+use short_bytes::short::Bytes;
+use std::alloc::{AllocError, AllocFailed, Global};
 use std::marker::Model;
 use tsd_base::kinds::{Aggregator, Down};
 use tsd_base::names::Name;
@@ -48,6 +51,58 @@ pub enum Test {
     OneOf { names: NameList },
     /// A value, and none of these.
     NotOneOf { names: NameList },
+    /// A value that is this text with each `*` in it replaced by some text, perhaps an empty one.
+    Wild { text: Bytes },
+    /// A value in which this regular expression has a match.
+    Pattern { text: PatternText },
+}
+
+/// The text of a regular expression: 1 to 255 bytes from a space to `~`, without `,`, `{` and `}`. It may be none that reads.
+#[derive(Debug, Drop)]
+pub struct PatternText {
+    text: String,
+}
+
+impl Model for PatternText {
+    ghost use Rattle.std.specs.Prelude.{List, ℕ, string_bytes};
+    ghost use Rattle.query_text.specs.TestTexts.{IsPatternText};
+
+    ghost Value = { List ℕ };
+
+    ghost view = { λ pattern. string_bytes pattern.text };
+
+    ghost invariant = { λ pattern. IsPatternText (string_bytes pattern.text) };
+}
+
+impl PatternText {
+    /// The text that these bytes are, if they are one. It fails only for want of memory.
+    pub fn read(alloc: Global, bytes: &[u8]) -> Result<Option<PatternText>, AllocError>
+        ensures { IfOk result (λ text. text ≡ (if is_pattern_text bytes.now then Some bytes.now else None)) }
+    {
+        if !is_pattern_text(bytes) {
+            return Ok(None);
+        }
+        let text = String::from_str(alloc, ascii_text(bytes))?;
+        Ok(Some(PatternText { text }))
+    }
+
+    /// The text.
+    pub fn text(&self) -> &str
+        ensures { result.now ≡ self.now }
+    {
+        self.text.as_str()
+    }
+}
+
+impl Test {
+    ghost use Rattle.query_text.specs.FilterTexts.{is_of_text};
+
+    /// Whether the value is tested by its text, as `wildcard(..)` and `regexp(..)` do it, and not against names.
+    pub fn is_of_text(&self) -> bool
+        ensures { result ≡ is_of_text self.now }
+    {
+        matches!(self, Test::Wild { .. } | Test::Pattern { .. })
+    }
 }
 
 /// A filter: the series that have this key with a value that passes the test.
