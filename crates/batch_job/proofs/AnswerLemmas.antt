@@ -17,14 +17,15 @@ use Rattle.cell_model.specs.Machine.{kind_qual}
 use Rattle.cell_model.specs.Readings.{Meets, Reading}
 use Rattle.cell_model.specs.Seen.{Seen, Fits}
 use Rattle.cell_model.specs.Store.{value_at}
-use Rattle.group_by.specs.TagFilters.{passes}
+use Rattle.tag_match.specs.Patterns.{passes}
 use Rattle.json_reply.specs.Replies.{Group, plain}
 use Rattle.json_reply.specs.declared.reply.Reply.{Reply}
 use Rattle.query_text.specs.declared.queries.Query.{Query}
 use Rattle.query_text.specs.declared.queries.Sub.{Sub}
 use Rattle.query_run.specs.declared.fault.AskFault.{AskFault}
-use Rattle.query_run.specs.declared.fault.AskFault.TheVariants.{TooManyBuckets, Unknown, Duplicate, Overflow, OutOfMemory, Stopped}
-use Rattle.query_run.specs.QueryAnswers.{answer, as_point}
+use Rattle.query_run.specs.declared.fault.AskFault.TheVariants.{TooManyBuckets, BadFilter, Unknown, Duplicate, Overflow, OutOfMemory, Stopped}
+use Rattle.series_groups.specs.QueryAnswers.{answer}
+use Rattle.query_run.specs.AskedQueries.{as_point}
 use Rattle.query_run.specs.Asked.{Answers, Cause}
 use Rattle.query_run.specs.Asked.Answers.{none, more}
 use Rattle.query_run.specs.Laws.{AnswerIsUnordered}
@@ -238,6 +239,7 @@ module _ (q : Query) (s : Sub) (points : List DataPoint) (old new : Seen) (store
   pub gives_answer : AnswerIsUnordered → q.subs ≡ s ∷ [] → (r : Result Reply AskFault) → QuerySays q old r new → GivesAnswer r (answered q s points)
   gives_answer unordered one (Ok reply) says = told_answer unordered one reply says
   gives_answer unordered one (Err (TooManyBuckets count)) says = let c = one_cause one (TooManyBuckets count) says in is_barred q s points (TooManyBuckets count) c.cause.1
+  gives_answer unordered one (Err (BadFilter index)) says = let c = one_cause one (BadFilter index) says in is_barred q s points (BadFilter index) c.cause.1
   gives_answer unordered one (Err (Unknown kind name)) says = told_unknown kind name (one_cause one (Unknown kind name) says)
   gives_answer unordered one (Err (Duplicate time a b)) says = told_conflict time a b (one_cause one (Duplicate time a b) says)
   gives_answer unordered one (Err (Overflow time)) says =

@@ -19,7 +19,8 @@ use Rattle.cell_model.specs.Machine.{after, kind_qual}
 use Rattle.cell_model.specs.Readings.{Reading, Accepted, HasReading, IsPut, Meets, OneValued, reading_of}
 use Rattle.cell_model.specs.Seen.{Seen, Fits}
 use Rattle.cell_model.specs.Store.{Store, no_cells, value_at}
-use Rattle.query_run.specs.QueryAnswers.{answer, as_point}
+use Rattle.series_groups.specs.QueryAnswers.{answer}
+use Rattle.query_run.specs.AskedQueries.{as_point}
 use Rattle.query_run.specs.Laws.{AnswerIsUnordered}
 use Rattle.query_run.specs.Parts.{AreQuerySteps, IsQueryStep, Part}
 use Rattle.query_text.specs.declared.queries.Query.{Query}

@@ -1,30 +1,16 @@
 -- What one more entry makes of a store, and of the points that were put.
-use Rattle.std.proofs.Common.{◌≡◌, ◌≢◌, ◌⊎◌, inl, inr, ℕ, ◌+◌, ◌%◌, ◌^◌, Bool, true, false, List, [], ◌∷◌, refl, sym, ap, subst, ◌∙◌}
-use Rattle.std.specs.Prelude.{Option, None, Some, option_map, nat_lt, nat_eq, if◌then◌else◌, Contains}
-use Rattle.std.specs.Int.{w64, to_be_bytes}
-use Rattle.qual_codec.specs.declared.cells.Cell.{Cell}
-use Rattle.row_key.specs.declared.tables.Table.TheVariants.{Ids, Points}
-use Rattle.tsd_base.specs.Alphabet.{IsName}
+use Rattle.std.proofs.Common.{◌≡◌, ◌⊎◌, inl, inr, ◌+◌, Bool, true, false, List, [], ◌∷◌, sym, subst}
+use Rattle.std.specs.Prelude.{Some, nat_eq, if◌then◌else◌, Contains}
 use Rattle.tsd_base.specs.Points.{DataPoint}
-use Rattle.tsd_base.specs.declared.kinds.Kind.{Kind}
-use Rattle.cell_model.specs.declared.row.Row.{Row}
-use Rattle.cell_model.specs.declared.events.Content.{Content}
 use Rattle.cell_model.specs.declared.events.Entry.{Entry}
-use Rattle.cell_model.specs.declared.events.Place.{Place}
 use Rattle.cell_model.specs.declared.events.Placed.{Placed}
-use Rattle.cell_model.specs.declared.events.Reply.TheVariants.{Shown}
 use Rattle.cell_model.specs.declared.events.Step.{Step}
 use Rattle.cell_model.specs.declared.events.Step.TheVariants.{Open, Read, NextRow, Bump, Claim, PutPoint, AppendPoint, PutMerged, DropCells}
-use Rattle.cell_model.specs.History.{History, Had, len, entry_at, store_after}
+use Rattle.cell_model.specs.History.{History, Had, len, entry_at}
 use Rattle.cell_model.specs.History.History.{Then}
-use Rattle.cell_model.specs.IdRows.{name_row}
-use Rattle.cell_model.specs.Machine.{after, counter_of, counter_row, kind_qual, or_written, reply_of}
-use Rattle.cell_model.specs.KindWidths.{greatest}
-use Rattle.cell_model.specs.Store.{Store, get, cells_of, place_of, value_at, value_among, written}
-use Rattle.uid_table.specs.IdSteps.{DidLook}
 use Rattle.batch_job.specs.Storing.{HasOnlyPuts, IsOtherWrite, Puts, WasPut}
 use Rattle.point_lines.proofs.CallerLemmas.{follow}
-use Rattle.batch_job.proofs.Lower.{cells_have, content-written_other, entry_at-last, entry_at-more, here, there, not_in, not_zero, split}
+use Rattle.batch_job.proofs.Lower.{entry_at-last, entry_at-more, here, there, not_in, split}
 
 -- ---- points that were put
 pub put_stays : (h : History) (e : Entry) (r : DataPoint) → WasPut h r → WasPut (Then h e) r

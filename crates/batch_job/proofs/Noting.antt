@@ -1,53 +1,47 @@
 -- Names that are assigned ids get the next places among the names of their kinds.
-use Rattle.std.proofs.Common.{◌≡◌, ◌≢◌, ◌⊎◌, inl, inr, ℕ, ◌+◌, ◌<◌, ◌≤◌, Bool, true, false, cond, List, [], ◌∷◌, ◌++◌, length, drop, zero, suc, get_or, refl, sym, ap, subst, ◌∙◌, arith, lt-ltb, add-one, length-append}
+use Rattle.std.proofs.Common.{◌≡◌, ◌≢◌, inl, inr, ℕ, ◌+◌, ◌<◌, ◌≤◌, Bool, true, false, cond, List, [], ◌∷◌, ◌++◌, length, drop, zero, suc, get_or, refl, sym, ap, subst, ◌∙◌, arith, lt-ltb, add-one}
 use Rattle.std.proofs.Math.Seq.{drop-cons}
 use Rattle.std.specs.Prelude.{Option, None, Some, Ok, Err, option_and_then, is_some, nat_lt, if◌then◌else◌}
-use Rattle.std.specs.Option.{option_or, option_map_or}
-use Rattle.std.specs.Int.{w64, from_be_bytes}
-use Rattle.std.specs.Cmp.Lexicographic.{nat_list_eq_equiv}
 use Rattle.std.proofs.lemmas.Bool.{true≢false}
 use Rattle.row_key.specs.Made.{three}
 use Rattle.tsd_base.specs.Alphabet.{IsName}
-use Rattle.tsd_base.specs.TagList.{Pair, is_same}
+use Rattle.tsd_base.specs.TagList.{Pair}
 use Rattle.tsd_base.specs.declared.kinds.Kind.{Kind}
-use Rattle.tsd_base.specs.declared.kinds.Kind.TheVariants.{Metric, TagKey, TagValue}
+use Rattle.tsd_base.specs.declared.kinds.Kind.TheVariants.{TagKey, TagValue}
 use Rattle.tsd_hooks.specs.declared.name_patterns.Patterns.{Patterns}
 use Rattle.cell_model.specs.declared.answers.Bumped.TheVariants.{Given, Full}
 use Rattle.cell_model.specs.declared.answers.Claimed.{Claimed}
 use Rattle.cell_model.specs.declared.answers.Claimed.TheVariants.{Done, Held}
-use Rattle.cell_model.specs.declared.row.Row.{Row}
 use Rattle.cell_model.specs.declared.events.Placed.{Placed}
-use Rattle.cell_model.specs.declared.events.Reply.TheVariants.{BumpReply, ClaimReply}
+use Rattle.cell_model.specs.declared.events.Reply.TheVariants.{BumpReply}
 use Rattle.cell_model.specs.declared.events.Step.TheVariants.{Read, Bump, Claim}
 use Rattle.cell_model.specs.Deeds.{Extends, Made}
 use Rattle.cell_model.specs.History.{History, base_of, first, len, store_after}
 use Rattle.cell_model.specs.History.History.{Then}
 use Rattle.cell_model.specs.IdRows as model
-use Rattle.cell_model.specs.IdRows.{id_number, id_of, id_row, name_row}
+use Rattle.cell_model.specs.IdRows.{id_number, id_row, name_row}
 use Rattle.cell_model.specs.KindWidths.{Widths, IsKindId, greatest, kind_bytes}
-use Rattle.cell_model.specs.Lawful.{IsLawful, given, claimed}
-use Rattle.cell_model.specs.Machine.{counter_of, counter_row, kind_qual, claim_reply, reply_of}
+use Rattle.cell_model.specs.Lawful.{IsLawful}
+use Rattle.cell_model.specs.Machine.{counter_of, kind_qual, reply_of}
 use Rattle.cell_model.specs.Seen.{Seen}
-use Rattle.cell_model.specs.Store.{Store, no_cells, place_of, value_at}
+use Rattle.cell_model.specs.Store.{Store, no_cells}
 use Rattle.uid_table.specs.declared.id_answers.Assigned.{Assigned}
 use Rattle.uid_table.specs.declared.id_answers.Assigned.TheVariants.{Fresh, Existing, Lost}
 use Rattle.uid_table.specs.declared.id_answers.AssignFault.TheVariants.{Exhausted, Filtered}
 use Rattle.uid_table.specs.IdAnswers.{answered_id}
 use Rattle.uid_table.specs.Shown.{HasShown}
 use Rattle.uid_table.specs.IdSteps.{MadeSo, AssignMade, LookedOrKept, DidLook, DidBump, DidReverse, DidForward}
-use Rattle.batch_job.specs.NotedIds.{Names, id_in, list_of, with_list, with_listed, noted_all, and_then_noted}
+use Rattle.batch_job.specs.NotedIds.{Names, id_in, list_of, with_listed, noted_all, and_then_noted}
 use Rattle.cell_model.specs.Layout.{tag_names}
 use Rattle.point_lines.specs.OpenRules.{AllowsAll}
-use Rattle.batch_job.specs.Storing.{HasIds, IsNaming, IsNumbered, HasOnlyPuts, Notes, WasPut}
+use Rattle.batch_job.specs.Storing.{IsNaming, IsNumbered, HasOnlyPuts, Notes, WasPut}
 use Rattle.batch_job.proofs.Asking.{base_of_first}
-use Rattle.batch_job.proofs.LastPoints.{same_bytes}
 use Rattle.batch_job.proofs.Entering.{PutNothing, nothing_by, nothing_more, nothing_nil, put_nothing, only_puts_follow}
-use Rattle.point_lines.proofs.CallerLemmas.{bump_keeps, claim_keeps, looked, no_counter_row, quals_differ, read_keeps, rows_differ, tables_differ}
+use Rattle.point_lines.proofs.CallerLemmas.{looked, read_keeps}
 use Rattle.point_lines.proofs.CallerLemmas.{follow, went, alone_still}
 use Rattle.point_lines.proofs.CallerLemmas.{noted_all-known}
-use Rattle.point_lines.proofs.CallerLemmas.{fresh, grown, id_is, kinds, list_here, list_other, not_held, numbered_grown, numbered_same}
-use Rattle.batch_job.proofs.Lower.{Names_Ids, base_widths, claim_wrote, first_fits, first_lawful, given_counts, held_there, id_read_back, same_kind}
-use Rattle.point_lines.proofs.CallerLemmas.{id_in-append}
+use Rattle.point_lines.proofs.CallerLemmas.{fresh, grown, id_is, kinds, not_held, numbered_grown, numbered_same}
+use Rattle.batch_job.proofs.Lower.{base_widths, first_fits, first_lawful}
 use Rattle.point_lines.proofs.CallerLemmas.{noted_all-append}
 
 module _ (names : Names) (kind : Kind) (name : List ℕ) where

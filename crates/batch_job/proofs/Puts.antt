@@ -1,7 +1,7 @@
 -- Putting points whose names have ids.
 use Rattle.row_key.specs.Made.{three}
 use Rattle.std.proofs.Common.{◌≡◌, ◌⊎◌, inl, inr, ⊎_elim, ℕ, ℤ, Bool, true, false, List, [], ◌∷◌, ◌++◌, refl, sym, ap, subst, ◌∙◌}
-use Rattle.std.specs.Prelude.{◌↔◌, None, Some, Ok, Err, Contains, option_and_then}
+use Rattle.std.specs.Prelude.{◌↔◌, None, Ok, Err, Contains, option_and_then}
 use Rattle.std.proofs.lemmas.Bool.{true≢false}
 use Rattle.std.proofs.lemmas.List.Elements.{Contains-append_cases, Contains-append_left, Contains-append_right}
 use Rattle.tsd_base.specs.declared.kinds.Kind.{Kind}
@@ -12,7 +12,7 @@ use Rattle.cell_model.specs.declared.row.Row.{Row}
 use Rattle.cell_model.specs.declared.events.Placed.{Placed}
 use Rattle.cell_model.specs.declared.events.Step.TheVariants.{Read, Bump}
 use Rattle.cell_model.specs.Deeds.{Made}
-use Rattle.cell_model.specs.History.{History, first, store_after}
+use Rattle.cell_model.specs.History.{History, first}
 use Rattle.cell_model.specs.History.History.{Then}
 use Rattle.cell_model.specs.IdRows.{id_number, id_of, name_row, AllResolved}
 use Rattle.cell_model.specs.Layout.{names_of}
@@ -20,27 +20,25 @@ use Rattle.cell_model.specs.Lawful.{IsLawful}
 use Rattle.cell_model.specs.KindWidths.{Widths}
 use Rattle.cell_model.specs.Machine.{kind_qual}
 use Rattle.cell_model.specs.Seen.{Seen, Fits}
-use Rattle.cell_model.specs.Store.{Store, value_at}
+use Rattle.cell_model.specs.Store.{value_at}
 use Rattle.point_put.specs.Admissions.{Admission}
 use Rattle.point_put.specs.declared.fault.PutFault.{PutFault}
 use Rattle.point_put.specs.declared.fault.PutFault.TheVariants.{Exhausted, Filtered, Unknown}
 use Rattle.point_put.specs.Configs.{makes}
 use Rattle.tsd_hooks.specs.AllowedNames.{allowed}
 use Rattle.tsd_base.specs.declared.kinds.Kind.TheVariants.{Metric, TagKey, TagValue}
-use Rattle.point_put.specs.Entries.{ForName, ForNames}
-use Rattle.point_put.specs.Entries.ForName.{none, look, full, bump, reverse, forward}
-use Rattle.point_put.specs.Entries.ForNames.{nil, more}
+use Rattle.point_put.specs.Entries.{ForNames}
+use Rattle.point_put.specs.Entries.ForName.{none}
 use Rattle.point_put.specs.PutPoint.{DidStore, PutSays, WasStored as PutSo}
 use Rattle.point_put.proofs.CallerLemmas.{names_in_turn, names_to_end}
-use Rattle.uid_table.specs.IdSteps.{DidLook}
 use Rattle.point_lines.specs.OpenRules.{AllowsAll}
 use Rattle.batch_job.specs.PendingPuts.{Adds, AddsSome, AreResolved, points_in}
 use Rattle.batch_job.specs.Storing.{HasOnlyPuts, IsAlone, IsOtherWrite, Puts, WasPut}
 use Rattle.batch_job.proofs.Entering.{PutNothing, nothing_by, put_before, put_last, put_nothing, puts_stay, only_puts_follow, only_puts_then}
-use Rattle.point_lines.proofs.CallerLemmas.{Ids_Points, looked, put_keeps, read_keeps, rows_differ, tables_differ}
-use Rattle.point_lines.proofs.CallerLemmas.{AreReads, lawful_front, names_read, reads_keep}
+use Rattle.point_lines.proofs.CallerLemmas.{Ids_Points, put_keeps, rows_differ, tables_differ}
+use Rattle.point_lines.proofs.CallerLemmas.{AreReads, names_read, reads_keep}
 use Rattle.point_lines.proofs.CallerLemmas.{Went, follow, follow-append, went, alone_still}
-use Rattle.batch_job.proofs.Lower.{here, not_in, not_Some, split}
+use Rattle.batch_job.proofs.Lower.{here, not_in, split}
 
 -- ---- entries that are reads
 reads_put_nothing : (list : List Placed) → AreReads list → PutNothing list

@@ -1,5 +1,5 @@
 -- The series that were read.
-use Rattle.std.proofs.Common.{◌≡◌, ℕ, ℤ, Bool, true, false, cond, ◌||◌, List, [], ◌∷◌, Option, Some, None, map, refl, sym, ap, subst, inl, inr, ⊎_elim, arith}
+use Rattle.std.proofs.Common.{◌≡◌, ℕ, ℤ, Bool, true, false, cond, ◌||◌, List, [], ◌∷◌, Option, Some, None, map, refl, sym, ap, subst, inl, inr, arith}
 use Rattle.std.specs.Prelude.{filter, Contains}
 use Rattle.std.specs.List.{AllByRecursion, list_any}
 use Rattle.std.specs.Map.{lookup}
@@ -11,12 +11,11 @@ use Rattle.tsd_base.specs.Alphabet.{IsName}
 use Rattle.tsd_base.specs.TagList.{IsPair, Pair, is_same}
 use Rattle.tsd_base.specs.declared.kinds.Kind.{Kind}
 use Rattle.tsd_base.specs.declared.kinds.Kind.TheVariants.{Metric, TagKey, TagValue}
-use Rattle.cell_model.specs.Layout.{IsPoint, names_of, tag_names}
+use Rattle.cell_model.specs.Layout.{IsPoint}
 pub use Rattle.point_lines.proofs.CallerLemmas.{point_names}
 use Rattle.batch_job.specs.NotedIds.{names_in}
 use Rattle.batch_job.specs.JobAnswers.{has_name}
 use Rattle.batch_job.proofs.LastPoints.{same_bytes}
-use Rattle.batch_job.proofs.Lower.{not_in, split}
 use Rattle.batch_job.specs.Pending.{values_of, unless_empty}
 use Rattle.batch_job.specs.PendingPuts.{AreTimes}
 use Rattle.batch_job.specs.SeriesValues.{Series, is_same_series, series_of_point}

@@ -14,7 +14,7 @@ use Rattle.query_text.specs.declared.queries.Query.{Query}
 use Rattle.query_text.specs.declared.queries.Sub.{Sub}
 use Rattle.json_reply.specs.Replies.{Group, plain}
 use Rattle.json_reply.specs.declared.reply.Reply.{Reply}
-use Rattle.query_run.specs.QueryAnswers.{answer}
+use Rattle.series_groups.specs.QueryAnswers.{answer}
 use Rattle.query_run.specs.Parts.{NameOf}
 use Rattle.query_run.specs.AskedQueries.{barred, names_in, wanted}
 use Rattle.query_run.specs.declared.fault.AskFault.{AskFault}
@@ -61,7 +61,7 @@ abbrev pub unless_overflow : Result (List Group) ℕ → Result (List Group) Ask
 unless_overflow (Ok groups) = Ok groups
 unless_overflow (Err time) = Err (Overflow time)
 
--- The groups of a query over points, or the first of these: too many buckets, a name that is unknown, a conflict, an overflow.
+-- The groups of a query over points, or the first of these: too many buckets, a filter with a pattern that isn't read, a name that is unknown, a conflict, an overflow.
 abbrev pub answered : Query → Sub → List DataPoint → Result (List Group) AskFault
 answered q s points =
     unless (barred q s)

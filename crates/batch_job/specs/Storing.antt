@@ -1,22 +1,19 @@
 -- What one caller that steps alone did in a store that began empty.
-use Rattle.std.specs.Prelude.{◌≡◌, ◌↔◌, ℕ, List, length, Contains, Option, None, Some, Ok, Err}
+use Rattle.std.specs.Prelude.{◌≡◌, ◌↔◌, ℕ, List, Contains, Option, None, Some, Ok, Err}
 use Rattle.std.specs.List.{AllByRecursion, flat_map}
 use Rattle.row_key.specs.Made.{three}
-use Rattle.tsd_base.specs.Alphabet.{IsName}
 use Rattle.tsd_base.specs.declared.kinds.Kind.{Kind}
 use Rattle.tsd_base.specs.Points.{DataPoint}
 use Rattle.tsd_base.specs.LastPoints.{last_points}
 use Rattle.cell_model.specs.declared.events.Entry.{Entry}
-use Rattle.cell_model.specs.History.{History, Had, store_after}
-use Rattle.cell_model.specs.IdRows.{id_of}
+use Rattle.cell_model.specs.History.{History, Had}
 use Rattle.cell_model.specs.Layout.{IsPoint, names_of}
-use Rattle.cell_model.specs.Machine.{counter_of}
 use Rattle.cell_model.specs.declared.events.Step.{Step}
 use Rattle.cell_model.specs.declared.events.Step.TheVariants.{PutPoint, AppendPoint, PutMerged, DropCells}
 use Rattle.cell_model.specs.Seen.{Seen}
 use Rattle.point_lines.specs.LoneHistories.{IsLone}
 pub use Rattle.point_lines.specs.LoneHistories.{HasIds, Holds, IsNumbered}
-use Rattle.batch_job.specs.NotedIds.{Names, id_in, list_of, no_names, noted_all}
+use Rattle.batch_job.specs.NotedIds.{Names, no_names, noted_all}
 
 -- the store began empty, with ids of three bytes, and nobody else steps
 abbrev pub IsAlone : Seen → Type 0

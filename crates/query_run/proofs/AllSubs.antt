@@ -20,7 +20,7 @@ use Rattle.query_run.specs.AskedQueries.{wanted, names_in, barred, answer_over, 
 use Rattle.query_run.specs.SubQuery.{Later, SubAnswered, SubRefused}
 use Rattle.query_run.proofs.Lower as lower
 use Rattle.query_run.proofs.NameReads.{about, taken}
-use Rattle.query_run.proofs.ScanLoop.{steps_joined}
+use Rattle.query_run.proofs.WalkSteps.{steps_joined}
 
 abbrev pub AnswersOf : Query → ℕ → History → List Sub → List Part → List Group → Type 0
 AnswersOf q = Answers (wanted q) names_in (barred q) (answer_over q) (IsFew q)

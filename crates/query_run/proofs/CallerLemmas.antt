@@ -10,6 +10,19 @@ use Rattle.query_run.specs.Parts.{AreQuerySteps}
 use Rattle.query_run.specs.AskedQueries.{QuerySays, QueryAsked, plain_result}
 -- a conflict is of two readings that were accepted, and so of a series with two values at one time
 pub use Rattle.query_run.proofs.Outcomes.{StandIn, no_conflict_of}
+-- an id that was seen is seen later
+pub use Rattle.query_run.proofs.NameIds.{id_later}
+-- names that were resolved behind others, or weren't
+pub use Rattle.query_run.proofs.NameIds.{resolved_none, resolved_joined, unresolved_wider, unresolved_behind}
+-- those before the first unknown one are resolved in each history
+pub use Rattle.query_run.proofs.OneSub.{first_unknown}
+-- reads are steps of a query, and two lists of them are one
+pub use Rattle.query_run.proofs.WalkSteps.{steps_joined, reads_steps}
+pub use Rattle.query_run.proofs.NameReads.{no_reads, one_read, reads_joined}
+-- a fault is handed on
+pub use Rattle.query_run.proofs.NameReads.{passed_on}
+-- offsets are within the hour; values without a conflict are one
+pub use Rattle.query_run.proofs.RowPoints.{are_offsets, one_value}
 
 -- what is said of a query by what its caller saw before and after it holds of each history that is possible then
 pub query_asked : (q : Query) (old new : Seen) (result : Result Reply AskFault) → QuerySays q old result new → Since old new × InEach new (λ h. QueryAsked h old.caller old.length q (plain_result result) new.length)

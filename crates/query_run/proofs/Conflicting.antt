@@ -28,7 +28,8 @@ use Rattle.query_run.specs.RowNames.{IdOf, AreReads}
 use Rattle.query_run.specs.RowDots.{IsIn}
 use Rattle.query_text.specs.declared.queries.Filter.{Filter}
 use Rattle.row_scan.specs.RowReadings.{ShowsRow}
-use Rattle.query_run.specs.Collection.{Picks, KeyOf, Counted, RowConflicts, FoundConflict, picked_by}
+use Rattle.query_run.specs.Walks.{Picks, KeyOf, Counted, picked_by}
+use Rattle.query_run.specs.Collection.{RowConflicts, FoundConflict}
 use Rattle.query_run.proofs.Lower as lower
 use Rattle.query_run.proofs.Titles.{tags_exist}
 use Rattle.query_run.proofs.RowReadings.{PicksBy, asks, is_asked, hours_within, ReadsDot, dot_reads, conflict_free_row, same_dots}
@@ -172,17 +173,17 @@ module _ (picks : Picks) (h : History) (now start end : ℕ) (metric : List ℕ)
   abbrev from : ℕ
   from = before_first (looks ++ own) now
 
-  last_in : Contains own f.last
-  last_in = subst (λ (l : List Placed). Contains l f.last) (sym f.cut) (Contains-append_right f.earlier (f.last ∷ []) f.last (lower.here f.last []))
+  last_in : Contains own f.at
+  last_in = subst (λ (l : List Placed). Contains l f.at) (sym f.cut) (Contains-append_right f.earlier (f.at ∷ f.later) f.at (lower.here f.at f.later))
 
   earlier_in : (p : Placed) → Contains f.earlier p → Contains own p
-  earlier_in p c = subst (λ (l : List Placed). Contains l p) (sym f.cut) (Contains-append_left f.earlier (f.last ∷ []) p c)
+  earlier_in p c = subst (λ (l : List Placed). Contains l p) (sym f.cut) (Contains-append_left f.earlier (f.at ∷ f.later) p c)
 
   stand : lower.StandAbove h from now (looks ++ own)
-  stand = lower.own_stands h now (looks ++ own) lawful order (let w = Contains-append_right looks own f.last last_in in let lt = w.1 in omega (arith, lt))
+  stand = lower.own_stands h now (looks ++ own) lawful order (let w = Contains-append_right looks own f.at last_in in let lt = w.1 in omega (arith, lt))
 
   early : from ≤ now
-  early = let s = stand.each f.last (Contains-append_right looks own f.last last_in) in let low = s.1 in let high = s.2 in omega (arith, low, high)
+  early = let s = stand.each f.at (Contains-append_right looks own f.at last_in) in let low = s.1 in let high = s.2 in omega (arith, low, high)
 
   all_below : id_of (first now h) Metric metric ≡ Some id → ShowsRowsBelow (store_after (first from h)) (store_after (first now h)).widths (name_of (first now h)) (is_wanted start end metric filters) (looks ++ f.earlier) f.found.row
   all_below known row qual value r is c wants less =
@@ -195,9 +196,9 @@ module _ (picks : Picks) (h : History) (now start end : ℕ) (metric : List ℕ)
       → FirstConflict (store_after (first from h)) (store_after (first now h)).widths (name_of (first now h)) (is_wanted start end metric filters) (looks ++ own) time a b
   first_conflict_of named known s by = record {
     earlier = looks ++ f.earlier;
-    at = f.last;
-    later = [];
-    cut = ap (λ (l : List Placed). looks ++ l) f.cut ∙ sym (append_assoc looks f.earlier (f.last ∷ []));
+    at = f.at;
+    later = f.later;
+    cut = ap (λ (l : List Placed). looks ++ l) f.cut ∙ sym (append_assoc looks f.earlier (f.at ∷ f.later));
     conflict_free = λ found shows.
         let w = shown_behind looks f.earlier found reads shows in
         let c = f.conflict_free w.placed found w.among w.reply in
@@ -205,6 +206,6 @@ module _ (picks : Picks) (h : History) (now start end : ℕ) (metric : List ℕ)
     found = f.found;
     reply = f.reply;
     passed = all_below known;
-    conflict = has_conflict picks (first now h) start end metric filters id f.found time a b named f.conflict s (by f.found f.conflict.key (record { placed = f.last; among = last_in; reply = f.reply }) f.conflict.of);
+    conflict = has_conflict picks (first now h) start end metric filters id f.found time a b named f.conflict s (by f.found f.conflict.key (record { placed = f.at; among = last_in; reply = f.reply }) f.conflict.of);
     least = least_conflict picks (store_after (first now h)).widths (name_of (first now h)) start end metric filters id f.found time a b f.conflict;
   }

@@ -18,11 +18,11 @@ use Rattle.row_key.specs.Key.{key_bytes}
 use Rattle.cell_model.specs.declared.row.Row.{Row}
 use Rattle.cell_model.specs.declared.row.Found.{Found}
 use Rattle.list_lemmas.specs.BytesOrder.{bytes_cmp}
-use Rattle.cell_model.specs.Seen.{Seen}
-use Rattle.span_merge.specs.Spans.{Span, pairs_cmp, dots_of, added}
-use Rattle.query_run.specs.RowNames.{IdOf, Names, HasName}
+use Rattle.tsd_base.specs.declared.kinds.Down.{Down}
+use Rattle.span_merge.specs.Spans.{Span, KeptSpan, pairs_cmp, dots_of, added}
 use Rattle.query_run.specs.RowDots.{dot_at}
-use Rattle.query_run.specs.Collection.{Picks, KeyOf, RowIsIn, RowIsConflictFree, DotIsFrom, Gathered, Adds, RowDone, RowLeft, RowTaken, StandsBehind}
+use Rattle.query_run.specs.Walks.{Picks, KeyOf}
+use Rattle.query_run.specs.Collection.{RowIsIn, RowIsConflictFree, DotIsFrom, Gathered, Adds, RowTaken, StandsBehind}
 use Rattle.query_run.proofs.Lower as lower
 use Rattle.query_run.proofs.RowPoints.{are_offsets}
 use Rattle.query_run.proofs.Titles.{pairs_total}
@@ -114,30 +114,23 @@ entry_cases (t ∷ spans) pairs dots s c = at (pairs_cmp pairs t.0) refl c (entr
 
 -- ---- points are behind each other
 
-pub stands_behind : (picks : Picks) (widths : Widths) (id start end : ℕ) (founds : List Found) (spans : List Span) (names : Names) (f : Found) (key : RowKey) → Gathered picks widths id start end founds spans names → KeyOf widths id start end f key
-    → ((g : Found) → Contains founds g → bytes_cmp g.row.bytes f.row.bytes ≡ Less) → StandsBehind widths spans f
-stands_behind picks widths id start end founds spans names f key gathered of passed other is row =
-    lower.all_of (λ d. d.0 < other.base * 1000) (dots_of spans other.pairs.items) (λ d c.
-    let w = gathered.from (other.pairs.items, dots_of spans other.pairs.items) d (dot_stands spans other.pairs.items d c) c in
+pub stands_behind : (picks : Picks) (widths : Widths) (id start end : ℕ) (founds : List Found) (spans : List Span) (f : Found) (key : RowKey) → Gathered picks widths id start end founds spans → KeyOf widths id start end f key
+    → ((g : Found) → Contains founds g → bytes_cmp g.row.bytes f.row.bytes ≡ Less) → StandsBehind spans key
+stands_behind picks widths id start end founds spans f key gathered of passed =
+    lower.all_of (λ d. d.0 < key.base * 1000) (dots_of spans key.pairs.items) (λ d c.
+    let w = gathered.from (key.pairs.items, dots_of spans key.pairs.items) d (dot_stands spans key.pairs.items d c) c in
     let rows = passed w.found w.among in
-    let bytes : bytes_cmp (key_bytes widths w.key) (key_bytes widths other) ≡ Less = subst (λ (x : Row × Row). bytes_cmp x.0.bytes x.1.bytes ≡ Less) (λ i. (w.of.row_is i, row i)) rows in
-    let keys : key ≡ other = lower.one_key widths key other of.is_key is (ap (λ (r : Row). r.bytes) (sym of.row_is ∙ row)) in
-    let metric = w.of.metric_is ∙ sym of.metric_is ∙ ap (λ (k : RowKey). k.metric) keys in
-    let base = hours_rise widths w.key other w.of.is_key is metric w.pairs_are bytes in
+    let bytes : bytes_cmp (key_bytes widths w.key) (key_bytes widths key) ≡ Less = subst (λ (x : Row × Row). bytes_cmp x.0.bytes x.1.bytes ≡ Less) (λ i. (w.of.row_is i, of.row_is i)) rows in
+    let base = hours_rise widths w.key key w.of.is_key of.is_key (w.of.metric_is ∙ sym of.metric_is) w.pairs_are bytes in
     let time : d.0 ≡ w.key.base * 1000 + w.dot.item.offset = ap (λ (x : ℕ × ℤ). x.0) w.dot_is in
-    let before = hour_before w.key.base other.base w.dot.item.offset base (are_offsets w.found.cells w.all w.are w.dot w.there) w.of.is_key.hour is.hour in
+    let before = hour_before w.key.base key.base w.dot.item.offset base (are_offsets w.found.cells w.all w.are w.dot w.there) w.of.is_key.hour of.is_key.hour in
     omega (arith, time, before))
 
 -- ---- one row more
 
-kept_row : (picks : Picks) (widths : Widths) (id start end : ℕ) (spans more : List Span) (names after : Names) (f : Found) → ((q : Pairs) (d : ℕ × ℤ) → Contains (dots_of spans q) d → Contains (dots_of more q) d) → ((i : IdOf) → HasName names i → HasName after i)
-    → RowIsIn picks widths id start end spans names f → RowIsIn picks widths id start end more after f
-kept_row picks widths id start end spans more names after f keeps named r =
-    record {
-      key = r.key;
-      of = r.of;
-      is_in = λ picked. let w = r.is_in picked in record { conflict_free = w.conflict_free; there = λ x c within. keeps r.key.pairs.items (dot_at r.key.base x) (w.there x c within); named = λ i c. named i (w.named i c) };
-    }
+kept_row : (picks : Picks) (widths : Widths) (id start end : ℕ) (spans more : List Span) (f : Found) → ((q : Pairs) (d : ℕ × ℤ) → Contains (dots_of spans q) d → Contains (dots_of more q) d) → RowIsIn picks widths id start end spans f → RowIsIn picks widths id start end more f
+kept_row picks widths id start end spans more f keeps r =
+    record { key = r.key; of = r.of; is_in = λ picked. let w = r.is_in picked in record { conflict_free = w.conflict_free; there = λ x c within. keeps r.key.pairs.items (dot_at r.key.base x) (w.there x c within) } }
 
 from_more : (picks : Picks) (widths : Widths) (id start end : ℕ) (founds more : List Found) (pairs : Pairs) (d : ℕ × ℤ) → ((f : Found) → Contains founds f → Contains more f) → DotIsFrom picks widths id start end founds pairs d → DotIsFrom picks widths id start end more pairs d
 from_more picks widths id start end founds more pairs d within w = record {
@@ -164,32 +157,25 @@ adds_has spans more pairs dots (inl (none, same)) d c = absurd (lower.not_in d (
 adds_has spans more pairs dots (inr (some, is)) d c =
     subst (λ (l : List Span). Contains (dots_of l pairs) d) (sym is) (subst (λ (l : Dots). Contains l d) (sym (added_here spans pairs dots)) (Contains-append_right (dots_of spans pairs) dots d c))
 
-gathered_taken : (picks : Picks) (widths : Widths) (id start end : ℕ) (founds : List Found) (f : Found) (s t : Seen) (spans more : List Span) (names after : Names) → Gathered picks widths id start end founds spans names → RowTaken picks widths id start end f s spans names t more after
-    → Gathered picks widths id start end (founds ++ f ∷ []) more after
-gathered_taken picks widths id start end founds f s t spans more names after g r = record {
+pub gathered_taken : (picks : Picks) (how : Option Down) (widths : Widths) (id start end : ℕ) (founds : List Found) (f : Found) (key : RowKey) (spans : List Span) (kept : List KeptSpan) → Gathered picks widths id start end founds spans → KeyOf widths id start end f key → picks key.pairs.items ≡ true
+    → (t : RowTaken how key f.cells start end spans kept) → Gathered picks widths id start end (founds ++ f ∷ []) t.added.more
+gathered_taken picks how widths id start end founds f key spans kept g of picked t = record {
   rows = λ h c. elim (Contains-append_cases founds (f ∷ []) h c) [
-    | inl old ↦ kept_row picks widths id start end spans more names after h keeps kept (g.rows h old)
-    | inr new ↦ elim (lower.split f h [] new) [ inl same ↦ subst (RowIsIn picks widths id start end more after) same mine | inr none ↦ absurd (lower.not_in h none) ]
+    | inl old ↦ kept_row picks widths id start end spans t.added.more h keeps (g.rows h old)
+    | inr new ↦ elim (lower.split f h [] new) [ inl same ↦ subst (RowIsIn picks widths id start end t.added.more) same mine | inr none ↦ absurd (lower.not_in h none) ]
   ];
-  from = λ x d c i. from_at r.adds x d c i;
-  some = λ x c. some_at r.adds x c;
+  from = λ x d c i. from_at t.added.adds x d c i;
+  some = λ x c. some_at t.added.adds x c;
 }
   where
-    keeps : (q : Pairs) (d : ℕ × ℤ) → Contains (dots_of spans q) d → Contains (dots_of more q) d
-    keeps = adds_keeps spans more r.key.pairs.items r.dots r.adds
+    keeps : (q : Pairs) (d : ℕ × ℤ) → Contains (dots_of spans q) d → Contains (dots_of t.added.more q) d
+    keeps = adds_keeps spans t.added.more key.pairs.items t.dots t.added.adds
 
-    kept : (i : IdOf) → HasName names i → HasName after i
-    kept i n = (n.0, r.named.kept i.0 i.1 n.0 n.1)
-
-    mine : RowIsIn picks widths id start end more after f
+    mine : RowIsIn picks widths id start end t.added.more f
     mine = record {
-      key = r.key;
-      of = r.of;
-      is_in = λ picked. record {
-        conflict_free = record { all = r.has.all; are = r.has.are; one = r.has.one };
-        there = λ x c within. adds_has spans more r.key.pairs.items r.dots r.adds (dot_at r.key.base x) (r.has.there x c within);
-        named = r.named.all;
-      };
+      key = key;
+      of = of;
+      is_in = λ picked. record { conflict_free = record { all = t.has.all; are = t.has.are; one = t.has.one }; there = λ x c within. adds_has spans t.added.more key.pairs.items t.dots t.added.adds (dot_at key.base x) (t.has.there x c within) };
     }
 
     within : (h : Found) → Contains founds h → Contains (founds ++ f ∷ []) h
@@ -198,65 +184,55 @@ gathered_taken picks widths id start end founds f s t spans more names after g r
     last : Contains (founds ++ f ∷ []) f
     last = Contains-append_right founds (f ∷ []) f (lower.here f [])
 
-    new_dot : (d : ℕ × ℤ) → Contains r.dots d → DotIsFrom picks widths id start end (founds ++ f ∷ []) r.key.pairs.items d
+    new_dot : (d : ℕ × ℤ) → Contains t.dots d → DotIsFrom picks widths id start end (founds ++ f ∷ []) key.pairs.items d
     new_dot d c =
-        let w = r.has.each d c in
-        record { found = f; among = last; key = r.key; of = r.of; picked = r.picked; pairs_are = refl; all = r.has.all; are = r.has.are; dot = w.0; there = w.1; dot_is = w.2; within = w.3 }
+        let w = t.has.each d c in
+        record { found = f; among = last; key = key; of = of; picked = picked; pairs_are = refl; all = t.has.all; are = t.has.are; dot = w.0; there = w.1; dot_is = w.2; within = w.3 }
 
     old_dot : (x : Span) (d : ℕ × ℤ) → Contains spans x → Contains x.1 d → DotIsFrom picks widths id start end (founds ++ f ∷ []) x.0 d
     old_dot x d c i = from_more picks widths id start end founds (founds ++ f ∷ []) x.0 d within (g.from x d c i)
 
-    both_dots : (d : ℕ × ℤ) → Contains (dots_of spans r.key.pairs.items ++ r.dots) d → DotIsFrom picks widths id start end (founds ++ f ∷ []) r.key.pairs.items d
-    both_dots d c = elim (Contains-append_cases (dots_of spans r.key.pairs.items) r.dots d c) [
-      | inl old ↦ old_dot (r.key.pairs.items, dots_of spans r.key.pairs.items) d (dot_stands spans r.key.pairs.items d old) old
+    both_dots : (d : ℕ × ℤ) → Contains (dots_of spans key.pairs.items ++ t.dots) d → DotIsFrom picks widths id start end (founds ++ f ∷ []) key.pairs.items d
+    both_dots d c = elim (Contains-append_cases (dots_of spans key.pairs.items) t.dots d c) [
+      | inl old ↦ old_dot (key.pairs.items, dots_of spans key.pairs.items) d (dot_stands spans key.pairs.items d old) old
       | inr new ↦ new_dot d new
     ]
 
-    from_at : Adds spans r.key.pairs.items r.dots more → (x : Span) (d : ℕ × ℤ) → Contains more x → Contains x.1 d → DotIsFrom picks widths id start end (founds ++ f ∷ []) x.0 d
+    from_at : Adds spans key.pairs.items t.dots t.added.more → (x : Span) (d : ℕ × ℤ) → Contains t.added.more x → Contains x.1 d → DotIsFrom picks widths id start end (founds ++ f ∷ []) x.0 d
     from_at (inl (none, same)) x d c i = old_dot x d (subst (λ (l : List Span). Contains l x) same c) i
-    from_at (inr (some, is)) x d c i = elim (entry_cases spans r.key.pairs.items (dots_of spans r.key.pairs.items ++ r.dots) x (subst (λ (l : List Span). Contains l x) is c)) [
+    from_at (inr (some, is)) x d c i = elim (entry_cases spans key.pairs.items (dots_of spans key.pairs.items ++ t.dots) x (subst (λ (l : List Span). Contains l x) is c)) [
       | inl same ↦ subst (λ (y : Span). DotIsFrom picks widths id start end (founds ++ f ∷ []) y.0 d) same (both_dots d (subst (λ (y : Span). Contains y.1 d) (sym same) i))
       | inr old ↦ old_dot x d old i
     ]
 
-    some_at : Adds spans r.key.pairs.items r.dots more → (x : Span) → Contains more x → 1 ≤ length x.1
+    some_at : Adds spans key.pairs.items t.dots t.added.more → (x : Span) → Contains t.added.more x → 1 ≤ length x.1
     some_at (inl (none, same)) x c = g.some x (subst (λ (l : List Span). Contains l x) same c)
-    some_at (inr (some, is)) x c = elim (entry_cases spans r.key.pairs.items (dots_of spans r.key.pairs.items ++ r.dots) x (subst (λ (l : List Span). Contains l x) is c)) [
-      | inl same ↦ subst (λ (y : Span). 1 ≤ length y.1) same (let l = length-append (dots_of spans r.key.pairs.items) r.dots in let n = some in omega (arith, l, n))
+    some_at (inr (some, is)) x c = elim (entry_cases spans key.pairs.items (dots_of spans key.pairs.items ++ t.dots) x (subst (λ (l : List Span). Contains l x) is c)) [
+      | inl same ↦ subst (λ (y : Span). 1 ≤ length y.1) same (let l = length-append (dots_of spans key.pairs.items) t.dots in let n = some in omega (arith, l, n))
       | inr old ↦ g.some x old
     ]
 
 -- a row that isn't asked for
-gathered_left : (picks : Picks) (widths : Widths) (id start end : ℕ) (founds : List Found) (f : Found) (s t : Seen) (spans more : List Span) (names after : Names) → Gathered picks widths id start end founds spans names → RowLeft picks widths id start end f s spans names t more after
-    → Gathered picks widths id start end (founds ++ f ∷ []) more after
-gathered_left picks widths id start end founds f s t spans more names after g r =
-    subst (λ (n : Names). Gathered picks widths id start end (founds ++ f ∷ []) more n) (sym r.names_are) (subst (λ (l : List Span). Gathered picks widths id start end (founds ++ f ∷ []) l names) (sym r.spans_are) (record {
-      rows = λ h c. elim (Contains-append_cases founds (f ∷ []) h c) [
-        | inl old ↦ g.rows h old
-        | inr new ↦ elim (lower.split f h [] new) [ inl same ↦ subst (RowIsIn picks widths id start end spans names) same mine | inr none ↦ absurd (lower.not_in h none) ]
-      ];
-      from = λ x d c i. from_more picks widths id start end founds (founds ++ f ∷ []) x.0 d (λ h c. Contains-append_left founds (f ∷ []) h c) (g.from x d c i);
-      some = g.some;
-    }))
+pub gathered_left : (picks : Picks) (widths : Widths) (id start end : ℕ) (founds : List Found) (f : Found) (key : RowKey) (spans : List Span) → Gathered picks widths id start end founds spans → KeyOf widths id start end f key → picks key.pairs.items ≡ false
+    → Gathered picks widths id start end (founds ++ f ∷ []) spans
+gathered_left picks widths id start end founds f key spans g of fails = record {
+  rows = λ h c. elim (Contains-append_cases founds (f ∷ []) h c) [
+    | inl old ↦ g.rows h old
+    | inr new ↦ elim (lower.split f h [] new) [ inl same ↦ subst (RowIsIn picks widths id start end spans) same mine | inr none ↦ absurd (lower.not_in h none) ]
+  ];
+  from = λ x d c i. from_more picks widths id start end founds (founds ++ f ∷ []) x.0 d (λ h c. Contains-append_left founds (f ∷ []) h c) (g.from x d c i);
+  some = g.some;
+}
   where
     never : (b : Bool) → b ≡ true → b ≡ false → ⊥
     never true e n = cc
     never false e n = cc
 
-    mine : RowIsIn picks widths id start end spans names f
-    mine = record { key = r.key; of = r.of; is_in = λ picked. absurd (never (picks r.key.pairs.items) picked r.left) }
+    mine : RowIsIn picks widths id start end spans f
+    mine = record { key = key; of = of; is_in = λ picked. absurd (never (picks key.pairs.items) picked fails) }
 
-pub gathered_more : (picks : Picks) (widths : Widths) (id start end : ℕ) (founds : List Found) (f : Found) (s t : Seen) (spans more : List Span) (names after : Names) → Gathered picks widths id start end founds spans names → RowDone picks widths id start end f s spans names t more after
-    → Gathered picks widths id start end (founds ++ f ∷ []) more after
-gathered_more picks widths id start end founds f s t spans more names after g (inl r) = gathered_left picks widths id start end founds f s t spans more names after g r
-gathered_more picks widths id start end founds f s t spans more names after g (inr r) = gathered_taken picks widths id start end founds f s t spans more names after g r
+pub gathered_none : (picks : Picks) (widths : Widths) (id start end : ℕ) → Gathered picks widths id start end [] []
+gathered_none picks widths id start end = record { rows = λ f c. absurd (lower.not_in f c); from = λ s d c i. absurd (lower.not_in s c); some = λ s c. absurd (lower.not_in s c) }
 
-pub gathered_none : (picks : Picks) (widths : Widths) (id start end : ℕ) (spans : List Span) (names : Names) → spans ≡ [] → Gathered picks widths id start end [] spans names
-gathered_none picks widths id start end spans names none = record {
-  rows = λ f c. absurd (lower.not_in f c);
-  from = λ s d c i. absurd (lower.not_in s (subst (λ (l : List Span). Contains l s) none c));
-  some = λ s c. absurd (lower.not_in s (subst (λ (l : List Span). Contains l s) none c));
-}
-
-pub row_conflict_free : (picks : Picks) (widths : Widths) (id start end : ℕ) (spans : List Span) (names : Names) (f : Found) → RowIsIn picks widths id start end spans names f → RowIsConflictFree picks widths id start end f
-row_conflict_free picks widths id start end spans names f r = record { key = r.key; of = r.of; conflict_free = λ picked. (r.is_in picked).conflict_free }
+pub row_conflict_free : (picks : Picks) (widths : Widths) (id start end : ℕ) (spans : List Span) (f : Found) → RowIsIn picks widths id start end spans f → RowIsConflictFree picks widths id start end f
+row_conflict_free picks widths id start end spans f r = record { key = r.key; of = r.of; conflict_free = λ picked. (r.is_in picked).conflict_free }

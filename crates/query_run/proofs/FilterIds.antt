@@ -13,6 +13,7 @@ use Rattle.row_key.specs.Key.{IsKey, key_bytes}
 use Rattle.query_text.specs.declared.queries.Test.{Test}
 use Rattle.query_text.specs.declared.queries.Test.TheVariants as text
 use Rattle.query_text.specs.declared.queries.Filter.{Filter}
+use Rattle.query_text.specs.FilterTexts.{is_of_text}
 use Rattle.cell_model.specs.History.{History, store_after}
 use Rattle.cell_model.specs.IdRows.{id_of, name_of}
 use Rattle.cell_model.specs.Lawful.{IsLawful}
@@ -21,12 +22,15 @@ use Rattle.cell_model.specs.Seen.{Seen, Fits}
 use Rattle.cell_model.specs.Deeds.{Extends}
 use Rattle.uid_table.specs.Shown.{HasShown}
 use Rattle.group_by.specs.TagFilters as by_name
+use Rattle.tag_match.specs.Patterns.{finds}
 use Rattle.query_run.specs.declared.id_filter.IdTest.{IdTest}
 use Rattle.query_run.specs.declared.id_filter.IdTest.TheVariants.{Any, OneOf, NotOneOf}
 use Rattle.query_run.specs.declared.id_filter.IdFilter.{IdFilter}
+use Rattle.query_run.specs.ValueJudges.{passes_named, pair_passes, suits_one, suits}
+use Rattle.query_run.specs.Collection.{picks_in}
 use Rattle.query_run.specs.IdFilters.{passes, passes_filter, passes_test, AreIds, AreIdsOf, IsIdTest, IsIdFilter, AreIdFilters}
 use Rattle.query_run.proofs.Lower as lower
-use Rattle.query_run.proofs.AnyOf.{in_any, any_in}
+use Rattle.series_groups.proofs.AnyOf.{in_any, any_in}
 use Rattle.query_run.proofs.RowReadings.{PicksBy}
 
 same_bool : (a b : Bool) → (a ≡ true → b ≡ true) → (b ≡ true → a ≡ true) → a ≡ b
@@ -47,6 +51,21 @@ both false b e = cc
 and_true : (a b : Bool) → a ≡ true → b ≡ true → (a && b) ≡ true
 and_true true b e f = f
 and_true false b e f = cc
+
+and_end : (a : Bool) → (a && true) ≡ a
+and_end true = refl
+and_end false = refl
+
+and_later : (a b : Bool) → (b ≡ true → a ≡ true) → (a && b) ≡ b
+and_later true b f = refl
+and_later false true f = f refl
+and_later false false f = refl
+
+and_between : (a b c d : Bool) → ((a && b) && (c && d)) ≡ ((a && c) && (b && d))
+and_between false b c d = refl
+and_between true true c d = refl
+and_between true false true d = refl
+and_between true false false d = refl
 
 same_Some : {X : Type 0} (x y : X) → ◌≡◌ {A = Option X} (Some x) (Some y) → x ≡ y
 same_Some x y e = cc
@@ -75,52 +94,91 @@ module _ (g : History) (s : Seen) (now : (kind : Kind) (name : List ℕ) (id : �
   any_of : (names : List (List ℕ)) (ids : List ℕ) (v : List ℕ) (i : ℕ) → AreIdsOf s names ids → IsId g TagValue v i → list_any (nat_eq i) ids ≡ list_any (is_same v) names
   any_of names ids v i (listed, are, same) b = sym (list_any-IsPermutation (nat_eq i) listed ids same) ∙ any_value names listed v i are b
 
-  test_same : (test : Test) (by : IdTest) (v : List ℕ) (i : ℕ) → IsIdTest s test by → IsId g TagValue v i → passes_test by i ≡ by_name.passes_test test v
-  test_same text.Any Any v i h b = refl
-  test_same text.Any (OneOf ids) v i h b = absurd h
-  test_same text.Any (NotOneOf ids) v i h b = absurd h
-  test_same (text.OneOf names) Any v i h b = absurd h
-  test_same (text.OneOf names) (OneOf ids) v i h b = any_of names ids v i h b
-  test_same (text.OneOf names) (NotOneOf ids) v i h b = absurd h
-  test_same (text.NotOneOf names) Any v i h b = absurd h
-  test_same (text.NotOneOf names) (OneOf ids) v i h b = absurd h
-  test_same (text.NotOneOf names) (NotOneOf ids) v i h b = ap not (any_of names ids v i h b)
+  -- by ids and names a value passes as it does by its name
+  value_same : (test : Test) (by : IdTest) (v : List ℕ) (i : ℕ) → IsIdTest s test by → is_of_text test ≡ false → IsId g TagValue v i → passes_test by i ≡ by_name.passes_test finds test v
+  value_same text.Any Any v i h plain b = refl
+  value_same text.Any (OneOf ids) v i h plain b = absurd h
+  value_same text.Any (NotOneOf ids) v i h plain b = absurd h
+  value_same (text.OneOf names) Any v i h plain b = absurd h
+  value_same (text.OneOf names) (OneOf ids) v i h plain b = any_of names ids v i h b
+  value_same (text.OneOf names) (NotOneOf ids) v i h plain b = absurd h
+  value_same (text.NotOneOf names) Any v i h plain b = absurd h
+  value_same (text.NotOneOf names) (OneOf ids) v i h plain b = absurd h
+  value_same (text.NotOneOf names) (NotOneOf ids) v i h plain b = ap not (any_of names ids v i h b)
+  value_same (text.Wild part) by v i h plain b = cc
+  value_same (text.Pattern part) by v i h plain b = cc
+
+  -- by ids any value passes a test of text
+  text_passes : (test : Test) (by : IdTest) (i : ℕ) → IsIdTest s test by → is_of_text test ≡ true → passes_test by i ≡ true
+  text_passes (text.Wild part) Any i h is = refl
+  text_passes (text.Wild part) (OneOf ids) i h is = absurd h
+  text_passes (text.Wild part) (NotOneOf ids) i h is = absurd h
+  text_passes (text.Pattern part) Any i h is = refl
+  text_passes (text.Pattern part) (OneOf ids) i h is = absurd h
+  text_passes (text.Pattern part) (NotOneOf ids) i h is = absurd h
+  text_passes text.Any by i h is = cc
+  text_passes (text.OneOf names) by i h is = cc
+  text_passes (text.NotOneOf names) by i h is = cc
 
   module _ (pairs : List (ℕ × ℕ)) (tags : List Pair) (named : Named (name_of g) pairs tags) (key_of : (p : ℕ × ℕ) (name : List ℕ) → Contains pairs p → name_of g TagKey p.0 ≡ Some name → IsId g TagKey name p.0)
       (value_of : (p : ℕ × ℕ) (name : List ℕ) → Contains pairs p → name_of g TagValue p.1 ≡ Some name → IsId g TagValue name p.1) where
-    filter_same : (f : Filter) (by : IdFilter) → IsIdFilter s f by → passes_filter by pairs ≡ by_name.passes_filter f tags
-    filter_same f by is = same_bool (passes_filter by pairs) (by_name.passes_filter f tags) to from
+    -- where a test of ids passes as the filter's does
+    any_same : (f : Filter) (key : ℕ) (test : ℕ → Bool) → IsId g TagKey f.key key → ((p : ℕ × ℕ) (v : List ℕ) → Contains pairs p → name_of g TagValue p.1 ≡ Some v → test p.1 ≡ by_name.passes_test finds f.test v)
+        → list_any (λ (p : ℕ × ℕ). nat_eq key p.0 && test p.1) pairs ≡ by_name.passes_filter finds f tags
+    any_same f key test its agree = same_bool (list_any (λ (p : ℕ × ℕ). nat_eq key p.0 && test p.1) pairs) (by_name.passes_filter finds f tags) to from
       where
-        its : IsId g TagKey f.key by.key
-        its = now TagKey f.key by.key is.key
-
-        to : passes_filter by pairs ≡ true → by_name.passes_filter f tags ≡ true
+        to : list_any (λ (p : ℕ × ℕ). nat_eq key p.0 && test p.1) pairs ≡ true → by_name.passes_filter finds f tags ≡ true
         to e =
-            let w = any_in (λ (p : ℕ × ℕ). nat_eq by.key p.0 && passes_test by.test p.1) pairs e in
-            let h = both (nat_eq by.key w.0.0) (passes_test by.test w.0.1) w.2 in
+            let w = any_in (λ (p : ℕ × ℕ). nat_eq key p.0 && test p.1) pairs e in
+            let h = both (nat_eq key w.0.0) (test w.0.1) w.2 in
             let t = named.each w.0 w.1 in
-            let key : f.key ≡ t.0.0 = same_Some f.key t.0.0 (sym its.name_is ∙ ap (name_of g TagKey) (nat_is by.key w.0.0 h.0) ∙ t.2.0) in
-            in_any (λ (x : Pair). is_same f.key x.0 && by_name.passes_test f.test x.1) t.0 tags t.1
-            (and_true (is_same f.key t.0.0) (by_name.passes_test f.test t.0.1) ((bytes_decides f.key t.0.0).1 key) (sym (test_same f.test by.test t.0.1 w.0.1 is.test (value_of w.0 t.0.1 w.1 t.2.1)) ∙ h.1))
+            let key_is : f.key ≡ t.0.0 = same_Some f.key t.0.0 (sym its.name_is ∙ ap (name_of g TagKey) (nat_is key w.0.0 h.0) ∙ t.2.0) in
+            in_any (λ (x : Pair). is_same f.key x.0 && by_name.passes_test finds f.test x.1) t.0 tags t.1
+            (and_true (is_same f.key t.0.0) (by_name.passes_test finds f.test t.0.1) ((bytes_decides f.key t.0.0).1 key_is) (sym (agree w.0 t.0.1 w.1 t.2.1) ∙ h.1))
 
-        from : by_name.passes_filter f tags ≡ true → passes_filter by pairs ≡ true
+        from : by_name.passes_filter finds f tags ≡ true → list_any (λ (p : ℕ × ℕ). nat_eq key p.0 && test p.1) pairs ≡ true
         from e =
-            let w = any_in (λ (x : Pair). is_same f.key x.0 && by_name.passes_test f.test x.1) tags e in
-            let h = both (is_same f.key w.0.0) (by_name.passes_test f.test w.0.1) w.2 in
+            let w = any_in (λ (x : Pair). is_same f.key x.0 && by_name.passes_test finds f.test x.1) tags e in
+            let h = both (is_same f.key w.0.0) (by_name.passes_test finds f.test w.0.1) w.2 in
             let p = named.back w.0 w.1 in
-            let key : f.key ≡ w.0.0 = (bytes_decides f.key w.0.0).0 h.0 in
-            let id : by.key ≡ p.0.0 = same_Some by.key p.0.0 (sym its.id_is ∙ ap (id_of g TagKey) key ∙ (key_of p.0 w.0.0 p.1 p.2.0).id_is) in
-            in_any (λ (x : ℕ × ℕ). nat_eq by.key x.0 && passes_test by.test x.1) p.0 pairs p.1
-            (and_true (nat_eq by.key p.0.0) (passes_test by.test p.0.1) (is_nat by.key p.0.0 id) (test_same f.test by.test w.0.1 p.0.1 is.test (value_of p.0 w.0.1 p.1 p.2.1) ∙ h.1))
+            let key_is : f.key ≡ w.0.0 = (bytes_decides f.key w.0.0).0 h.0 in
+            let id : key ≡ p.0.0 = same_Some key p.0.0 (sym its.id_is ∙ ap (id_of g TagKey) key_is ∙ (key_of p.0 w.0.0 p.1 p.2.0).id_is) in
+            in_any (λ (x : ℕ × ℕ). nat_eq key x.0 && test x.1) p.0 pairs p.1
+            (and_true (nat_eq key p.0.0) (test p.0.1) (is_nat key p.0.0 id) (agree p.0 w.0.1 p.1 p.2.1 ∙ h.1))
 
-    all_same : (filters : List Filter) (list : List IdFilter) → AreIdFilters s filters list → passes list pairs ≡ by_name.passes filters tags
+    -- a filter by ids that isn't of text passes as the one by names
+    filter_same : (f : Filter) (by : IdFilter) → IsIdFilter s f by → is_of_text f.test ≡ false → passes_filter by pairs ≡ by_name.passes_filter finds f tags
+    filter_same f by is plain = any_same f by.key (passes_test by.test) (now TagKey f.key by.key is.key) (λ p v c e. value_same f.test by.test v p.1 is.test plain (value_of p v c e))
+
+    -- one of text does so by the values' names
+    text_same : (f : Filter) (by : IdFilter) → IsIdFilter s f by → list_any (pair_passes (name_of g) by.key f.test) pairs ≡ by_name.passes_filter finds f tags
+    text_same f by is = any_same f by.key (λ i. passes_named f.test (name_of g TagValue i)) (now TagKey f.key by.key is.key) (λ p v c e. ap (passes_named f.test) e)
+
+    -- and where it does, it passes by ids
+    text_by_ids : (f : Filter) (by : IdFilter) → IsIdFilter s f by → is_of_text f.test ≡ true → list_any (pair_passes (name_of g) by.key f.test) pairs ≡ true → passes_filter by pairs ≡ true
+    text_by_ids f by is text e =
+        let w = any_in (pair_passes (name_of g) by.key f.test) pairs e in
+        let h = both (nat_eq by.key w.0.0) (passes_named f.test (name_of g TagValue w.0.1)) w.2 in
+        in_any (λ (x : ℕ × ℕ). nat_eq by.key x.0 && passes_test by.test x.1) w.0 pairs w.1 (and_true (nat_eq by.key w.0.0) (passes_test by.test w.0.1) h.0 (text_passes f.test by.test w.0.1 is.test text))
+
+    one_same : (f : Filter) (by : IdFilter) → IsIdFilter s f by → (passes_filter by pairs && suits_one (name_of g) by.key f.test pairs) ≡ by_name.passes_filter finds f tags
+    one_same f by is = at (is_of_text f.test) refl
+      where
+        at : (b : Bool) → is_of_text f.test ≡ b → (passes_filter by pairs && suits_one (name_of g) by.key f.test pairs) ≡ by_name.passes_filter finds f tags
+        at false plain = ap (λ t. passes_filter by pairs && (not t || list_any (pair_passes (name_of g) by.key f.test) pairs)) plain ∙ and_end (passes_filter by pairs) ∙ filter_same f by is plain
+        at true text =
+            ap (λ t. passes_filter by pairs && (not t || list_any (pair_passes (name_of g) by.key f.test) pairs)) text
+            ∙ and_later (passes_filter by pairs) (list_any (pair_passes (name_of g) by.key f.test) pairs) (text_by_ids f by is text) ∙ text_same f by is
+
+    all_same : (filters : List Filter) (list : List IdFilter) → AreIdFilters s filters list → (passes list pairs && suits (name_of g) filters list pairs) ≡ by_name.passes finds filters tags
     all_same [] [] z = refl
     all_same [] (by ∷ list) z = absurd z
     all_same (f ∷ filters) [] z = absurd z
-    all_same (f ∷ filters) (by ∷ list) z = λ i. filter_same f by z.0 i && all_same filters list z.1 i
+    all_same (f ∷ filters) (by ∷ list) z =
+        and_between (passes_filter by pairs) (passes list pairs) (suits_one (name_of g) by.key f.test pairs) (suits (name_of g) filters list pairs) ∙ (λ i. one_same f by z.0 i && all_same filters list z.1 i)
 
   -- of a row that stood
-  pub picks_by : (filters : List Filter) (list : List IdFilter) (key : RowKey) → AreIdFilters s filters list → IsKey (store_after g).widths key → lower.StoodRow g (key_bytes (store_after g).widths key) → PicksBy (passes list) filters (name_of g) key
+  pub picks_by : (filters : List Filter) (list : List IdFilter) (key : RowKey) → AreIdFilters s filters list → IsKey (store_after g).widths key → lower.StoodRow g (key_bytes (store_after g).widths key) → PicksBy (picks_in list filters g) filters (name_of g) key
   picks_by filters list key z is row tags named = all_same key.pairs.items tags named key_of value_of filters list z
     where
       same : key ≡ row.key

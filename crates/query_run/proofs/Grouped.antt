@@ -7,13 +7,13 @@ use Rattle.query_text.specs.declared.queries.Sub.{Sub}
 use Rattle.span_merge.specs.KeptPoints.{Keeps}
 use Rattle.span_merge.specs.Spans.{Span}
 use Rattle.query_run.specs.declared.collection.Collected.{Collected}
-use Rattle.query_run.specs.declared.named_series.Series as kept
-use Rattle.query_run.specs.NamedSeries.{Series}
-use Rattle.query_run.specs.KeptSeries.{KeepsWithin, with_points, all_with_points}
-use Rattle.query_run.specs.QueryAnswers.{down_by}
+use Rattle.series_groups.specs.declared.named_series.Series as kept
+use Rattle.series_groups.specs.NamedSeries.{Series}
+use Rattle.series_groups.specs.KeptSeries.{KeepsWithin, with_points, all_with_points}
+use Rattle.series_groups.specs.QueryAnswers.{down_by}
 use Rattle.query_run.specs.RowNames.{Names, known}
 use Rattle.query_run.specs.SeriesTags.{Titles, TitlesKept}
-use Rattle.query_run.specs.SeriesGroups.{AreSeriesFor}
+use Rattle.series_groups.specs.SeriesGroups.{AreSeriesFor}
 use Rattle.query_run.specs.SubQuery.{AreCollected}
 use Rattle.query_run.proofs.Lower as lower
 

@@ -1,7 +1,6 @@
 -- Going on behind a key that fails a filter.
-use Rattle.std.proofs.Common.{◌≡◌, ◌⊎◌, inl, inr, ℕ, ◌+◌, ◌-◌, ◌%◌, ◌^◌, ◌<◌, ◌≤◌, Bool, true, false, List, [], ◌∷◌, ◌++◌, length, take, drop, get_or, min, refl, sym, ap, subst, ◌∙◌, arith, append_assoc, length-append}
+use Rattle.std.proofs.Common.{◌≡◌, ◌⊎◌, inl, inr, ℕ, ◌+◌, ◌-◌, ◌%◌, ◌^◌, ◌<◌, ◌≤◌, Bool, true, false, List, [], ◌∷◌, ◌++◌, length, take, drop, get_or, refl, sym, ap, subst, ◌∙◌, arith, append_assoc, length-append}
 use Rattle.std.specs.Prelude.{All, AllPairs, Contains, Option, None, Some, IfSome, nat_eq, ◌&&◌}
-use Rattle.std.specs.Global.{Vec}
 use Rattle.std.specs.List.{list_any}
 use Rattle.std.specs.declared.cmp.Ordering.TheVariants.{Less}
 use Rattle.std.specs.Ordering.{is_lt, nat_cmp, ordering_then}
@@ -21,7 +20,7 @@ use Rattle.query_run.specs.declared.id_filter.IdFilter.{IdFilter}
 use Rattle.query_run.specs.IdFilters.{passes_filter, passes_test}
 use Rattle.query_run.specs.IdSets.{IsLeastAbove}
 use Rattle.query_run.specs.KeyJumps.{IsFromTo, JumpsOver, IsBehind, IsNextId, IsNextValue}
-use Rattle.query_run.proofs.AnyOf.{in_any, any_in}
+use Rattle.series_groups.proofs.AnyOf.{in_any, any_in}
 use Rattle.query_run.proofs.Lower as lower
 use Rattle.query_run.proofs.PairOrder.{Lesser, then_assoc, tied, not_under, under, less_is, same_then, never_below_none, behind_front, value_above, ValueBetween, value_between, first_from, rising_front, rising_rest, hour_tied}
 

@@ -7,7 +7,12 @@ mod RowsTaken
 mod ScanSteps
 mod Contents
 mod Passing
-mod ScanLoop
+mod WalkSteps
+mod RowsBegun
+mod WalkTurns
+mod FewerRows
+mod ValueJudging
+mod CollectLoop
 mod RowReadings
 mod FilterIds
 mod Shown
@@ -17,13 +22,6 @@ mod Short
 mod OneSub
 mod AllSubs
 mod Grouped
-mod AnyOf
-mod Keys
-mod Members
-mod Lists
-mod Finishing
-mod GroupLemmas
-mod SeriesLemmas
 mod Unordered
 mod Outcomes
 mod SameOutcome
@@ -34,3 +32,4 @@ mod Jumps
 mod SkipSteps
 mod TextLemmas
 pub mod CallerLemmas
+pub mod WalkLemmas

@@ -21,7 +21,7 @@ use Rattle.uid_table.specs.declared.id_answers.ResolveFault.TheVariants as resol
 use Rattle.uid_table.specs.Shown.{HasShown}
 use Rattle.uid_table.specs.IdSteps.{MadeSo, LookedOrKept, ResolveMade}
 use Rattle.query_run.specs.declared.fault.AskFault.{AskFault}
-use Rattle.query_run.specs.declared.fault.AskFault.TheVariants.{TooManyBuckets, Unknown, Duplicate, Overflow, OutOfMemory, Stopped}
+use Rattle.query_run.specs.declared.fault.AskFault.TheVariants.{TooManyBuckets, BadFilter, Unknown, Duplicate, Overflow, OutOfMemory, Stopped}
 use Rattle.query_run.specs.declared.id_filter.IdTest.{IdTest}
 use Rattle.query_run.specs.declared.id_filter.IdTest.TheVariants.{Any, OneOf, NotOneOf}
 use Rattle.query_run.specs.declared.id_filter.IdFilter.{IdFilter}
@@ -72,6 +72,12 @@ test_later s t (text.OneOf names) (NotOneOf ids) e h = absurd h
 test_later s t (text.NotOneOf names) Any e h = absurd h
 test_later s t (text.NotOneOf names) (OneOf ids) e h = absurd h
 test_later s t (text.NotOneOf names) (NotOneOf ids) e h = (h.0, ids_later s t names h.0 e h.1, h.2)
+test_later s t (text.Wild part) Any e h = tt
+test_later s t (text.Wild part) (OneOf ids) e h = absurd h
+test_later s t (text.Wild part) (NotOneOf ids) e h = absurd h
+test_later s t (text.Pattern part) Any e h = tt
+test_later s t (text.Pattern part) (OneOf ids) e h = absurd h
+test_later s t (text.Pattern part) (NotOneOf ids) e h = absurd h
 
 filter_later : (s t : Seen) (f : Filter) (by : IdFilter) → Extends s t → IsIdFilter s f by → IsIdFilter t f by
 filter_later s t f by e h = record { key = id_later s t TagKey f.key by.key e h.key; test = test_later s t f.test by.test e h.test }
@@ -104,6 +110,7 @@ unresolved_by ns ms list new (Unknown kind name) u =
 unresolved_by ns ms list new OutOfMemory u = tt
 unresolved_by ns ms list new Stopped u = tt
 unresolved_by ns ms list new (TooManyBuckets count) u = absurd u
+unresolved_by ns ms list new (BadFilter index) u = absurd u
 unresolved_by ns ms list new (Duplicate time x y) u = absurd u
 unresolved_by ns ms list new (Overflow time) u = absurd u
 
@@ -121,6 +128,7 @@ unresolved_after ns ms xs ys new (Unknown kind name) shown u = record {
 unresolved_after ns ms xs ys new OutOfMemory shown u = tt
 unresolved_after ns ms xs ys new Stopped shown u = tt
 unresolved_after ns ms xs ys new (TooManyBuckets count) shown u = absurd u
+unresolved_after ns ms xs ys new (BadFilter index) shown u = absurd u
 unresolved_after ns ms xs ys new (Duplicate time x y) shown u = absurd u
 unresolved_after ns ms xs ys new (Overflow time) shown u = absurd u
 
@@ -252,6 +260,12 @@ not_one_of_test old new test names listed ids is (resolved, are) same = subst (�
 -- a test that names nothing
 pub any_test : (s : Seen) (test : Test) → test ≡ text.Any → AreResolved s (map (λ name. (TagValue, name)) (test_names test)) s × IsIdTest s test Any
 any_test s test is = subst (λ (t : Test). AreResolved s (map (λ name. (TagValue, name)) (test_names t)) s × IsIdTest s t Any) (sym is) (resolved_none s, tt)
+
+pub wild_test : (s : Seen) (test : Test) (part : List ℕ) → test ≡ text.Wild part → AreResolved s (map (λ name. (TagValue, name)) (test_names test)) s × IsIdTest s test Any
+wild_test s test part is = subst (λ (t : Test). AreResolved s (map (λ name. (TagValue, name)) (test_names t)) s × IsIdTest s t Any) (sym is) (resolved_none s, tt)
+
+pub pattern_test : (s : Seen) (test : Test) (part : List ℕ) → test ≡ text.Pattern part → AreResolved s (map (λ name. (TagValue, name)) (test_names test)) s × IsIdTest s test Any
+pattern_test s test part is = subst (λ (t : Test). AreResolved s (map (λ name. (TagValue, name)) (test_names t)) s × IsIdTest s t Any) (sym is) (resolved_none s, tt)
 
 -- a filter's key, and then its test
 module _ (f : Filter) (old mid new : Seen) where

@@ -3,8 +3,7 @@ use Rattle.std.proofs.Common.{◌≡◌, ◌≢◌, ◌⊎◌, inl, inr, ℕ, su
 use Rattle.std.proofs.lemmas.Grind.{flat_map-append}
 use Rattle.std.proofs.lemmas.List.{take_more, take_all, get_or_default}
 use Rattle.std.proofs.lemmas.List.Elements.{Contains-append_left, Contains-append_right, Contains-append_cases}
-use Rattle.std.proofs.lemmas.Result.{err_from_is_err_and}
-use Rattle.std.specs.Prelude.{AllPairs, Contains, Option, None, Some, Result, Ok, Err, IsErrAnd, is_some}
+use Rattle.std.specs.Prelude.{AllPairs, Contains, Option, None, Some, Result, Ok, Err, is_some}
 use Rattle.std.specs.BTreeMap.{is_at}
 use Rattle.std.specs.Ordering.{nat_cmp}
 use Rattle.std.specs.Cmp.{nat_cmp_total, ranked, tied_itself}
@@ -31,11 +30,9 @@ use Rattle.uid_table.specs.IdSteps.{MadeSo, DidRead, NameMade}
 use Rattle.query_run.specs.RowNames.{IdOf, Names, listed, ids_of, KnowsPair, AllNamed, HasName, AreReads, in_lists, IdReads, NamesRead, NamesCut, IdNamed, IdCut}
 use Rattle.query_run.specs.RowNames.IdNamed.{there, asked}
 use Rattle.query_run.proofs.Lower as lower
+pub use Rattle.series_groups.proofs.GroupLemmas.{passed_on}
 
 -- ---- lists of entries
-
-pub passed_on : {T E : Type 0} (P : Result T E → Type 0) (e : E) (r : Result T E) → IsErrAnd r (λ y. y ≡ e) → P (Err e) → P r
-passed_on P e r is p = let y = err_from_is_err_and r is in subst P (sym (y.1 ∙ ap (λ x. Err x) y.2)) p
 
 pub no_reads : AreReads []
 no_reads p c = absurd (lower.not_in p c)

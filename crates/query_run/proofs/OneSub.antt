@@ -1,14 +1,12 @@
 -- One sub query: what is said of it, by what its steps say.
-use Rattle.std.proofs.Common.{◌≡◌, ℕ, ◌≤◌, Bool, true, false, List, [], ◌∷◌, ◌++◌, length, refl, sym, ap, subst, ◌∙◌, arith}
-use Rattle.std.specs.Prelude.{ℤ, Contains, Option, None, Some, Result, Ok, Err, map, nat_lt, if◌then◌else◌}
+use Rattle.std.proofs.Common.{◌≡◌, ℕ, ◌≤◌, true, false, List, [], ◌∷◌, ◌++◌, length, refl, sym, ap, subst, ◌∙◌, arith}
+use Rattle.std.specs.Prelude.{ℤ, Contains, Option, None, Some, Result, Ok, Err, map}
 use Rattle.std.specs.Global.{Vec}
-use Rattle.std.specs.List.{flat_map}
+use Rattle.std.specs.List.{AllZip, list_any}
+use Rattle.std.proofs.lemmas.List.{length-map}
 use Rattle.std.proofs.lemmas.List.Elements.{Contains-append_right}
 use Rattle.tsd_base.specs.declared.kinds.Kind.{Kind}
 use Rattle.tsd_base.specs.declared.kinds.Kind.TheVariants.{Metric}
-use Rattle.tsd_base.specs.declared.kinds.Fill.{Fill}
-use Rattle.tsd_base.specs.declared.kinds.Fill.TheVariants.{NoFill, Zero}
-use Rattle.tsd_base.specs.declared.kinds.Down.{Down}
 use Rattle.row_key.specs.declared.widths.Widths.{Widths}
 use Rattle.row_key.specs.declared.keys.RowKey.{RowKey}
 use Rattle.row_key.specs.Key.{IsKey, key_bytes}
@@ -16,6 +14,7 @@ use Rattle.json_reply.specs.Replies.{Group, plain}
 use Rattle.json_reply.specs.declared.reply.Group as code
 use Rattle.query_text.specs.declared.queries.Query.{Query}
 use Rattle.query_text.specs.declared.queries.Sub.{Sub}
+use Rattle.query_text.specs.FilterTexts.{is_of_text}
 use Rattle.query_text.specs.declared.queries.Filter.{Filter}
 use Rattle.cell_model.specs.declared.row.Found.{Found}
 use Rattle.cell_model.specs.declared.events.Placed.{Placed}
@@ -33,64 +32,67 @@ use Rattle.row_scan.specs.Scans.{HasCell, IsStart}
 use Rattle.tsd_base.specs.declared.kinds.Down.{Down}
 use Rattle.span_merge.specs.Spans.{Span, KeepsSpans}
 use Rattle.query_run.specs.declared.collection.Collected.{Collected}
-use Rattle.downsample.specs.Buckets.{all_buckets}
 use Rattle.query_run.specs.declared.fault.AskFault.{AskFault}
-use Rattle.query_run.specs.declared.fault.AskFault.TheVariants.{TooManyBuckets, Unknown, Duplicate, Overflow, OutOfMemory, Stopped}
+use Rattle.query_run.specs.declared.fault.AskFault.TheVariants.{TooManyBuckets, BadFilter, Unknown, Duplicate, Overflow, OutOfMemory, Stopped}
 use Rattle.query_run.specs.declared.id_filter.IdFilter.{IdFilter}
-use Rattle.query_run.specs.NamedSeries.{Series}
-use Rattle.query_run.specs.QueryAnswers.{answer, down_by}
-use Rattle.query_run.specs.NamedSeries.{points_in}
+use Rattle.query_run.specs.declared.value_judges.ValueJudge.{ValueJudge}
+use Rattle.series_groups.specs.NamedSeries.{Series}
+use Rattle.series_groups.specs.QueryAnswers.{answer, down_by}
+use Rattle.series_groups.specs.NamedSeries.{points_in}
 use Rattle.query_run.specs.Parts.{NameOf, Part, AreQuerySteps, AllResolved, PartStands, FirstUnknown}
 use Rattle.query_run.specs.Asked.{Cause}
-use Rattle.query_run.specs.IdFilters.{AreIdFilters, passes}
-use Rattle.query_run.specs.AskedQueries.{wanted, filter_names, names_in, too_many, barred_by, barred_down, barred, answer_over, IsFew}
+use Rattle.query_run.specs.IdFilters.{IsIdFilter, AreIdFilters, passes}
+use Rattle.query_run.specs.ValueJudges.{filters_of}
+use Rattle.query_run.specs.AskedQueries.{wanted, names_in, barred, answer_over, IsFew}
 use Rattle.query_run.specs.RowNames.{IdOf, Names, ids_of, known}
-use Rattle.query_run.specs.Collection.{Picks, KeyOf, Gathered, Counted, HasCollected, KeepsCollected, WasCut, FoundConflict, ConflictOf}
+use Rattle.query_run.specs.declared.metric_rows.MetricRows.{MetricRows}
+use Rattle.query_run.specs.Walks.{Picks, KeyOf, Counted, RowIsNamed, RowRange, AreRowsOf, picked_by, row_range}
+use Rattle.query_run.specs.Collection.{picks_in, Gathered, HasCollected, KeepsCollected, WasCut, FoundConflict, ConflictOf}
 use Rattle.query_run.specs.ResolvedIds.{AreResolved, IsUnresolved, UnresolvedBy}
 use Rattle.query_run.specs.SeriesTags.{ArePairs, CanTitle, Titles}
 use Rattle.cell_model.specs.Stops.{CountsStops}
 use Rattle.query_run.specs.AskFaults.{is_stop}
-use Rattle.query_run.specs.SubQuery.{AreCollected, GroupsSay, Later, SubRefused, SubSays}
+use Rattle.query_run.specs.SubQuery.{AreCollected, BuiltSays, GroupsSay, Later, SubRefused, SubSays}
 use Rattle.query_run.proofs.Lower as lower
-use Rattle.query_run.proofs.ScanLoop.{steps_joined, reads_steps}
+use Rattle.query_run.proofs.WalkSteps.{steps_joined, reads_steps}
 use Rattle.query_run.proofs.Shown.{readings_in, as_points}
-use Rattle.query_run.proofs.NameIds.{id_later, resolved_joined, unresolved_wider, unresolved_behind}
 use Rattle.query_run.proofs.FilterIds.{id_now, picks_by}
 use Rattle.query_run.proofs.RowReadings.{PicksBy}
 use Rattle.query_run.proofs.Standing.{named_in, one_to_one, stands_in}
 use Rattle.query_run.proofs.Conflicting.{StoodFound, found_stood, row_names, first_conflict_of}
+use Rattle.query_run.proofs.FewerRows.{by_ids, plain_same, scanned_fewer}
 use Rattle.query_run.proofs.Short.{few_rows, few_looks}
 
 -- ---- it can't be worked
 
-same_Some : {X : Type 0} (x y : X) → ◌≡◌ {A = Option X} (Some x) (Some y) → x ≡ y
-same_Some x y e = cc
-
-none_some : {X : Type 0} (x : X) → ◌≡◌ {A = Option X} None (Some x) → ⊥
-none_some x e = cc
-
-by_count : (count : ℕ) (fault : AskFault) (b : Bool) → nat_lt 1000000 count ≡ b → too_many count ≡ Some fault → fault ≡ TooManyBuckets count
-by_count count fault true e is = sym (same_Some (TooManyBuckets count) fault (sym (ap (λ b. if b then Some (TooManyBuckets count) else None) e) ∙ is))
-by_count count fault false e is = absurd (none_some fault (sym (ap (λ b. if b then Some (TooManyBuckets count) else None) e) ∙ is))
-
-barred_is : (down : Option Down) (start end : ℕ) (fault : AskFault) → barred_down start end down ≡ Some fault → (count : ℕ) × (fault ≡ TooManyBuckets count)
-barred_is None start end fault e = absurd (none_some fault e)
-barred_is (Some down) start end fault e = at down.fill e
-  where
-    at : (fill : Fill) → barred_by start end down.interval fill ≡ Some fault → (count : ℕ) × (fault ≡ TooManyBuckets count)
-    at NoFill e = absurd (none_some fault e)
-    at Zero e = (length (all_buckets down.interval start end), by_count (length (all_buckets down.interval start end)) fault (nat_lt 1000000 (length (all_buckets down.interval start end))) refl e)
-
-pub sub_barred : (q : Query) (s : Sub) (now : Seen) (fault : AskFault) → barred q s ≡ Some fault → SubRefused q s now fault now
-sub_barred q s now fault is = record {
+-- a sub query of which no entry was made is refused
+no_part : (q : Query) (s : Sub) (now : Seen) (fault : AskFault) → ((h : History) → Cause (wanted q) names_in (barred q) (answer_over q) (IsFew q) s (record { own = []; shown = [] }) now.length h fault) → SubRefused q s now fault now
+no_part q s now fault cause = record {
   part = record { own = []; shown = [] };
   made = lower.nothing_made now;
   steps = λ p c. absurd (lower.not_in p c);
-  cause = λ h lawful fits.
-      let w = barred_is s.down q.start q.end fault is in
-      subst (λ (e : AskFault). Cause (wanted q) names_in (barred q) (answer_over q) (IsFew q) s (record { own = []; shown = [] }) now.length h e) (sym w.1) (refl, is ∙ ap Some w.1);
+  cause = λ h lawful fits. cause h;
   few = λ h lawful fits. few_looks (names_in s) s.metric (base_time q.start) (base_time q.end) [] (first now.length h) (omega arith);
 }
+
+pub sub_unbuilt : (q : Query) (s : Sub) (now : Seen) (fault : AskFault) → BuiltSays q s (Err fault) → SubRefused q s now fault now
+sub_unbuilt q s now (TooManyBuckets count) is = no_part q s now (TooManyBuckets count) (λ h. (refl, is))
+sub_unbuilt q s now (BadFilter index) is = no_part q s now (BadFilter index) (λ h. (refl, is))
+sub_unbuilt q s now OutOfMemory is = no_part q s now OutOfMemory (λ h. tt)
+sub_unbuilt q s now Stopped is = absurd is
+sub_unbuilt q s now (Unknown kind name) is = absurd is
+sub_unbuilt q s now (Duplicate time a b) is = absurd is
+sub_unbuilt q s now (Overflow time) is = absurd is
+
+-- a stop is no bar
+pub unbuilt_stops : (q : Query) (s : Sub) (fault : AskFault) → BuiltSays q s (Err fault) → is_stop fault ≡ false
+unbuilt_stops q s (TooManyBuckets count) is = refl
+unbuilt_stops q s (BadFilter index) is = refl
+unbuilt_stops q s OutOfMemory is = refl
+unbuilt_stops q s Stopped is = absurd is
+unbuilt_stops q s (Unknown kind name) is = absurd is
+unbuilt_stops q s (Duplicate time a b) is = absurd is
+unbuilt_stops q s (Overflow time) is = absurd is
 
 -- ---- its names
 
@@ -98,7 +100,7 @@ abbrev metric_name : Sub → List NameOf
 metric_name s = (Metric, s.metric) ∷ []
 
 -- those before the first unknown one are resolved, in each lawful history that fits
-first_unknown : (names : List NameOf) (list : List Placed) (new : Seen) (h : History) → IsLawful h → Fits new h → (kind : Kind) (name : List ℕ) → UnresolvedBy names list new (Unknown kind name) → FirstUnknown names (kind, name) list (first new.length h)
+pub first_unknown : (names : List NameOf) (list : List Placed) (new : Seen) (h : History) → IsLawful h → Fits new h → (kind : Kind) (name : List ℕ) → UnresolvedBy names list new (Unknown kind name) → FirstUnknown names (kind, name) list (first new.length h)
 first_unknown names list new h lawful fits kind name u = record {
   before = u.before;
   after = u.after;
@@ -121,15 +123,21 @@ names_refused q s old new fault free u = record {
     at OutOfMemory x h lawful fits = tt
     at Stopped x h lawful fits = tt
     at (TooManyBuckets count) x h lawful fits = absurd x
+    at (BadFilter index) x h lawful fits = absurd x
     at (Duplicate time a b) x h lawful fits = absurd x
     at (Overflow time) x h lawful fits = absurd x
 
-pub metric_refused : (q : Query) (s : Sub) (old new : Seen) (fault : AskFault) → barred q s ≡ None → IsUnresolved old (metric_name s) fault new → SubRefused q s old fault new
-metric_refused q s old new fault free u = names_refused q s old new fault free (unresolved_wider old new (metric_name s) (flat_map filter_names s.filters) fault u)
+-- ---- what judges its values
 
-pub filters_refused : (q : Query) (s : Sub) (listed : List Filter) (old mid new : Seen) (fault : AskFault) → listed ≡ s.filters → barred q s ≡ None → AreResolved old (metric_name s) mid → IsUnresolved mid (flat_map filter_names listed) fault new → SubRefused q s old fault new
-filters_refused q s listed old mid new fault is free r u =
-    names_refused q s old new fault free (unresolved_behind old mid new (metric_name s) (flat_map filter_names s.filters) fault r (subst (λ (l : List Filter). IsUnresolved mid (flat_map filter_names l) fault new) is u))
+zip_long : {A B : Type 0} (R : A → B → Type 0) (xs : List A) (ys : List B) → AllZip R xs ys → length xs ≡ length ys
+zip_long R [] [] z = refl
+zip_long R [] (y ∷ ys) z = absurd z
+zip_long R (x ∷ xs) [] z = absurd z
+zip_long R (x ∷ xs) (y ∷ ys) z = let n = zip_long R xs ys z.1 in omega (arith, n)
+
+-- there are as many as filters by ids
+pub judges_as_many : (s : Sub) (seen : Seen) (list : List IdFilter) (judges : List ValueJudge) → AreIdFilters seen s.filters list → filters_of judges ≡ s.filters → length judges ≡ length list
+judges_as_many s seen list judges by same = sym (length-map judges (λ (j : ValueJudge). j.judge)) ∙ ap length same ∙ zip_long (IsIdFilter seen) s.filters list by
 
 -- ---- what stands of the names in a later history
 
@@ -140,24 +148,18 @@ pub record Begun (s : Sub) (id : ℕ) (filters : List IdFilter) (old mid new : S
   pub by : AreIdFilters mid s.filters filters
   pub made : Made mid own new
 
--- by what was said of the metric's name, and of the filters that were listed
-pub begun : (s : Sub) (id : ℕ) (listed : List Filter) (items filters : List IdFilter) (old now mid new : Seen) (own : List Placed) → listed ≡ s.filters → filters ≡ items → AreResolved old (metric_name s) now × HasShown now Metric s.metric id
-    → AreResolved now (flat_map filter_names listed) mid × AreIdFilters mid listed items → Made mid own new → Begun s id filters old mid new own
-begun s id listed items filters old now mid new own listed_is filters_are (metric, shown) (names, by) made = record {
-  resolved = resolved_joined old now mid (metric_name s) (flat_map filter_names s.filters) metric (subst (λ (l : List Filter). AreResolved now (flat_map filter_names l) mid) listed_is names);
-  metric = id_later now mid Metric s.metric id names.made.since.extends shown;
-  by = subst (λ (l : List Filter). AreIdFilters mid l filters) listed_is (subst (AreIdFilters mid listed) (sym filters_are) by);
-  made = made;
-}
+-- by what was said when the rows were begun
+pub begun : (s : Sub) (start end : ℕ) (rows : MetricRows) (old mid new : Seen) (own : List Placed) → AreResolved old (names_in s) mid → (a : AreRowsOf s start end mid rows) → Made mid own new → Begun s a.id rows.filters.items old mid new own
+begun s start end rows old mid new own resolved a made = record { resolved = resolved; metric = a.metric; by = a.by; made = made }
 
 module _ (s : Sub) (id : ℕ) (filters : List IdFilter) (old mid new : Seen) (own : List Placed) (b : Begun s id filters old mid new own) where
   abbrev looks : List Placed
   looks = b.resolved.list
 
-  made_all : Made old (looks ++ own) new
+  pub made_all : Made old (looks ++ own) new
   made_all = lower.made_joined old mid new looks own b.resolved.made b.made
 
-  steps_all : AreQuerySteps own → AreQuerySteps (looks ++ own)
+  pub steps_all : AreQuerySteps own → AreQuerySteps (looks ++ own)
   steps_all steps = steps_joined looks own (reads_steps looks b.resolved.looks.reads) steps
 
   -- in each later history, up to what is seen
@@ -165,60 +167,64 @@ module _ (s : Sub) (id : ℕ) (filters : List IdFilter) (old mid new : Seen) (ow
     abbrev g : History
     g = first later.length h
 
-    g_lawful : IsLawful g
+    pub g_lawful : IsLawful g
     g_lawful = lower.first_lawful h later.length lawful
 
-    g_fits : Fits later g
+    pub g_fits : Fits later g
     g_fits = lower.first_fits later h fits
 
     from_mid : Extends mid later
     from_mid = lower.extends_joined mid new later b.made.since.extends ext
 
-    metric_known : id_of g Metric s.metric ≡ Some id
+    pub metric_known : id_of g Metric s.metric ≡ Some id
     metric_known = b.metric.stands later from_mid g g_lawful g_fits
 
-    metric_named : name_of g Metric id ≡ Some s.metric
+    pub metric_named : name_of g Metric id ≡ Some s.metric
     metric_named = lower.names_back g Metric s.metric id g_lawful b.metric.is_name metric_known
 
     -- the widths that were seen are those of the history and of its beginning
-    widths_in : mid.base.widths ≡ (store_after h).widths
+    pub widths_in : mid.base.widths ≡ (store_after h).widths
     widths_in = ap (λ (x : Store). x.widths) (sym from_mid.base) ∙ lower.seen_widths later h fits
 
-    widths_here : mid.base.widths ≡ (store_after g).widths
+    pub widths_here : mid.base.widths ≡ (store_after g).widths
     widths_here = ap (λ (x : Store). x.widths) (sym from_mid.base) ∙ lower.seen_widths later g g_fits
 
-    counted_here : (spare start end : ℕ) (founds : List Found) (ids : List IdOf) → Counted spare mid.base.widths id start end own founds ids → Counted spare (store_after g).widths id start end own founds ids
+    pub counted_here : (spare start end : ℕ) (founds : List Found) (ids : List IdOf) → Counted spare mid.base.widths id start end own founds ids → Counted spare (store_after g).widths id start end own founds ids
     counted_here spare start end founds ids c = subst (λ (w : Widths). Counted spare w id start end own founds ids) widths_here c
 
-    all_resolved : AllResolved g (names_in s)
+    pub all_resolved : AllResolved g (names_in s)
     all_resolved n c = let w = b.resolved.shown n c in (w.0, w.1.stands later from_mid g g_lawful g_fits)
 
-    in_order : InOrder h later.length (looks ++ own)
+    pub in_order : InOrder h later.length (looks ++ own)
     in_order =
         let o = lower.made_stands old new (looks ++ own) h made_all (ext.fits h fits) in
         let longer = ext.length in
         record { rising = o.rising; each = λ q c. let w = o.each q c in (let le = w.0 in omega (arith, le, longer), w.1) }
 
-    stood : (spare : ℕ) (widths : Widths) (start end : ℕ) (founds : List Found) (ids : List IdOf) → Counted spare widths id start end own founds ids → (f : Found) → Contains founds f → StoodFound h later.length f
+    pub stood : (spare : ℕ) (widths : Widths) (start end : ℕ) (founds : List Found) (ids : List IdOf) → Counted spare widths id start end own founds ids → (f : Found) → Contains founds f → StoodFound h later.length f
     stood spare widths start end founds ids counted f c =
         let x = found_stood spare widths id start end mid new own founds ids h counted b.made lawful (ext.fits h fits) f c in
         let le = x.up_to in
         let longer = ext.length in
         record { when = x.when; up_to = omega (arith, le, longer); has = x.has }
 
-    -- the filters by ids pick the rows that were found as the filters by names do
-    pick : (spare start end : ℕ) (founds : List Found) (ids : List IdOf) → Counted spare (store_after g).widths id start end own founds ids → (f : Found) (key : RowKey) → Contains founds f → KeyOf (store_after g).widths id start end f key → PicksBy (passes filters) s.filters (name_of g) key
+    -- the rows that were found are picked as the filters by names pick them
+    pub pick : (spare start end : ℕ) (founds : List Found) (ids : List IdOf) → Counted spare (store_after g).widths id start end own founds ids → (f : Found) (key : RowKey) → Contains founds f → KeyOf (store_after g).widths id start end f key → PicksBy (picks_in filters s.filters g) s.filters (name_of g) key
     pick spare start end founds ids counted f key c of =
         picks_by g mid (λ kind name i shown. id_now mid later g kind name i from_mid g_lawful g_fits shown) s.filters filters key b.by of.is_key
         (row_names h later.length (store_after g).widths id start end f key lawful (stood spare (store_after g).widths start end founds ids counted f c) of)
 
     -- and the rows that are there
-    pick_row : (key : RowKey) → IsKey (store_after g).widths key → HasCell (store_after g) (point_row (key_bytes (store_after g).widths key)) → PicksBy (passes filters) s.filters (name_of g) key
+    pub pick_row : (key : RowKey) → IsKey (store_after g).widths key → HasCell (store_after g) (point_row (key_bytes (store_after g).widths key)) → PicksBy (picks_in filters s.filters g) s.filters (name_of g) key
     pick_row key is has =
         picks_by g mid (λ kind name i shown. id_now mid later g kind name i from_mid g_lawful g_fits shown) s.filters filters key b.by is
         (lower.row_stood h later.length later.length (key_bytes (store_after g).widths key) has.0 has.1 lawful (omega arith) has.2)
 
-  few_later : (q : Query) (founds : List Found) (ids : List IdOf) → Counted 1 mid.base.widths id q.start q.end own founds ids → Later new (λ end h. IsFew q s (looks ++ own) (first end h))
+    -- where no test is of text, the filters by ids alone pick so
+    pub plain_row : list_any (λ f. is_of_text f.test) s.filters ≡ false → (key : RowKey) → IsKey (store_after g).widths key → HasCell (store_after g) (point_row (key_bytes (store_after g).widths key)) → PicksBy (passes filters) s.filters (name_of g) key
+    plain_row plain key is has tags named = sym (plain_same filters s.filters g key.pairs.items plain) ∙ pick_row key is has tags named
+
+  pub few_later : (q : Query) (founds : List Found) (ids : List IdOf) → Counted 1 mid.base.widths id q.start q.end own founds ids → Later new (λ end h. IsFew q s (looks ++ own) (first end h))
   few_later q founds ids counted later ext h lawful fits =
       let here = counted_here later ext h lawful fits 1 q.start q.end founds ids counted in
       few_rows (names_in s) q.start q.end s.metric id looks own founds ids h later.length b.resolved.looks.few here lawful (metric_known later ext h lawful fits) (stood later ext h lawful fits 1 (store_after (first later.length h)).widths q.start q.end founds ids here)
@@ -227,10 +233,10 @@ module _ (s : Sub) (id : ℕ) (filters : List IdFilter) (old mid new : Seen) (ow
 
 found_in_own : (picks : Picks) (spare : ℕ) (widths : Widths) (id start end : ℕ) (own : List Placed) (founds : List Found) (ids : List IdOf) (time : ℕ) (a b : ℤ) → Counted spare widths id start end own founds ids → (f : FoundConflict picks widths id start end own time a b) → Contains founds f.found
 found_in_own picks spare widths id start end own founds ids time a b c f =
-    c.shows f.last f.found (subst (λ (l : List Placed). Contains l f.last) (sym f.cut) (Contains-append_right f.earlier (f.last ∷ []) f.last (lower.here f.last []))) f.reply
+    c.shows f.at f.found (subst (λ (l : List Placed). Contains l f.at) (sym f.cut) (Contains-append_right f.earlier (f.at ∷ f.later) f.at (lower.here f.at f.later))) f.reply
 
 module _ (q : Query) (s : Sub) (old mid new : Seen) (id : ℕ) (filters : List IdFilter) (free : barred q s ≡ None) where
-  pub collect_refused : (fault : AskFault) (c : WasCut (passes filters) id q.start q.end mid fault new) → Begun s id filters old mid new c.own → SubRefused q s old fault new
+  pub collect_refused : (fault : AskFault) (c : WasCut (row_range id q.start q.end mid) filters s.filters fault new) → Begun s id filters old mid new c.own → SubRefused q s old fault new
   collect_refused fault c b = at fault c.cause
     where
       refused : (e : AskFault) → InEach new (λ h. Cause (wanted q) names_in (barred q) (answer_over q) (IsFew q) s (record { own = b.resolved.list ++ c.own; shown = [] }) new.length h e) → SubRefused q s old e new
@@ -242,13 +248,15 @@ module _ (q : Query) (s : Sub) (old mid new : Seen) (id : ℕ) (filters : List I
         few = λ h lawful fits. few_later s id filters old mid new c.own b q c.founds c.ids c.counted new (lower.itself new) h lawful fits;
       }
 
-      at : (e : AskFault) → ConflictOf (passes filters) mid.base.widths id q.start q.end c.own e → SubRefused q s old e new
+      at : (e : AskFault) → InEach new (λ g. ConflictOf (picks_in filters s.filters g) mid.base.widths id q.start q.end c.own e) → SubRefused q s old e new
       at (Duplicate time x y) its =
           refused (Duplicate time x y) (λ h lawful fits.
           let widths = (store_after (first new.length h)).widths in
+          let picks = picks_in filters s.filters (first new.length h) in
           let counted = counted_here s id filters old mid new c.own b new (lower.itself new) h lawful fits 1 q.start q.end c.founds c.ids c.counted in
-          let f = subst (λ (w : Widths). FoundConflict (passes filters) w id q.start q.end c.own time x y) (widths_here s id filters old mid new c.own b new (lower.itself new) h lawful fits) its in
-          let found = found_in_own (passes filters) 1 widths id q.start q.end c.own c.founds c.ids time x y counted f in
+          let shown = its (first new.length h) (g_lawful s id filters old mid new c.own b new (lower.itself new) h lawful fits) (g_fits s id filters old mid new c.own b new (lower.itself new) h lawful fits) in
+          let f = subst (λ (w : Widths). FoundConflict picks w id q.start q.end c.own time x y) (widths_here s id filters old mid new c.own b new (lower.itself new) h lawful fits) shown in
+          let found = found_in_own picks 1 widths id q.start q.end c.own c.founds c.ids time x y counted f in
           let stand = stood s id filters old mid new c.own b new (lower.itself new) h lawful fits 1 widths q.start q.end c.founds c.ids counted f.found found in
           let resolved = all_resolved s id filters old mid new c.own b new (lower.itself new) h lawful fits in
           let named = metric_named s id filters old mid new c.own b new (lower.itself new) h lawful fits in
@@ -257,50 +265,53 @@ module _ (q : Query) (s : Sub) (old mid new : Seen) (id : ℕ) (filters : List I
           let row = row_names h new.length widths id q.start q.end f.found f.conflict.key lawful stand f.conflict.of in (
             free,
             resolved,
-            first_conflict_of (passes filters) h new.length q.start q.end s.metric s.filters id b.resolved.list c.own time x y lawful order b.resolved.looks.reads f (pick_row s id filters old mid new c.own b new (lower.itself new) h lawful fits) named known row
+            first_conflict_of picks h new.length q.start q.end s.metric s.filters id b.resolved.list c.own time x y lawful order b.resolved.looks.reads f (pick_row s id filters old mid new c.own b new (lower.itself new) h lawful fits) named known row
                 (λ other key shows of. pick s id filters old mid new c.own b new (lower.itself new) h lawful fits 1 q.start q.end c.founds c.ids counted other key (counted.shows shows.placed other shows.among shows.reply) of),
           ))
-      at OutOfMemory f = refused OutOfMemory (λ h lawful fits. tt)
-      at Stopped f = refused Stopped (λ h lawful fits. tt)
-      at (TooManyBuckets count) f = absurd f
-      at (Unknown kind name) f = absurd f
-      at (Overflow time) f = absurd f
+      at OutOfMemory its = refused OutOfMemory (λ h lawful fits. tt)
+      at Stopped its = refused Stopped (λ h lawful fits. tt)
+      at (TooManyBuckets count) its = refused (TooManyBuckets count) (λ h lawful fits. absurd (its h lawful fits))
+      at (BadFilter index) its = refused (BadFilter index) (λ h lawful fits. absurd (its h lawful fits))
+      at (Unknown kind name) its = refused (Unknown kind name) (λ h lawful fits. absurd (its h lawful fits))
+      at (Overflow time) its = refused (Overflow time) (λ h lawful fits. absurd (its h lawful fits))
 
 -- ---- the groups
 
 -- the ids of a series with a point are those of a row
-pairs_titled : (picks : Picks) (widths : Widths) (id start end : ℕ) (founds : List Found) (spans : List Span) (names : Names) → Gathered picks widths id start end founds spans names → (s : Span) → Contains spans s → ArePairs names s.0
-pairs_titled picks widths id start end founds spans names g s c = at s.1 refl (g.some s c)
+pairs_titled : (list : List IdFilter) (filters : List Filter) (g : History) (widths : Widths) (id start end : ℕ) (founds : List Found) (spans : List Span) (names : Names) → Gathered (picks_in list filters g) widths id start end founds spans
+    → ((f : Found) → Contains founds f → RowIsNamed (passes list) widths id start end names f) → (s : Span) → Contains spans s → ArePairs names s.0
+pairs_titled list filters g widths id start end founds spans names gathered have s c = at s.1 refl (gathered.some s c)
   where
     at : (dots : List (ℕ × ℤ)) → s.1 ≡ dots → 1 ≤ length s.1 → ArePairs names s.0
     at [] e some = let n = ap length e in absurd (omega (arith, some, n))
     at (d ∷ dots) e some =
-        let w = g.from s d c (subst (λ (l : List (ℕ × ℤ)). Contains l d) (sym e) (lower.here d dots)) in
-        let row = g.rows w.found w.among in
+        let w = gathered.from s d c (subst (λ (l : List (ℕ × ℤ)). Contains l d) (sym e) (lower.here d dots)) in
+        let row = have w.found w.among in
         let same : row.key ≡ w.key = lower.one_key widths row.key w.key row.of.is_key w.of.is_key (ap (λ x. x.bytes) (sym row.of.row_is ∙ w.of.row_is)) in
+        let picked : passes list w.key.pairs.items ≡ true = by_ids list filters g w.key.pairs.items w.picked in
         subst (ArePairs names) w.pairs_are (record {
           some = w.of.is_key.some;
           most = w.of.is_key.most;
           rising = w.of.is_key.rising;
-          named = λ i x. (row.is_in (subst (λ (k : RowKey). picks k.pairs.items ≡ true) (sym same) w.picked)).named i (subst (λ (k : RowKey). Contains (ids_of k.pairs.items) i) (sym same) x);
+          named = λ i x. row.named (subst (λ (k : RowKey). passes list k.pairs.items ≡ true) (sym same) picked) i (subst (λ (k : RowKey). Contains (ids_of k.pairs.items) i) (sym same) x);
         })
 
-can_title : (picks : Picks) (id start end : ℕ) (old new : Seen) (spans : List Span) (names : Names) → HasCollected picks id start end old spans names new → IsPossible new → CanTitle names spans
-can_title picks id start end old new spans names c p = record {
-  one = one_to_one names new p.history c.shown p.lawful p.fits;
-  each = pairs_titled picks old.base.widths id start end c.founds spans names c.content;
+can_title : (r : RowRange) (list : List IdFilter) (filters : List Filter) (new : Seen) (spans : List Span) (names : Names) → HasCollected r list filters spans names new → IsPossible new → CanTitle names spans
+can_title r list filters new spans names c p = record {
+  one = one_to_one names new p.history c.all.shown p.lawful p.fits;
+  each = pairs_titled list filters p.history r.begun.base.widths r.id r.start r.end c.founds spans names (c.content p.history p.lawful p.fits) c.all.named;
 }
 
-pub are_collected : (picks : Picks) (how : Option Down) (q : Query) (s : Sub) (id : ℕ) (old new : Seen) (c : Collected) → how ≡ down_by q.ms s.how s.down → (k : KeepsCollected picks how id q.start q.end old c new) → IsPossible new → AreCollected q s c k.spans
-are_collected picks how q s id old new c is k p = record {
+pub are_collected : (list : List IdFilter) (how : Option Down) (q : Query) (s : Sub) (id : ℕ) (old new : Seen) (c : Collected) → how ≡ down_by q.ms s.how s.down → (k : KeepsCollected (row_range id q.start q.end old) list s.filters how c new) → IsPossible new → AreCollected q s c k.spans
+are_collected list how q s id old new c is k p = record {
   keeps = subst (λ (h : Option Down). KeepsSpans h c.spans k.spans) is k.keeps;
-  names = can_title picks id q.start q.end old new k.spans (known c.names) k.collected p;
-  some = k.collected.content.some;
-  within = λ x d i j. (k.collected.content.from x d i j).within;
+  names = can_title (row_range id q.start q.end old) list s.filters new k.spans (known c.names) k.collected p;
+  some = (k.collected.content p.history p.lawful p.fits).some;
+  within = λ x d i j. ((k.collected.content p.history p.lawful p.fits).from x d i j).within;
 }
 
 -- the part of a sub query that was read to its end
-module _ (q : Query) (s : Sub) (old mid new : Seen) (id : ℕ) (filters : List IdFilter) (free : barred q s ≡ None) (spans : List Span) (names : Names) (covering : ScanCovers) (c : HasCollected (passes filters) id q.start q.end mid spans names new) (b : Begun s id filters old mid new c.own) where
+module _ (q : Query) (s : Sub) (old mid new : Seen) (id : ℕ) (filters : List IdFilter) (free : barred q s ≡ None) (spans : List Span) (names : Names) (covering : ScanCovers) (c : HasCollected (row_range id q.start q.end mid) filters s.filters spans names new) (b : Begun s id filters old mid new c.own) where
   whole_part : List Series → Part
   whole_part series = record { own = b.resolved.list ++ c.own; shown = readings_in s.metric series }
 
@@ -311,12 +322,13 @@ module _ (q : Query) (s : Sub) (old mid new : Seen) (id : ℕ) (filters : List I
       let gl = g_lawful s id filters old mid new c.own b later ext h lawful fits in
       let gf = g_fits s id filters old mid new c.own b later ext h lawful fits in
       let here = widths_here s id filters old mid new c.own b later ext h lawful fits in
-      let counted = counted_here s id filters old mid new c.own b later ext h lawful fits 1 q.start q.end c.founds c.ids c.counted in
-      let content = subst (λ (w : Widths). Gathered (passes filters) w id q.start q.end c.founds spans names) here c.content in
-      let starts = subst (λ (w : Widths). IsStart w id (base_time q.start) (base_time q.end) c.begin) (widths_in s id filters old mid new c.own b later ext h lawful fits) c.starts in
-      stands_in (passes filters) q.start q.end s.metric s.filters id b.resolved.list c.own c.founds c.ids spans names series g b.resolved.looks.reads counted content titles (metric_named s id filters old mid new c.own b later ext h lawful fits)
-      (metric_known s id filters old mid new c.own b later ext h lawful fits) (λ pairs tags n. named_in names new later g pairs tags c.shown ext gl gf n) (pick s id filters old mid new c.own b later ext h lawful fits 1 q.start q.end c.founds c.ids counted)
-      (pick_row s id filters old mid new c.own b later ext h lawful fits) h later.length refl covering lawful (in_order s id filters old mid new c.own b later ext h lawful fits) c.begin starts c.whole (names_in s) (all_resolved s id filters old mid new c.own b later ext h lawful fits)
+      let counted = counted_here s id filters old mid new c.own b later ext h lawful fits 1 q.start q.end c.founds c.all.ids c.all.counted in
+      let picks = picks_in filters s.filters g in
+      let content = subst (λ (w : Widths). Gathered picks w id q.start q.end c.founds spans) here (c.content g gl (ext.fits g gf)) in
+      let starts = subst (λ (w : Widths). IsStart w id (base_time q.start) (base_time q.end) c.all.begin) (widths_in s id filters old mid new c.own b later ext h lawful fits) c.all.starts in
+      stands_in picks q.start q.end s.metric s.filters id b.resolved.list c.own c.founds c.all.ids spans names series g b.resolved.looks.reads counted content titles (metric_named s id filters old mid new c.own b later ext h lawful fits)
+      (metric_known s id filters old mid new c.own b later ext h lawful fits) (λ pairs tags n. named_in names new later g pairs tags c.all.shown ext gl gf n) (pick s id filters old mid new c.own b later ext h lawful fits 1 q.start q.end c.founds c.all.ids counted)
+      (pick_row s id filters old mid new c.own b later ext h lawful fits) h later.length refl covering lawful (in_order s id filters old mid new c.own b later ext h lawful fits) c.all.begin starts (scanned_fewer (picked_by (passes filters)) (picked_by picks) (λ key e. by_ids filters s.filters g key.pairs.items e) c.all.whole) (names_in s) (all_resolved s id filters old mid new c.own b later ext h lawful fits)
 
   same_answer : (series : List Series) (wants : Result (List Group) ℕ) → answer q s (points_in s.metric series) ≡ wants → answer_over q s (readings_in s.metric series) ≡ wants
   same_answer series wants e = ap (answer q s) (as_points s.metric series) ∙ e
@@ -326,9 +338,9 @@ module _ (q : Query) (s : Sub) (old mid new : Seen) (id : ℕ) (filters : List I
   refused_whole fault shown cause = record {
     part = whole_part shown;
     made = made_all s id filters old mid new c.own b;
-    steps = steps_all s id filters old mid new c.own b c.counted.steps;
+    steps = steps_all s id filters old mid new c.own b c.all.counted.steps;
     cause = cause;
-    few = λ h lawful fits. few_later s id filters old mid new c.own b q c.founds c.ids c.counted new (lower.itself new) h lawful fits;
+    few = λ h lawful fits. few_later s id filters old mid new c.own b q c.founds c.all.ids c.all.counted new (lower.itself new) h lawful fits;
   }
 
   pub groups_answered : (result : Result (Vec code.Group) AskFault) → GroupsSay q s names spans result → SubSays q s old result new
@@ -336,17 +348,18 @@ module _ (q : Query) (s : Sub) (old mid new : Seen) (id : ℕ) (filters : List I
   groups_answered (Ok groups) (series, titles, e) = record {
     part = whole_part series;
     made = made_all s id filters old mid new c.own b;
-    steps = steps_all s id filters old mid new c.own b c.counted.steps;
+    steps = steps_all s id filters old mid new c.own b c.all.counted.steps;
     free = free;
     stands = part_stands series titles;
     answers = same_answer series (Ok (map plain groups.items)) e;
-    few = few_later s id filters old mid new c.own b q c.founds c.ids c.counted;
+    few = few_later s id filters old mid new c.own b q c.founds c.all.ids c.all.counted;
   }
   groups_answered (Err (Overflow time)) (series, titles, e) =
       refused_whole (Overflow time) series (λ h lawful fits. (free, part_stands series titles new (lower.itself new) h lawful fits, same_answer series (Err time) e))
   groups_answered (Err OutOfMemory) x = refused_whole OutOfMemory [] (λ h lawful fits. tt)
   groups_answered (Err Stopped) x = absurd x
   groups_answered (Err (TooManyBuckets count)) x = absurd x
+  groups_answered (Err (BadFilter index)) x = absurd x
   groups_answered (Err (Unknown kind name)) x = absurd x
   groups_answered (Err (Duplicate time a z)) x = absurd x
 
@@ -357,5 +370,6 @@ groups_stops q s names spans (Err (Overflow time)) before now says grows = recor
 groups_stops q s names spans (Err OutOfMemory) before now says grows = record { grows = grows; rose = tt }
 groups_stops q s names spans (Err Stopped) before now says grows = absurd says
 groups_stops q s names spans (Err (TooManyBuckets count)) before now says grows = absurd says
+groups_stops q s names spans (Err (BadFilter index)) before now says grows = absurd says
 groups_stops q s names spans (Err (Unknown kind name)) before now says grows = absurd says
 groups_stops q s names spans (Err (Duplicate time a z)) before now says grows = absurd says

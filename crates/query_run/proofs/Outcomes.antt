@@ -28,7 +28,7 @@ use Rattle.query_text.specs.declared.queries.Sub.{Sub}
 use Rattle.row_scan.specs.RowReadings.{RowReads}
 use Rattle.uid_table.specs.IdSteps.{DidLook}
 use Rattle.query_run.specs.declared.fault.AskFault.{AskFault}
-use Rattle.query_run.specs.declared.fault.AskFault.TheVariants.{TooManyBuckets, Unknown, Duplicate, Overflow, OutOfMemory, Stopped}
+use Rattle.query_run.specs.declared.fault.AskFault.TheVariants.{TooManyBuckets, BadFilter, Unknown, Duplicate, Overflow, OutOfMemory, Stopped}
 use Rattle.query_run.specs.Asked.{Cause}
 use Rattle.query_run.specs.Invisible.{AcceptedFor, IsSettled}
 use Rattle.query_run.specs.Parts.{NameOf, IsResolved, AllResolved, PartStands, FirstUnknown, HasConflict, FirstConflict}
@@ -255,6 +255,7 @@ module _ (h : History) (from to : ℕ) (lawful : IsLawful h) (le : from ≤ to) 
 
     pub refused_so : (shown : List Reading) (fault : AskFault) → Cause (wanted q) names_in (barred q) (answer_over q) (IsFew q) s (record { own = own; shown = shown }) to h fault → Comes q s began (Err fault)
     refused_so shown (TooManyBuckets count) c = many (TooManyBuckets count) c.1 refl
+    refused_so shown (BadFilter index) c = many (BadFilter index) c.1 refl
     refused_so shown (Unknown kind name) c = lacks (kind, name) c.0 (first_unresolved kind name c.1) refl
     refused_so shown (Duplicate time a b) c = absurd (no_conflict_of h to lawful own stand_in q s (store_after (first (before_first own to) h)) time a b one_later c.2)
     refused_so shown (Overflow time) c = over (Err time) (part_over shown (Err time) c.0 c.1 c.2) refl

@@ -15,7 +15,7 @@ use Rattle.cell_model.specs.Store.{is_between}
 use Rattle.cell_model.specs.History.{History, first, store_after, entry_at}
 use Rattle.cell_model.specs.Lawful.{IsLawful}
 use Rattle.row_scan.specs.Scans.{Left, IsNext, HasCell, IsWanted, Skips, left_at, behind}
-use Rattle.query_run.specs.Collection.{Picks, StandAfter, FoundBelow, picked_by}
+use Rattle.query_run.specs.Walks.{Picks, StandAfter, FoundBelow, picked_by}
 use Rattle.query_run.proofs.Lower as lower
 
 pub less_not : (r : Ordering) → r ≡ Less → is_lt r ≡ false → ⊥

@@ -22,10 +22,11 @@ use Rattle.cell_model.specs.Readings.{Reading, OneValued, Named}
 use Rattle.qual_codec.specs.Merge.{AreDots, values_at}
 use Rattle.row_scan.specs.RowReadings.{RowReads, Chosen, BySeries}
 use Rattle.query_text.specs.declared.queries.Filter.{Filter}
-use Rattle.group_by.specs.TagFilters.{passes}
+use Rattle.tag_match.specs.Patterns.{passes}
 use Rattle.query_run.specs.AskedQueries.{is_wanted}
 use Rattle.query_run.specs.RowDots.{IsIn}
-use Rattle.query_run.specs.Collection.{Picks, KeyOf, RowIsConflictFree}
+use Rattle.query_run.specs.Walks.{Picks, KeyOf}
+use Rattle.query_run.specs.Collection.{RowIsConflictFree}
 use Rattle.query_run.proofs.Lower as lower
 use Rattle.query_run.proofs.RowPoints.{one_value}
 

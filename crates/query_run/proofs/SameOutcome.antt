@@ -10,7 +10,7 @@ use Rattle.query_text.specs.declared.queries.Query.{Query}
 use Rattle.query_text.specs.declared.queries.Sub.{Sub}
 use Rattle.query_run.specs.declared.fault.AskFault.{AskFault}
 use Rattle.query_run.specs.declared.fault.AskFault.TheVariants.{Unknown}
-use Rattle.query_run.specs.QueryAnswers.{as_point}
+use Rattle.query_run.specs.AskedQueries.{as_point}
 use Rattle.query_run.specs.Invisible.{AcceptedFor, IsSettled}
 use Rattle.query_run.specs.Laws.{AnswerIsUnordered}
 use Rattle.query_run.specs.Parts.{NameOf, IsResolved}

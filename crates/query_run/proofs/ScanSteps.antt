@@ -31,7 +31,7 @@ use Rattle.cell_model.specs.Seen.{Seen, IsPossible, Fits}
 use Rattle.cell_model.specs.Deeds.{Made}
 use Rattle.row_scan.specs.Scans.{Left, IsNext, left_at, behind}
 use Rattle.query_run.specs.RowNames.{KnowsPair}
-use Rattle.query_run.specs.Collection.{FoundRow, OnlyRows}
+use Rattle.query_run.specs.Walks.{FoundRow, OnlyRows}
 use Rattle.query_run.proofs.Lower as lower
 use Rattle.query_run.proofs.Titles.{pairs_total}
 

@@ -13,7 +13,7 @@ use Rattle.cell_model.specs.IdRows.{id_of}
 use Rattle.cell_model.specs.Lawful.{IsLawful}
 use Rattle.query_run.specs.Parts.{NameOf, IsShort}
 use Rattle.query_run.specs.RowNames.{IdOf, ids_of}
-use Rattle.query_run.specs.Collection.{Counted}
+use Rattle.query_run.specs.Walks.{Counted}
 use Rattle.query_run.proofs.Lower as lower
 use Rattle.query_run.proofs.Conflicting.{StoodFound}
 

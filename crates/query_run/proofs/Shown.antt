@@ -7,9 +7,9 @@ use Rattle.std.proofs.lemmas.List.Elements.{Contains-append_left, Contains-appen
 use Rattle.tsd_base.specs.TagList.{Pair}
 use Rattle.tsd_base.specs.Points.{DataPoint}
 use Rattle.cell_model.specs.Readings.{Reading}
-use Rattle.query_run.specs.NamedSeries.{Series}
-use Rattle.query_run.specs.QueryAnswers.{as_point}
-use Rattle.query_run.specs.NamedSeries.{points_in}
+use Rattle.series_groups.specs.NamedSeries.{Series}
+use Rattle.query_run.specs.AskedQueries.{as_point}
+use Rattle.series_groups.specs.NamedSeries.{points_in}
 use Rattle.query_run.proofs.Lower as lower
 
 abbrev pub reading_at : List ℕ → List Pair → ℕ × ℤ → Reading

@@ -13,7 +13,7 @@ use Rattle.cell_model.specs.Readings.{point_row}
 use Rattle.cell_model.specs.Store.{is_between}
 use Rattle.list_lemmas.specs.BytesOrder.{bytes_cmp}
 use Rattle.row_scan.specs.Scans.{Left, Skips, left_at}
-use Rattle.query_run.specs.Collection.{Picks, GoesOn, picked_by}
+use Rattle.query_run.specs.Walks.{Picks, GoesOn, picked_by}
 use Rattle.query_run.specs.KeyJumps.{JumpsOver}
 use Rattle.query_run.proofs.Lower as lower
 use Rattle.query_run.proofs.Passing.{less_not}

@@ -20,17 +20,18 @@ use Rattle.row_scan.specs.Scans.{Left, IsStart, HasCell, Wanting, Scanned}
 use Rattle.row_scan.specs.RowReadings.{ShowsRow, ShowsReading, Chosen, AsksWithin, AsksOfWanted, NoConflict, OwnCovers}
 use Rattle.row_scan.specs.Laws.{ScanCovers}
 use Rattle.span_merge.specs.Spans.{Span, dots_of}
-use Rattle.query_run.specs.NamedSeries.{Series}
+use Rattle.series_groups.specs.NamedSeries.{Series}
 use Rattle.query_text.specs.declared.queries.Filter.{Filter}
 use Rattle.query_run.specs.Parts.{NameOf, AllResolved, PartStands}
 use Rattle.query_run.specs.AskedQueries.{is_wanted}
 use Rattle.query_run.specs.RowNames.{IdOf, Names, AllNamed, AreReads}
 use Rattle.query_run.specs.RowDots.{IsIn, dot_at}
-use Rattle.query_run.specs.Collection.{Picks, AreIn, Counted, Gathered, KeyOf, picked_by}
+use Rattle.query_run.specs.Walks.{Picks, Counted, KeyOf, picked_by}
+use Rattle.query_run.specs.Collection.{AreIn, Gathered}
 use Rattle.query_run.specs.SeriesTags.{Titles, OneToOne}
 use Rattle.query_run.proofs.Lower as lower
 use Rattle.query_run.proofs.Contents.{dot_stands, row_conflict_free}
-use Rattle.query_run.proofs.ScanLoop.{reads_other, reads_show_none}
+use Rattle.query_run.proofs.WalkSteps.{reads_other, reads_show_none}
 use Rattle.query_run.proofs.RowReadings.{Asks, PicksBy, asks, is_asked, by_series, hours_within, ReadsDot, reads_dot, read_tags, dot_reads, conflict_free_row, same_tags}
 use Rattle.query_run.proofs.Shown.{reading_at, readings_in, reading_of, of_reading}
 
@@ -78,7 +79,7 @@ reading_among metric tags d r list m t i v c =
 -- ---- one history
 
 module _ (picks : Picks) (start end : ℕ) (metric : List ℕ) (filters : List Filter) (id : ℕ) (looks own : List Placed) (founds : List Found) (ids : List IdOf) (spans : List Span) (names : Names) (series : List Series) (g : History)
-    (reads : AreReads looks) (counted : Counted 1 (store_after g).widths id start end own founds ids) (content : Gathered picks (store_after g).widths id start end founds spans names) (titles : Titles names spans series)
+    (reads : AreReads looks) (counted : Counted 1 (store_after g).widths id start end own founds ids) (content : Gathered picks (store_after g).widths id start end founds spans) (titles : Titles names spans series)
     (metric_named : name_of g Metric id ≡ Some metric) (metric_known : id_of g Metric metric ≡ Some id) (tags_named : (pairs : List (ℕ × ℕ)) (tags : List Pair) → Named names pairs tags → Named (name_of g) pairs tags)
     (by : (f : Found) (key : RowKey) → Contains founds f → KeyOf (store_after g).widths id start end f key → PicksBy picks filters (name_of g) key) (by_row : (key : RowKey) → IsKey (store_after g).widths key → HasCell (store_after g) (point_row (key_bytes (store_after g).widths key)) → PicksBy picks filters (name_of g) key) where
   abbrev wants : Reading → Bool
@@ -92,7 +93,7 @@ module _ (picks : Picks) (start end : ℕ) (metric : List ℕ) (filters : List F
 
   conflict_free : NoConflict (store_after g).widths (name_of g) wants (looks ++ own)
   conflict_free f s =
-      let row = row_conflict_free picks (store_after g).widths id start end spans names f (content.rows f (found_of f s)) in
+      let row = row_conflict_free picks (store_after g).widths id start end spans f (content.rows f (found_of f s)) in
       conflict_free_row picks (name_of g) (store_after g).widths id start end metric filters f row (by f row.key (found_of f s) row.of)
 
   -- each reading under its names is shown
@@ -117,7 +118,7 @@ module _ (picks : Picks) (start end : ℕ) (metric : List ℕ) (filters : List F
       )
 
   -- and each that is shown is one of these
-  shown_at : (r : Reading) (f : Found) (key : RowKey) (row : AreIn start end key.base f.cells key.pairs.items spans names) (d : ReadsDot (name_of g) key row.conflict_free.all r) → Asks start end metric filters r → Contains (readings_in metric series) r
+  shown_at : (r : Reading) (f : Found) (key : RowKey) (row : AreIn start end key.base f.cells key.pairs.items spans) (d : ReadsDot (name_of g) key row.conflict_free.all r) → Asks start end metric filters r → Contains (readings_in metric series) r
   shown_at r f key row d a =
       let there = row.there d.dot d.there (subst (IsIn start end) d.time_is a.within) in
       let t = titles.all (key.pairs.items, dots_of spans key.pairs.items) (dot_stands spans key.pairs.items (dot_at key.base d.dot) there) in

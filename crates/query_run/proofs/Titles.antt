@@ -29,9 +29,9 @@ use Rattle.span_merge.specs.KeptPoints.{Keeps}
 use Rattle.span_merge.specs.Spans.{Span, KeptSpan, kept_span, pairs_cmp, KeepsSpans, AreInOrder}
 use Rattle.span_merge.specs.declared.kept_points.Kept.{Kept}
 use Rattle.span_merge.specs.declared.series.Series as by_ids
-use Rattle.query_run.specs.declared.named_series.Series.{Series}
-use Rattle.query_run.specs.NamedSeries as named
-use Rattle.query_run.specs.KeptSeries.{PointsOf, with_points, all_with_points}
+use Rattle.series_groups.specs.declared.named_series.Series.{Series}
+use Rattle.series_groups.specs.NamedSeries as named
+use Rattle.series_groups.specs.KeptSeries.{PointsOf, with_points, all_with_points}
 use Rattle.query_run.specs.RowNames.{IdOf, Names, HasName, ids_of}
 use Rattle.query_run.specs.SeriesTags.{OneToOne, ArePairs, IsTitled, IsRenamed, TitlesKept, CanTitle}
 use Rattle.query_run.proofs.Lower as lower

@@ -18,10 +18,10 @@ use Rattle.tsd_base.specs.Points.{DataPoint}
 use Rattle.tsd_base.specs.LastPoints.{series_of, dots_of}
 use Rattle.tsd_base.specs.TagList.{Pair, is_same_tags}
 use Rattle.tsd_base.specs.TagOrder.{is_same_tags_equiv, tags_same}
-use Rattle.query_run.specs.QueryAnswers.{answer, aggregated_all, all_groups, all_or_least, down_by, down_to, group_answer, groups_in, grouped}
+use Rattle.series_groups.specs.QueryAnswers.{answer, aggregated_all, all_groups, all_or_least, down_by, down_to, group_answer, groups_in, grouped}
 use Rattle.query_run.specs.Laws.{HaveSameReadings, AreOneValued, AnswerIsUnordered}
-use Rattle.query_run.proofs.AnyOf.{in_any, any_in}
-use Rattle.query_run.proofs.Keys.{same_series}
+use Rattle.series_groups.proofs.AnyOf.{in_any, any_in}
+use Rattle.series_groups.proofs.Keys.{same_series}
 
 -- ---- the value of a series at a time
 abbrev IsFound : List DataPoint → List Pair → ℕ → Option ℤ → Type 0

@@ -9,7 +9,7 @@ use Rattle.cell_model.specs.Deeds.{Made, deeds, before_first}
 use Rattle.json_reply.specs.Replies.{Group, plain}
 use Rattle.json_reply.specs.declared.reply.Reply.{Reply}
 use Rattle.query_run.specs.declared.fault.AskFault.{AskFault}
-use Rattle.query_run.specs.declared.fault.AskFault.TheVariants.{TooManyBuckets, Unknown, Duplicate, Overflow, OutOfMemory, Stopped}
+use Rattle.query_run.specs.declared.fault.AskFault.TheVariants.{TooManyBuckets, BadFilter, Unknown, Duplicate, Overflow, OutOfMemory, Stopped}
 use Rattle.query_run.specs.Parts.{NameOf, Part, all_own, AreQuerySteps, AllResolved, PartStands, FirstUnknown, FirstConflict}
 
 -- of a sub query: which readings are wanted; the names that it has, in order; why it is refused by itself, if it is; the groups
@@ -18,6 +18,7 @@ module _ {Sub : Type 0} (wanted : Sub → Reading → Bool) (names_in : Sub → 
   -- why a sub query is refused, by the entries made for it; each cause comes where those that stand before it here don't
   abbrev pub Cause : Sub → Part → ℕ → History → AskFault → Type 0
   Cause s part end h (TooManyBuckets count) = (part.own ≡ []) × (barred s ≡ Some (TooManyBuckets count))
+  Cause s part end h (BadFilter index) = (part.own ≡ []) × (barred s ≡ Some (BadFilter index))
   Cause s part end h (Unknown kind name) = (barred s ≡ None) × FirstUnknown (names_in s) (kind, name) part.own (first end h)
   Cause s part end h (Duplicate time a b) = (barred s ≡ None) × AllResolved (first end h) (names_in s) × FirstConflict (store_after (first (before_first part.own end) h)) (store_after (first end h)).widths (name_of (first end h)) (wanted s) part.own time a b
   Cause s part end h (Overflow time) = (barred s ≡ None) × PartStands (wanted s) (names_in s) part end h × (answer_over s part.shown ≡ Err time)

@@ -1,28 +1,27 @@
 -- What a query wants of the readings, and which sub queries are barred.
-use Rattle.std.specs.Prelude.{ℕ, Bool, ◌&&◌, nat_le, nat_lt, List, [], ◌∷◌, length, map, Option, None, Some, Result, Ok, Err, if◌then◌else◌}
+use Rattle.std.specs.Prelude.{ℕ, Bool, true, ◌&&◌, nat_le, List, [], ◌∷◌, length, map, Option, None, Some, Result, Ok, Err}
 use Rattle.std.specs.List.{flat_map}
+use Rattle.std.specs.Option.{option_map, option_or}
 use Rattle.tsd_base.specs.declared.kinds.Kind.TheVariants.{Metric, TagKey, TagValue}
-use Rattle.tsd_base.specs.declared.kinds.Fill.{Fill}
-use Rattle.tsd_base.specs.declared.kinds.Fill.TheVariants.{NoFill, Zero}
-use Rattle.tsd_base.specs.declared.kinds.Down.{Down}
+use Rattle.tsd_base.specs.Points.{DataPoint}
 use Rattle.tsd_base.specs.Tags.{is_same}
 use Rattle.query_text.specs.declared.queries.Query.{Query}
 use Rattle.query_text.specs.declared.queries.Sub.{Sub}
 use Rattle.query_text.specs.declared.queries.Filter.{Filter}
 use Rattle.query_text.specs.declared.queries.Test.{Test}
-use Rattle.query_text.specs.declared.queries.Test.TheVariants.{Any, OneOf, NotOneOf}
+use Rattle.query_text.specs.declared.queries.Test.TheVariants.{Any, OneOf, NotOneOf, Wild, Pattern}
 use Rattle.cell_model.specs.declared.events.Placed.{Placed}
 use Rattle.cell_model.specs.History.{History}
 use Rattle.cell_model.specs.Layout.{base_time}
 use Rattle.cell_model.specs.Readings.{Reading}
 use Rattle.cell_model.specs.Seen.{Seen}
-use Rattle.downsample.specs.Buckets.{all_buckets}
-use Rattle.group_by.specs.TagFilters.{passes}
+use Rattle.tag_match.specs.Patterns.{passes}
+use Rattle.tag_match.specs.Building.{first_bad}
 use Rattle.json_reply.specs.Replies.{Group, plain}
 use Rattle.json_reply.specs.declared.reply.Reply.{Reply}
 use Rattle.query_run.specs.declared.fault.AskFault.{AskFault}
-use Rattle.query_run.specs.declared.fault.AskFault.TheVariants.{TooManyBuckets}
-use Rattle.query_run.specs.QueryAnswers.{answer, as_point}
+use Rattle.query_run.specs.declared.fault.AskFault.TheVariants.{TooManyBuckets, BadFilter}
+use Rattle.series_groups.specs.QueryAnswers.{answer, too_many_down}
 use Rattle.query_run.specs.Parts.{NameOf, IsShort}
 use Rattle.query_run.specs.Asked.{AskSays, SubsAsked}
 
@@ -38,6 +37,8 @@ abbrev pub test_names : Test → List (List ℕ)
 test_names Any = []
 test_names (OneOf names) = names
 test_names (NotOneOf names) = names
+test_names (Wild text) = []
+test_names (Pattern text) = []
 
 abbrev pub filter_names : Filter → List NameOf
 filter_names f = (TagKey, f.key) ∷ map (λ name. (TagValue, name)) (test_names f.test)
@@ -45,21 +46,17 @@ filter_names f = (TagKey, f.key) ∷ map (λ name. (TagValue, name)) (test_names
 abbrev pub names_in : Sub → List NameOf
 names_in s = (Metric, s.metric) ∷ flat_map filter_names s.filters
 
--- a fill of zeros makes at most 1,000,000 buckets
-abbrev pub too_many : ℕ → Option AskFault
-too_many count = if nat_lt 1000000 count then Some (TooManyBuckets count) else None
-
-abbrev pub barred_by : ℕ → ℕ → ℕ → Fill → Option AskFault
-barred_by start end interval NoFill = None
-barred_by start end interval Zero = too_many (length (all_buckets interval start end))
-
-abbrev pub barred_down : ℕ → ℕ → Option Down → Option AskFault
-barred_down start end None = None
-barred_down start end (Some down) = barred_by start end down.interval down.fill
+-- too many buckets, or the first filter with a pattern that isn't read
+abbrev pub bar_of : Option ℕ → Option ℕ → Option AskFault
+bar_of count index = option_or (option_map (λ n. TooManyBuckets n) count) (option_map (λ i. BadFilter i) index)
 
 -- what keeps a sub query from being worked at all
 abbrev pub barred : Query → Sub → Option AskFault
-barred q s = barred_down q.start q.end s.down
+barred q s = bar_of (too_many_down q.start q.end s.down) (first_bad s.filters)
+
+-- a reading as a point in milliseconds
+abbrev pub as_point : Reading → DataPoint
+as_point r = record { metric = r.metric; tags = r.tags; time = r.time; fine = true; value = r.value }
 
 abbrev pub answer_over : Query → Sub → List Reading → Result (List Group) ℕ
 answer_over q s readings = answer q s (map as_point readings)

@@ -34,10 +34,13 @@ AreIds s names ids = AllZip (λ name id. HasShown s TagValue name id) names ids
 abbrev pub AreIdsOf : Seen → List (List ℕ) → List ℕ → Type 0
 AreIdsOf s names ids = (listed : List ℕ) × AreIds s names listed × IsPermutation listed ids
 
+-- the test by ids is the one of the names; by ids any value passes a test of text
 abbrev pub IsIdTest : Seen → Test → IdTest → Type 0
 IsIdTest s text.Any Any = Unit {0}
 IsIdTest s (text.OneOf names) (OneOf ids) = AreIdsOf s names ids
 IsIdTest s (text.NotOneOf names) (NotOneOf ids) = AreIdsOf s names ids
+IsIdTest s (text.Wild part) Any = Unit {0}
+IsIdTest s (text.Pattern part) Any = Unit {0}
 IsIdTest s test other = ⊥
 
 -- the filter by ids is the one of the names

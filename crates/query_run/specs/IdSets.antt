@@ -1,5 +1,5 @@
 -- Ids in order.
-use Rattle.std.specs.Prelude.{◌≡◌, ℕ, ◌<◌, ◌≤◌, List, length, get_or, All, Option, None, Some}
+use Rattle.std.specs.Prelude.{ℕ, ◌<◌, ◌≤◌, List, length, get_or, All, Option, None, Some}
 use Rattle.std.specs.List.Sorted.{IsNonDecreasingBy}
 
 -- no id is below one before it

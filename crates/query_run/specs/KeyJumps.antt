@@ -1,5 +1,5 @@
 -- Where a search for keys that are asked for goes on behind one that isn't.
-use Rattle.std.specs.Prelude.{◌≡◌, ◌+◌, ℕ, ◌<◌, ◌≤◌, false, List, ◌++◌, take, All, Option, None, Some}
+use Rattle.std.specs.Prelude.{◌≡◌, ◌+◌, ℕ, ◌<◌, ◌≤◌, false, List, ◌++◌, take, Option, None, Some}
 use Rattle.std.specs.declared.cmp.Ordering.TheVariants.{Less}
 use Rattle.std.specs.Ordering.{is_lt}
 use Rattle.std.specs.Cmp.Lexicographic.{slice_cmp}
@@ -9,7 +9,7 @@ use Rattle.row_key.specs.Key.{IsKey}
 use Rattle.row_key.specs.KeyOrder.{key_cmp, pair_cmp}
 use Rattle.query_run.specs.declared.id_filter.IdTest.{IdTest}
 use Rattle.query_run.specs.IdFilters.{passes_test}
-use Rattle.query_run.specs.Collection.{Picks}
+use Rattle.query_run.specs.Walks.{Picks}
 
 -- the key is from this one on, and before that one
 abbrev pub IsFromTo : RowKey → RowKey → RowKey → Type 0

@@ -4,7 +4,7 @@ use Rattle.tsd_base.specs.Points.{DataPoint}
 use Rattle.cell_model.specs.Readings.{Reading, reading_of}
 use Rattle.query_text.specs.declared.queries.Query.{Query}
 use Rattle.query_text.specs.declared.queries.Sub.{Sub}
-use Rattle.query_run.specs.QueryAnswers.{answer}
+use Rattle.series_groups.specs.QueryAnswers.{answer}
 
 -- they have the same readings, in any order and each any number of times
 abbrev pub HaveSameReadings : List DataPoint → List DataPoint → Type 0

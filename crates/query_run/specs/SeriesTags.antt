@@ -8,9 +8,9 @@ use Rattle.tsd_base.specs.declared.kinds.Down.{Down}
 use Rattle.span_merge.specs.KeptPoints.{Keeps}
 use Rattle.span_merge.specs.Spans.{Span}
 use Rattle.span_merge.specs.declared.series.Series as by_ids
-use Rattle.query_run.specs.declared.named_series.Series as kept
-use Rattle.query_run.specs.KeptSeries.{PointsOf, all_with_points}
-use Rattle.query_run.specs.NamedSeries.{Series}
+use Rattle.series_groups.specs.declared.named_series.Series as kept
+use Rattle.series_groups.specs.KeptSeries.{PointsOf, all_with_points}
+use Rattle.series_groups.specs.NamedSeries.{Series}
 use Rattle.query_run.specs.RowNames.{IdOf, Names, HasName, ids_of}
 
 -- no two ids of a kind have one name

@@ -1,26 +1,35 @@
 -- Working one sub query.
-use Rattle.std.specs.Prelude.{◌≡◌, ℕ, ℤ, ◌≤◌, List, length, map, Contains, None, Result, Ok, Err}
+use Rattle.std.specs.Prelude.{◌≡◌, ℕ, ℤ, ◌≤◌, List, length, map, Contains, None, Some, Result, Ok, Err}
 use Rattle.std.specs.Global.{Vec}
 use Rattle.json_reply.specs.Replies.{Group, plain}
 use Rattle.json_reply.specs.declared.reply.Group as code
 use Rattle.query_text.specs.declared.queries.Query.{Query}
 use Rattle.query_text.specs.declared.queries.Sub.{Sub}
+use Rattle.tag_match.specs.declared.built.Built.{Built}
 use Rattle.cell_model.specs.History.{History, first}
 use Rattle.cell_model.specs.Seen.{Seen, InEach}
 use Rattle.cell_model.specs.Deeds.{Made, Extends}
 use Rattle.span_merge.specs.Spans.{Span, KeepsSpans}
 use Rattle.query_run.specs.declared.collection.Collected.{Collected}
 use Rattle.query_run.specs.RowDots.{IsIn}
-use Rattle.query_run.specs.NamedSeries.{Series}
+use Rattle.series_groups.specs.NamedSeries.{Series}
 use Rattle.query_run.specs.declared.fault.AskFault.{AskFault}
-use Rattle.query_run.specs.declared.fault.AskFault.TheVariants.{Overflow, OutOfMemory}
-use Rattle.query_run.specs.QueryAnswers.{answer, down_by}
+use Rattle.query_run.specs.declared.fault.AskFault.TheVariants.{TooManyBuckets, BadFilter, Overflow, OutOfMemory}
+use Rattle.series_groups.specs.QueryAnswers.{answer, down_by, too_many_down}
 use Rattle.query_run.specs.Parts.{Part, AreQuerySteps, PartStands}
 use Rattle.query_run.specs.Asked.{Cause}
 use Rattle.query_run.specs.AskedQueries.{wanted, names_in, barred, answer_over, IsFew}
-use Rattle.query_run.specs.NamedSeries.{points_in}
+use Rattle.series_groups.specs.NamedSeries.{points_in}
 use Rattle.query_run.specs.RowNames.{Names, known}
 use Rattle.query_run.specs.SeriesTags.{Titles, CanTitle}
+
+-- the filters are built, or what bars the sub query is told
+abbrev pub BuiltSays : Query → Sub → Result Built AskFault → Type 0
+BuiltSays q s (Ok built) = (built ≡ s.filters) × (barred q s ≡ None) × (too_many_down q.start q.end s.down ≡ None)
+BuiltSays q s (Err (TooManyBuckets count)) = barred q s ≡ Some (TooManyBuckets count)
+BuiltSays q s (Err (BadFilter index)) = barred q s ≡ Some (BadFilter index)
+BuiltSays q s (Err OutOfMemory) = Unit {0}
+BuiltSays q s (Err fault) = ⊥
 
 -- what was collected is kept of these series, each with points in the range
 pub record AreCollected (q : Query) (s : Sub) (c : Collected) (spans : List Span) : Type 0 where

@@ -18,6 +18,7 @@ impl AskFault {
     {
         match self {
             AskFault::TooManyBuckets { count } => write_buckets(*count, out),
+            AskFault::BadFilter { index } => write_bad_filter(*index, out),
             AskFault::Unknown { kind, name } => write_unknown(*kind, name, out),
             AskFault::Duplicate { time, a, b } => write_two_values(*time, *a, *b, out),
             AskFault::Overflow { time } => write_overflow(*time, out),
@@ -33,6 +34,14 @@ fn write_buckets(count: u64, out: &mut Vec<u8>) -> Result<(), AllocError>
 {
     write_number(count, out)?;
     out.extend_from_slice(b" buckets (1000000 at most)")
+}
+
+/// Writes of a pattern that isn't read.
+fn write_bad_filter(index: usize, out: &mut Vec<u8>) -> Result<(), AllocError>
+    ensures { OnOk result (out.new.items ≡ out.old.items ++ ask_fault_text (AskFault.BadFilter index)) }
+{
+    out.extend_from_slice(b"bad filter ")?;
+    write_number(index as u64, out)
 }
 
 /// Writes of a name that no point has.

@@ -13,6 +13,8 @@ use tsd_base::names::Name;
 pub enum AskFault {
     /// The sub query has `count` buckets, more than 1,000,000.
     TooManyBuckets { count: u64 },
+    /// The engine answered a syntax error for the pattern of the filter at this place of the sub query, and for that of none before it.
+    BadFilter { index: usize },
     /// A name of this kind that the sub query has is no series' name. Those before it in its text are.
     Unknown { kind: Kind, name: Name },
     /// A row that was read and passes the filters has two values at this time: `a` is that of the first data point there, and `b` that of the first

@@ -61,7 +61,7 @@ fn resolve_values<R: Rows + Drop>(
     Ok(ids)
 }
 
-/// A test by the ids of its names.
+/// A test by the ids of its names. By ids any value passes a test of text.
 fn resolve_test<R: Rows + Drop>(
     alloc: Global,
     names: &mut Uids<R>,
@@ -85,6 +85,8 @@ fn resolve_test<R: Rows + Drop>(
                 ids: IdSet::of(ids),
             })
         }
+        Test::Wild { .. } => Ok(IdTest::Any),
+        Test::Pattern { .. } => Ok(IdTest::Any),
     }
 }
 

@@ -10,8 +10,8 @@ ghost use Rattle.span_merge.specs.Spans.{KeepsSpans, Span};
 ghost use Rattle.query_run.specs.SeriesTags.{ArePairs, CanTitle, IsRenamed, OneToOne, TitlesKept};
 
 use crate::collection::Collected;
-use crate::named_series::Series;
 use crate::row_names::IdNames;
+use series_groups::named_series::Series;
 use span_merge::series::Series as SeriesById;
 use std::alloc::{AllocError, Global};
 use tsd_base::names::Name;
@@ -49,7 +49,11 @@ fn all_names(
 }
 
 /// The tags whose ids these pairs are.
-fn tags_of(alloc: Global, names: &IdNames, pairs: &[(u32, u32)]) -> Result<Tags, AllocError>
+pub(crate) fn tags_of(
+    alloc: Global,
+    names: &IdNames,
+    pairs: &[(u32, u32)],
+) -> Result<Tags, AllocError>
     requires one { OneToOne (known names.now) }
     requires pairs { ArePairs (known names.now) pairs.now }
     ensures { IfOk result (Named (known names.now) pairs.now) }

@@ -6,45 +6,24 @@ ghost use Rattle.json_reply.specs.Replies.{IsReady};
 ghost use Rattle.span_merge.specs.Spans.{Span};
 ghost use Rattle.cell_model.specs.Stops.{CountsStops};
 ghost use Rattle.query_run.specs.AskFaults.{is_stop};
-ghost use Rattle.query_run.specs.SeriesGroups.{IsWorkable};
+ghost use Rattle.series_groups.specs.SeriesGroups.{IsWorkable};
 ghost use Rattle.query_run.specs.RowNames.{known};
-ghost use Rattle.query_run.specs.AskedQueries.{barred};
 ghost use Rattle.query_run.specs.SubQuery.{AreCollected, GroupsSay, SubSays};
 
+use crate::built_filters::built_filters;
 use crate::collection::{Collected, collect};
 use crate::fault::AskFault;
-use crate::resolve::{resolve_filters, resolve_name};
-use crate::series_groups::{down_of, groups_of};
+use crate::metric_rows::MetricRows;
 use crate::series_tags::titled;
+use crate::value_judges::value_judges;
 use cell_model::rows::Rows;
-use downsample::buckets;
 use json_reply::reply::Group;
 use lerp_aggregate::aggregation::AggFault;
 use query_text::queries::{Query, Sub};
 use row_scan::laws;
+use series_groups::series_groups::{down_of, groups_of};
 use std::alloc::Global;
-use tsd_base::kinds::{Fill, Kind};
 use uid_table::uids::Uids;
-
-/// The most buckets that a fill of zeros may make.
-const MOST_BUCKETS: u64 = 1_000_000;
-
-/// What keeps a sub query from being worked at all: a fill of zeros with too many buckets.
-fn barred(query: &Query, sub: &Sub) -> Option<AskFault>
-    requires order { query.now.start ≤ query.now.end }
-    requires most { query.now.end ≤ LAST_TIME }
-    requires down { CanDown query.now.ms sub.now }
-    ensures { result ≡ barred query.now sub.now }
-{
-    let down = sub.down?;
-    match down.fill {
-        Fill::NoFill => None,
-        Fill::Zero => {
-            let count = buckets(query.start, query.end, down.interval);
-            (MOST_BUCKETS < count).then_some(AskFault::TooManyBuckets { count })
-        }
-    }
-}
 
 /// The groups of the series of a sub query.
 fn groups(
@@ -81,12 +60,11 @@ pub(crate) fn work<R: Rows + Drop>(
     ensures stops { CountsStops is_stop result (R.stops names.old.rows) (R.stops names.new.rows) }
 {
     laws::scan_covers();
-    if let Some(fault) = barred(query, sub) {
-        return Err(fault);
-    }
+    let built = built_filters(alloc, query, sub)?;
+    let each = built.judges(alloc)?;
+    let judges = value_judges(alloc, each)?;
     let how = down_of(query, sub);
-    let metric = resolve_name(alloc, names, Kind::Metric, &sub.metric)?;
-    let filters = resolve_filters(alloc, names, sub.filters.list())?;
-    let collected = collect(alloc, names, metric, &filters, how, query.start, query.end)?;
+    let rows = MetricRows::begin(alloc, names, sub, query.start, query.end)?;
+    let collected = collect(alloc, names, rows, judges, how, query.start, query.end)?;
     groups(alloc, query, sub, collected)
 }

@@ -1,10 +1,10 @@
 use Rattle.std.proofs.Common.{◌≡◌, Err, subst, rules}
 use Rattle.lerp_aggregate.specs.declared.aggregation.AggFault.{AggFault}
 use Rattle.lerp_aggregate.specs.declared.aggregation.AggFault.TheVariants.{Overflow}
-use Rattle.query_run.specs.NamedSeries.{points_in}
-use Rattle.query_run.specs.SeriesGroups.{GivesGroups}
-use Rattle.query_run.specs.QueryAnswers.{answer, down_by}
-use Rattle.query_run.specs.KeptSeries.{all_with_points}
+use Rattle.series_groups.specs.NamedSeries.{points_in}
+use Rattle.series_groups.specs.SeriesGroups.{GivesGroups}
+use Rattle.series_groups.specs.QueryAnswers.{answer, down_by}
+use Rattle.series_groups.specs.KeptSeries.{all_with_points}
 use Rattle.query_run.proofs.Grouped.{are_series}
 use Rattle.query_run.proofs.sub_query.groups.Goals as goal
 

@@ -1,0 +1,4 @@
+pub mod QueryAnswers
+pub mod NamedSeries
+pub mod KeptSeries
+pub mod SeriesGroups
