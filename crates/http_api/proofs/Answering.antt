@@ -35,9 +35,10 @@ use Rattle.name_requests.specs.declared.assign_request.AssignRequest.{AssignRequ
 use Rattle.name_requests.specs.SuggestRequests.{Suggestion}
 use Rattle.http_api.specs.CallWork.{PutFlags, Work}
 use Rattle.series_meta.specs.LatestPoints.{Asking}
+use Rattle.series_meta.specs.Lookups.{SeriesAsked}
 use Rattle.series_meta.specs.declared.meta_faults.MetaFault.{MetaFault}
-use Rattle.http_series.specs.SeriesAnswers.{LastsTell}
-use Rattle.http_api.specs.CallWork.Work.{Says, Puts, Assigns, Suggests, Asks, AsksLast}
+use Rattle.http_series.specs.SeriesAnswers.{LastsTell, LookupTells}
+use Rattle.http_api.specs.CallWork.Work.{Says, Puts, Assigns, Suggests, Asks, LooksUp, AsksLast}
 use Rattle.http_api.specs.HttpAnswers.{HasTexts, IsReplyTo, IsSeriesReply, WorkBroken, WorkReplied, answers_in, named_in, names_in, told}
 
 -- no entry was made since
@@ -199,7 +200,23 @@ query_untold c q old new queue result says =
       rows = λ h l f. may_have queue [] queue (deeds h old.caller old.length new.length) (rows_none queue);
     }
 
--- ---- last points
+-- ---- series
+
+pub lookup_replied : (c : Admission) (q : SeriesAsked) (closing : Bool) (old new : Seen) (queue : List Stored) (result : Result (List ℕ) MetaFault) (reply : List ℕ) → LookupTells q old result new → IsSeriesReply result closing reply
+    → WorkReplied c (LooksUp q) closing old queue reply new queue
+lookup_replied c q closing old new queue result reply asked (t, tells, is) = record {
+  stored = [];
+  since = asked.0;
+  answered = λ h l f. record { tells = t; done = (result, asked.1 h l f, tells, refl); reply_is = is };
+  rows = rows_none queue;
+}
+
+pub lookup_untold : (c : Admission) (q : SeriesAsked) (old new : Seen) (queue : List Stored) (result : Result (List ℕ) MetaFault) → LookupTells q old result new → WorkBroken c (LooksUp q) old queue new queue
+lookup_untold c q old new queue result asked = record {
+  since = asked.0;
+  begun = λ h l f. inr (result, asked.1 h l f);
+  rows = λ h l f. may_have queue [] queue (deeds h old.caller old.length new.length) (rows_none queue);
+}
 
 pub lasts_replied : (c : Admission) (series : List Asking) (closing : Bool) (old new : Seen) (queue : List Stored) (result : Result (List ℕ) MetaFault) (reply : List ℕ) → LastsTell series old result new → IsSeriesReply result closing reply
     → WorkReplied c (AsksLast series) closing old queue reply new queue

@@ -11,12 +11,13 @@ use Rattle.json_reply.specs.ErrorBodies.{error_body}
 use Rattle.query_run.specs.AskFaultTexts.{ask_fault_text}
 use Rattle.query_run.specs.AskFaults.{is_stop}
 use Rattle.query_run.specs.declared.fault.AskFault.{AskFault}
-use Rattle.query_run.specs.declared.fault.AskFault.TheVariants.{TooManyBuckets, Unknown, Duplicate, Overflow, OutOfMemory, Stopped}
+use Rattle.query_run.specs.declared.fault.AskFault.TheVariants.{TooManyBuckets, BadFilter, Unknown, Duplicate, Overflow, OutOfMemory, Stopped}
 use Rattle.http_api.specs.HttpAnswers.{IsReplyTo, QueryTells, told}
 
 -- the text of a fault is told but for want of memory and a stop
 fault_tells : (fault : AskFault) → fault ≢ Stopped → fault ≢ OutOfMemory → QueryTells (Err fault) (told status.BadRequest (error_body (code_of status.BadRequest) (ask_fault_text fault)))
 fault_tells (TooManyBuckets count) stop want = refl
+fault_tells (BadFilter index) stop want = refl
 fault_tells (Unknown kind name) stop want = refl
 fault_tells (Duplicate time a b) stop want = refl
 fault_tells (Overflow time) stop want = refl
@@ -32,6 +33,7 @@ fault_told fault closing (Err failed) stop want is = tt
 
 no_stop : (fault : AskFault) → fault ≢ Stopped → is_stop fault ≡ false
 no_stop (TooManyBuckets count) stop = refl
+no_stop (BadFilter index) stop = refl
 no_stop (Unknown kind name) stop = refl
 no_stop (Duplicate time a b) stop = refl
 no_stop (Overflow time) stop = refl

@@ -29,8 +29,9 @@ use Rattle.query_text.specs.declared.queries.Query.{Query}
 use Rattle.query_text.specs.declared.queries.QueryFault.{QueryFault}
 use Rattle.tsd_base.specs.declared.times.TheConstants.{LAST_TIME}
 use Rattle.series_meta.specs.LatestPoints.{Asking}
+use Rattle.series_meta.specs.Lookups.{SeriesAsked}
 use Rattle.http_series.specs.ArgumentTexts.{argument_fault_text}
-use Rattle.http_series.specs.SeriesRequests.{LastsAsked, askings, lasts_by_form}
+use Rattle.http_series.specs.SeriesRequests.{LastsAsked, askings, lasts_by_form, lookup_by_form}
 use Rattle.http_series.specs.declared.argument_fault.ArgumentFault.{ArgumentFault}
 
 -- what a reply to a put is to tell beside its status
@@ -38,13 +39,14 @@ pub record PutFlags : Type 0 where
   pub details : Bool
   pub summary : Bool
 
--- a fixed answer; elements to put, one after the other; names to give ids; names to suggest; a query to answer; or series whose last points are wanted
+-- a fixed answer; elements to put, one after the other; names to give ids; names to suggest; a query to answer; series to look up; or series whose last points are wanted
 pub data Work : Type 0 where
   Says : Status → List ℕ → Work
   Puts : PutFlags → List Data → Work
   Assigns : AssignLists → Work
   Suggests : Suggestion → Work
   Asks : Query → Work
+  LooksUp : SeriesAsked → Work
   AsksLast : List Asking → Work
 
 abbrev pub refuses : Status → List ℕ → Work
@@ -120,7 +122,11 @@ abbrev pub asks_body : ℕ → Option Data → Work
 asks_body now None = no_json
 asks_body now (Some body) = asks (query_by_json now body)
 
--- ---- last points
+-- ---- series
+
+abbrev pub looks_up : Result SeriesAsked ArgumentFault → Work
+looks_up (Ok asked) = LooksUp asked
+looks_up (Err fault) = refuses status.BadRequest (argument_fault_text fault)
 
 -- a moment behind the last time counts as that
 abbrev pub asks_last : ℕ → Result LastsAsked ArgumentFault → Work
@@ -141,6 +147,7 @@ got_by now route.Put form = no_method
 got_by now route.Assign form = assigns (assign_by_form form)
 got_by now route.Query form = asks (query_by_form now form)
 got_by now route.Last form = asks_last now (lasts_by_form form)
+got_by now route.Lookup form = looks_up (lookup_by_form form)
 got_by now route.Suggest form = suggests (suggest_by_form form)
 got_by now route.Version form = Says status.Ok version_body
 got_by now route.Aggregators form = Says status.Ok aggregators_body
@@ -151,6 +158,7 @@ posted_by now route.Put form body = puts_body (put_flags form) (json_of body)
 posted_by now route.Assign form body = assigns (assign_by_body body)
 posted_by now route.Query form body = asks_body now (json_of body)
 posted_by now route.Last form body = no_method
+posted_by now route.Lookup form body = no_method
 posted_by now route.Suggest form body = suggests (suggest_by_body body)
 posted_by now route.Version form body = Says status.Ok version_body
 posted_by now route.Aggregators form body = Says status.Ok aggregators_body
@@ -184,6 +192,7 @@ call_route call = route_unless call.refused call.path
 abbrev pub asks_moment : Option Route → Bool
 asks_moment (Some route.Query) = true
 asks_moment (Some route.Last) = true
+asks_moment (Some route.Lookup) = false
 asks_moment (Some route.Aggregators) = false
 asks_moment (Some route.Put) = false
 asks_moment (Some route.Suggest) = false

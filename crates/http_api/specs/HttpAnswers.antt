@@ -31,9 +31,9 @@ use Rattle.query_run.specs.AskedQueries.{QueryAsked}
 use Rattle.query_run.specs.declared.fault.AskFault.{AskFault}
 use Rattle.query_run.specs.declared.fault.AskFault.TheVariants.{OutOfMemory, Stopped}
 use Rattle.series_meta.specs.declared.meta_faults.MetaFault.{MetaFault}
-use Rattle.http_series.specs.SeriesAnswers.{LastsTold, query_fault}
+use Rattle.http_series.specs.SeriesAnswers.{LastsTold, LookupTold, query_fault}
 use Rattle.http_api.specs.CallWork.{PutFlags, Work, work_of}
-use Rattle.http_api.specs.CallWork.Work.{Says, Puts, Assigns, Suggests, Asks, AsksLast}
+use Rattle.http_api.specs.CallWork.Work.{Says, Puts, Assigns, Suggests, Asks, LooksUp, AsksLast}
 
 -- ---- an assignment's elements
 
@@ -96,6 +96,8 @@ Done c h caller n n2 (Suggests s) t stored =
     (names : List (List ℕ)) × SuggestAsked h caller n s.kind s.prefix s.max names n2 × (t ≡ told status.Ok (names_text names)) × (stored ≡ [])
 Done c h caller n n2 (Asks query) t stored =
     (result : Result (List Group) AskFault) × QueryAsked h caller n query result n2 × QueryTells result t × (stored ≡ [])
+Done c h caller n n2 (LooksUp asked) t stored =
+    (result : Result (List ℕ) MetaFault) × LookupTold h caller n asked result n2 × SeriesTell result t × (stored ≡ [])
 Done c h caller n n2 (AsksLast series) t stored =
     (result : Result (List ℕ) MetaFault) × LastsTold h caller n series result n2 × SeriesTell result t × (stored ≡ [])
 
@@ -124,6 +126,7 @@ WorkBegun c h caller n n2 (Puts flags elements) = (stored : List Stored) × PutB
 WorkBegun c h caller n n2 (Assigns lists) = AssignBegun c.patterns h caller n (named_in lists) n2
 WorkBegun c h caller n n2 (Suggests s) = SuggestBegun h caller n n2
 WorkBegun c h caller n n2 (Asks query) = (result : Result (List Group) AskFault) × QueryAsked h caller n query result n2
+WorkBegun c h caller n n2 (LooksUp asked) = (result : Result (List ℕ) MetaFault) × LookupTold h caller n asked result n2
 WorkBegun c h caller n n2 (AsksLast series) = (result : Result (List ℕ) MetaFault) × LastsTold h caller n series result n2
 
 -- no entry was made, or the work was begun

@@ -6,12 +6,13 @@ ghost use Rattle.name_requests.specs.SuggestRequests.{GivesSuggest, IsMax, Sugge
 ghost use Rattle.query_requests.specs.QueryReadings.{CanWork, GivesQuery};
 ghost use Rattle.query_text.specs.declared.queries.Query.{Query};
 ghost use Rattle.query_text.specs.declared.queries.QueryFault.{QueryFault};
+ghost use Rattle.series_meta.specs.Lookups.{SeriesAsked};
 ghost use Rattle.http_series.specs.ArgumentReading.{Gives};
 ghost use Rattle.http_series.specs.ArgumentTexts.{argument_fault_text};
-ghost use Rattle.http_series.specs.SeriesRequests.{LastsAsked, lasts_asked};
+ghost use Rattle.http_series.specs.SeriesRequests.{LastsAsked, lasts_asked, lookup_asked};
 ghost use Rattle.http_series.specs.declared.argument_fault.ArgumentFault.{ArgumentFault};
 ghost use Rattle.http_reply.specs.declared.reply_status.Status.{Status};
-ghost use Rattle.http_api.specs.CallWork.{work_of, by_route, refusal_status, refusal_message, refuses, put_flags, puts_body, assigns, suggests, asks, asks_body, asks_last, call_route, got_by, posted_by};
+ghost use Rattle.http_api.specs.CallWork.{work_of, by_route, refusal_status, refusal_message, refuses, put_flags, puts_body, assigns, suggests, asks, asks_body, asks_last, looks_up, call_route, got_by, posted_by};
 ghost use Rattle.http_api.specs.CallWork.Work.{Says};
 ghost use Rattle.http_api.specs.CallTasks.{IsTask};
 
@@ -22,7 +23,7 @@ use http_requests::form::Form;
 use http_requests::http_call::{Call, Refusal, Verb};
 use http_requests::json_body::read_json;
 use http_requests::routes::Route;
-use http_series::{ArgumentFault, LastRequest, read_lasts};
+use http_series::{ArgumentFault, LastRequest, LookupRequest, read_lasts, read_lookup};
 use json_reply::error_body::error_text;
 use name_requests::assign_request::{AssignRequest, assign_by_body, assign_by_form};
 use name_requests::fault::{AssignFault, SuggestFault};
@@ -59,6 +60,10 @@ pub enum Task {
     /// A query to answer.
     Ask {
         query: Query,
+    },
+    /// Series to look up.
+    LookUp {
+        request: LookupRequest,
     },
     /// Series whose last points up to a moment are wanted.
     AskLast {
@@ -149,6 +154,7 @@ fn get_task(alloc: Global, route: Route, form: &[u8], now: u64) -> Result<Task, 
         Route::Assign => assign_task(alloc, assign_by_form(alloc, form)),
         Route::Query => query_task(alloc, read_query_form(alloc, form, now)),
         Route::Last => last_task(alloc, read_lasts(alloc, form), now),
+        Route::Lookup => lookup_task(alloc, read_lookup(alloc, form)),
         Route::Suggest => suggest_task(alloc, suggest_by_form(alloc, form)),
         Route::Version => say(alloc, version_body()),
         Route::Aggregators => say(alloc, aggregators_body()),
@@ -170,6 +176,7 @@ fn post_task(
         Route::Assign => assign_task(alloc, assign_by_body(alloc, body)),
         Route::Query => query_body_task(alloc, body, now),
         Route::Last => refuse(alloc, Status::MethodNotAllowed, b"no such method"),
+        Route::Lookup => refuse(alloc, Status::MethodNotAllowed, b"no such method"),
         Route::Suggest => suggest_task(alloc, suggest_by_body(alloc, body)),
         Route::Version => say(alloc, version_body()),
         Route::Aggregators => say(alloc, aggregators_body()),
@@ -249,6 +256,19 @@ fn query_task(alloc: Global, read: Result<Query, QueryFault>) -> Result<Task, Al
             fault.write_text(&mut message)?;
             refuse(alloc, Status::BadRequest, message.as_slice())
         }
+    }
+}
+
+fn lookup_task(
+    alloc: Global,
+    read: Result<LookupRequest, ArgumentFault>,
+) -> Result<Task, AllocError>
+    ensures { (asked : Result SeriesAsked ArgumentFault) → Gives lookup_asked read asked → IfOk result (IsTask (looks_up asked)) }
+{
+    match read {
+        Ok(request) => Ok(Task::LookUp { request }),
+        Err(ArgumentFault::OutOfMemory) => Err(AllocError),
+        Err(fault) => argument_task(alloc, fault),
     }
 }
 

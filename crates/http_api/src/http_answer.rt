@@ -20,7 +20,7 @@ use crate::list_put::answer_list;
 use crate::put_body::elements_of;
 use crate::query_reply::answer_query;
 use crate::routed_call::RoutedCall;
-use crate::series_reply::reply_lasts;
+use crate::series_reply::{reply_lasts, reply_lookup};
 use cell_model::answers::RowsFault;
 use cell_model::rows::Rows;
 use compactor::queue::Queue;
@@ -141,6 +141,7 @@ fn perform<R: Rows + Drop>(
         Task::Assign { request } => assign(alloc, names, rule, closing, request),
         Task::Suggest { request } => suggest(alloc, names, closing, request),
         Task::Ask { query } => answer_query(alloc, names, closing, query),
+        Task::LookUp { request } => reply_lookup(alloc, names, closing, request),
         Task::AskLast { request, now } => reply_lasts(alloc, names, closing, request, *now),
     }
 }

@@ -5,7 +5,7 @@ use Rattle.matchit.specs.Order.{lookup}
 use Rattle.matchit.specs.Route.{outside, parse_route}
 use Rattle.matchit.specs.Router.{RouteOf}
 use Rattle.http_requests.specs.declared.routes.Route.{Route}
-use Rattle.http_requests.specs.declared.routes.Route.TheVariants.{Aggregators, Put, Query, Last, Suggest, Assign, Version}
+use Rattle.http_requests.specs.declared.routes.Route.TheVariants.{Aggregators, Put, Query, Last, Lookup, Suggest, Assign, Version}
 
 -- each path with its route, in the order of the router's rows
 abbrev pub route_table : RowsOf Route
@@ -14,6 +14,7 @@ route_table =
     ∷ (codes "/api/put", Put)
     ∷ (codes "/api/query/last", Last)
     ∷ (codes "/api/query", Query)
+    ∷ (codes "/api/search/lookup", Lookup)
     ∷ (codes "/api/suggest", Suggest)
     ∷ (codes "/api/uid/assign", Assign)
     ∷ (codes "/api/version", Version)

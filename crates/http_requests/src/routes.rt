@@ -19,6 +19,8 @@ pub enum Route {
     Query,
     /// `/api/query/last`: the last points of series.
     Last,
+    /// `/api/search/lookup`: the series of a metric.
+    Lookup,
     /// `/api/suggest`: names that begin with a prefix.
     Suggest,
     /// `/api/uid/assign`: giving ids to names.
@@ -27,7 +29,7 @@ pub enum Route {
     Version,
 }
 
-/// A router with the seven routes. It fails only for want of memory.
+/// A router with the eight routes. It fails only for want of memory.
 #[tactic(auto, unfolding(matchit::specs::Route::scan))]
 pub fn make_router(alloc: Global) -> Result<Router<Route>, AllocError>
     ensures { IfOk result (λ router. valued router ≡ route_table) }
@@ -37,6 +39,7 @@ pub fn make_router(alloc: Global) -> Result<Router<Route>, AllocError>
     add(&mut router, "/api/put", Route::Put)?;
     add(&mut router, "/api/query", Route::Query)?;
     add(&mut router, "/api/query/last", Route::Last)?;
+    add(&mut router, "/api/search/lookup", Route::Lookup)?;
     add(&mut router, "/api/suggest", Route::Suggest)?;
     add(&mut router, "/api/uid/assign", Route::Assign)?;
     add(&mut router, "/api/version", Route::Version)?;

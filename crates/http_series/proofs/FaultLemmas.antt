@@ -3,7 +3,7 @@ use Rattle.std.proofs.Common.{◌≡◌, ◌∙◌, List, [], ◌∷◌, ◌++�
 use Rattle.tsd_base.specs.TagList.{Pair}
 use Rattle.query_text.specs.declared.queries.Filter.{Filter}
 use Rattle.http_series.specs.declared.argument_fault.ArgumentFault.{ArgumentFault}
-use Rattle.http_series.specs.declared.argument_fault.ArgumentFault.TheVariants.{BadTimeseries, BadBackScan, OutOfMemory}
+use Rattle.http_series.specs.declared.argument_fault.ArgumentFault.TheVariants.{BadLookup, BadLimit, BadTimeseries, BadBackScan, OutOfMemory}
 use Rattle.http_series.specs.ArgumentReading.{◌>>=◌, Fails, or_fault, with_front}
 use Rattle.http_series.specs.declared.last_request.SeriesName.{SeriesName}
 use Rattle.http_series.specs.SeriesRequests.{all_named}
@@ -11,6 +11,8 @@ use Rattle.http_series.specs.SeriesTexts.{pair_of, pairs_of, series_named}
 
 -- a reading that has this fault fails with it
 pub fails_so : {A : Type 0} (fault : ArgumentFault) (read : Result A ArgumentFault) → read ≡ Err fault → Fails fault read
+fails_so BadLookup read is = is
+fails_so BadLimit read is = is
 fails_so BadTimeseries read is = is
 fails_so BadBackScan read is = is
 fails_so OutOfMemory read is = tt

@@ -1,5 +1,6 @@
 mod FaultLemmas
 mod Listing
+mod LookupLemmas
 mod NumberLemmas
 mod PointLists
 mod PointRuns

@@ -1,5 +1,5 @@
 -- Lists of texts with commas between them.
-use Rattle.std.proofs.Common.{◌≡◌, ◌∙◌, ℕ, ◌+◌, ◌<◌, List, [], ◌∷◌, ◌++◌, map, length, get_or, take, sym, ap, arith}
+use Rattle.std.proofs.Common.{◌≡◌, ◌∙◌, ℕ, ◌+◌, ◌<◌, List, ◌++◌, map, length, get_or, take, sym, ap, arith}
 use Rattle.std.proofs.lemmas.List.{length-take-le, length-map}
 use Rattle.list_lemmas.proofs.MapPlaces.{more_map}
 use Rattle.json_reply.specs.Texts.{listed}

@@ -1,7 +1,6 @@
 -- The texts of points, each behind a comma.
-use Rattle.std.proofs.Common.{◌≡◌, ◌∙◌, ℕ, List, [], ◌∷◌, ◌++◌, drop, refl, sym, ap, append_assoc, append-nil, Option, Some, None}
+use Rattle.std.proofs.Common.{◌≡◌, ◌∙◌, ℕ, List, [], ◌∷◌, ◌++◌, drop, refl, sym, ap, append_assoc, append-nil}
 use Rattle.std.specs.Prelude.{codes}
-use Rattle.std.specs.List.{flat_map}
 use Rattle.json_reply.specs.Texts.{listed}
 use Rattle.http_series.specs.SeriesAnswers.{behind_commas}
 use Rattle.http_series.specs.SeriesReplies.{points_text}
@@ -29,3 +28,14 @@ one_behind old comma new text comma_is new_is =
 -- one text behind another
 pub two_written : (old between new first second written : List ℕ) → between ≡ old ++ first → new ≡ between ++ written → written ≡ second → new ≡ old ++ (first ++ second)
 two_written old between new first second written between_is new_is same = new_is ∙ ap (λ text. between ++ text) same ∙ ap (λ before. before ++ second) between_is ∙ append_assoc old first second
+
+-- three texts, one behind the other
+pub three_written : (old one two new first second third : List ℕ) → one ≡ old ++ first → two ≡ one ++ second → new ≡ two ++ third → new ≡ old ++ (first ++ second ++ third)
+three_written old one two new first second third one_is two_is new_is =
+    new_is ∙ ap (λ text. text ++ third) (two_is ∙ ap (λ text. text ++ second) one_is ∙ append_assoc old first second) ∙ append_assoc old (first ++ second) third
+
+-- four texts, one behind the other, where nothing stood before
+pub four_alone : (none one two three new first second third fourth : List ℕ) → none ≡ [] → one ≡ none ++ first → two ≡ one ++ second → three ≡ two ++ third → new ≡ three ++ fourth → new ≡ first ++ (second ++ (third ++ fourth))
+four_alone none one two three new first second third fourth none_is one_is two_is three_is new_is =
+    new_is ∙ ap (λ text. text ++ fourth) (three_is ∙ ap (λ text. text ++ third) (two_is ∙ ap (λ text. text ++ second) (one_is ∙ ap (λ text. text ++ first) none_is))) ∙ append_assoc (first ++ second) third fourth
+    ∙ append_assoc first second (third ++ fourth)

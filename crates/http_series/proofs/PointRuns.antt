@@ -14,9 +14,9 @@ use Rattle.series_meta.specs.MetaFaults.{is_stop}
 use Rattle.series_meta.specs.declared.meta_answers.Last.{Last}
 use Rattle.series_meta.specs.declared.meta_faults.MetaFault.{MetaFault}
 use Rattle.series_meta.specs.declared.meta_faults.MetaFault.TheVariants.{Unknown, Duplicate, OutOfMemory, Stopped}
-use Rattle.http_series.specs.SeriesAnswers.{AllAsked, FoundSays, LastAsked, LastsTell, LastsTold, PointsAsked, RefusedAt, behind_commas, plain_text}
+use Rattle.http_series.specs.SeriesAnswers.{FoundSays, LastAsked, LastsTell, LastsTold, PointsAsked, RefusedAt, behind_commas, plain_text}
 use Rattle.http_series.specs.SeriesAnswers.AllAsked.{start, then_asked}
-use Rattle.http_series.specs.SeriesReplies.{point_texts, points_text}
+use Rattle.http_series.specs.SeriesReplies.{point_texts}
 use Rattle.http_series.proofs.PointLists.{array, more_behind}
 
 -- what is said of one series holds of each history that is possible then

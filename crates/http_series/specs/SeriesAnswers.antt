@@ -1,18 +1,20 @@
--- What requests for last points are answered, by the entries that their caller makes for them between two lengths of a history.
+-- What requests on series are answered, by the entries that their caller makes for them between two lengths of a history.
 use Rattle.std.specs.Prelude.{◌≡◌, ◌⊎◌, ℕ, ◌+◌, ◌*◌, ◌≤◌, List, [], ◌∷◌, ◌++◌, length, Option, Result, Ok, Err, Vec}
 use Rattle.std.specs.List.{flat_map}
 use Rattle.std.specs.declared.alloc.Global.{Global}
-use Rattle.cell_model.specs.History.{History}
+use Rattle.cell_model.specs.History.{History, first}
 use Rattle.cell_model.specs.Deeds.{deeds, Since}
 use Rattle.cell_model.specs.Seen.{Seen, InEach}
 use Rattle.query_run.specs.Parts.{AreQuerySteps}
 use Rattle.query_run.specs.declared.fault.AskFault.{AskFault}
 use Rattle.query_run.specs.declared.fault.AskFault.TheVariants as ask
 use Rattle.series_meta.specs.LatestPoints.{Asking, LastIs, LastSays}
+use Rattle.series_meta.specs.Lookups.{AreFewFor, LookupIs, SeriesAsked}
 use Rattle.series_meta.specs.declared.meta_answers.Last.{Last}
+use Rattle.series_meta.specs.declared.meta_answers.Line.{Line}
 use Rattle.series_meta.specs.declared.meta_faults.MetaFault.{MetaFault}
 use Rattle.series_meta.specs.declared.meta_faults.MetaFault.TheVariants.{Unknown, Duplicate, OutOfMemory, Stopped}
-use Rattle.http_series.specs.SeriesReplies.{point_texts, points_text}
+use Rattle.http_series.specs.SeriesReplies.{lookup_text, point_texts, points_text}
 
 -- the fault of a query with the same text
 abbrev pub query_fault : MetaFault → AskFault
@@ -20,6 +22,23 @@ query_fault (Unknown kind name) = ask.Unknown kind name
 query_fault (Duplicate time a b) = ask.Duplicate time a b
 query_fault OutOfMemory = ask.OutOfMemory
 query_fault Stopped = ask.Stopped
+
+-- ---- a lookup
+
+-- series were looked up by the caller's entries there and no other
+pub record LookedUp (h : History) (caller n : ℕ) (q : SeriesAsked) (found : Result (Vec Line Global) MetaFault) (n2 : ℕ) : Type 0 where
+  pub steps : AreQuerySteps (deeds h caller n n2)
+  pub few : AreFewFor q.sub (deeds h caller n n2) (first n2 h)
+  pub is : LookupIs q n (deeds h caller n n2) found n2 h
+
+-- the text that tells of the series, or why there is none
+abbrev pub text_of : SeriesAsked → Result (Vec Line Global) MetaFault → Result (List ℕ) MetaFault
+text_of q (Ok lines) = Ok (lookup_text q lines.items)
+text_of q (Err fault) = Err fault
+
+-- a lookup was answered with this text
+abbrev pub LookupTold : History → ℕ → ℕ → SeriesAsked → Result (List ℕ) MetaFault → ℕ → Type 0
+LookupTold h caller n q told n2 = (found : Result (Vec Line Global) MetaFault) × LookedUp h caller n q found n2 × (told ≡ text_of q found)
 
 -- ---- last points
 
@@ -68,6 +87,9 @@ abbrev pub PointsAsked : History → ℕ → ℕ → List Asking → List ℕ �
 PointsAsked h caller n series points n2 = (texts : List (List ℕ)) × AllAsked h caller n series texts n2 × (points ≡ behind_commas texts)
 
 -- ---- what the caller sees of it
+
+abbrev pub LookupTells : SeriesAsked → Seen → Result (List ℕ) MetaFault → Seen → Type 0
+LookupTells q old told new = Since old new × InEach new (λ h. LookupTold h old.caller old.length q told new.length)
 
 abbrev pub LastsTell : List Asking → Seen → Result (List ℕ) MetaFault → Seen → Type 0
 LastsTell series old told new = Since old new × InEach new (λ h. LastsTold h old.caller old.length series told new.length)

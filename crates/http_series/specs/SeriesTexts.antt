@@ -9,15 +9,20 @@ use Rattle.query_text.specs.declared.queries.Sub.{Sub}
 use Rattle.query_text.specs.declared.queries.Test.{Test}
 use Rattle.query_text.specs.declared.queries.Test.TheVariants.{OneOf}
 use Rattle.query_text.specs.declared.queries.QueryFault.{QueryFault}
-use Rattle.series_meta.specs.LookupTexts.{has_two_parts}
+use Rattle.series_meta.specs.LookupTexts.{has_text_test, has_two_parts}
 use Rattle.http_series.specs.declared.argument_fault.ArgumentFault.{ArgumentFault}
 use Rattle.http_series.specs.declared.argument_fault.ArgumentFault.TheVariants.{BadTimeseries}
 use Rattle.http_series.specs.declared.last_request.SeriesName.{SeriesName}
 use Rattle.http_series.specs.ArgumentReading.{◌>>=◌, or_fault}
 
--- a sub query without a downsample
+-- a sub query whose filters test names alone
+abbrev pub by_names : Sub → Bool → Option Sub
+by_names sub false = Some sub
+by_names sub true = None
+
+-- the same without a downsample
 abbrev pub plain : Sub → Option Down → Option Sub
-plain sub None = Some sub
+plain sub None = by_names sub (has_text_test sub.filters)
 plain sub (Some down) = None
 
 abbrev pub plain_of : Bool → Result Sub QueryFault → Option Sub
@@ -25,7 +30,7 @@ plain_of false (Ok sub) = plain sub sub.down
 plain_of false (Err fault) = None
 plain_of true read = None
 
--- what the text asks with the aggregator `none`, where it has no downsample and at most one part in braces
+-- what the text asks with the aggregator `none`, where it has no downsample, at most one part in braces, and filters by names alone
 unfoldable pub series_of : List ℕ → Option Sub
 series_of text = plain_of (has_two_parts text) (sub_of true (codes "none:" ++ text))
 

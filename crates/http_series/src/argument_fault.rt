@@ -8,6 +8,10 @@ use std::alloc::{AllocError, AllocFailed};
 /// Why the arguments of a request on series ask for nothing.
 #[derive(Clone, Copy, Debug, PartialEq, Eq)]
 pub enum ArgumentFault {
+    /// The text of a lookup is missing, or asks for no series.
+    BadLookup,
+    /// The most series that are wanted are no number from 1 to 10,000.
+    BadLimit,
     /// There is no text of a series or more than 16, or one of them asks for no series by 1 to 8 different keys with one value each.
     BadTimeseries,
     /// The hours to look back are no number from 0 to 8,784.
@@ -23,6 +27,8 @@ impl ArgumentFault {
         ensures { OnOk result (out.new.items ≡ out.old.items ++ argument_fault_text self.now) }
     {
         match self {
+            ArgumentFault::BadLookup => out.extend_from_slice(b"bad lookup"),
+            ArgumentFault::BadLimit => out.extend_from_slice(b"bad limit"),
             ArgumentFault::BadTimeseries => out.extend_from_slice(b"bad timeseries"),
             ArgumentFault::BadBackScan => out.extend_from_slice(b"bad back_scan"),
             ArgumentFault::OutOfMemory => out.extend_from_slice(b"out of memory"),

@@ -1,17 +1,17 @@
 //! The answer to a request for last points.
-ghost use Rattle.std.specs.Prelude.{◌≡◌, ◌≤◌, ◌++◌, [], ◌∷◌, codes, drop, map, Err, IfErr, IfOk, MatchResult, Ok, OnOk};
+ghost use Rattle.std.specs.Prelude.{◌≡◌, ◌≤◌, ◌++◌, [], ◌∷◌, codes, drop, map, Err, IfErr, IfOk, OnOk};
 ghost use Rattle.tsd_base.specs.declared.times.TheConstants.{LAST_TIME};
 ghost use Rattle.cell_model.specs.Deeds.{Since};
 ghost use Rattle.cell_model.specs.Seen.{InEach};
 ghost use Rattle.cell_model.specs.Stops.{CountsStops};
 ghost use Rattle.series_meta.specs.LatestPoints.{LastSays};
 ghost use Rattle.series_meta.specs.MetaFaults.{is_stop};
-ghost use Rattle.series_meta.specs.declared.meta_faults.MetaFault.TheVariants as meta;
 ghost use Rattle.http_series.specs.SeriesAnswers.{FoundSays, LastsTell, PointsAsked, RefusedAt, behind_commas, plain_text};
 ghost use Rattle.http_series.specs.SeriesReplies.{point_text, point_texts};
 ghost use Rattle.http_series.specs.SeriesRequests.{asking, askings, lasts_asked};
 
 use crate::last_request::{LastRequest, SeriesName};
+use crate::lookup_answer::text_or;
 use crate::series_objects::write_point;
 use cell_model::Rows;
 use series_meta::{Last, MetaFault, last};
@@ -136,15 +136,5 @@ fn behind_first(bytes: &[u8]) -> &[u8]
     match bytes.split_first() {
         Some((_, rest)) => rest,
         None => bytes,
-    }
-}
-
-/// The text, or the want of memory for it.
-fn text_or(text: Result<Vec<u8>, AllocError>) -> Result<Vec<u8>, MetaFault>
-    ensures { MatchResult text (λ text. result ≡ Ok text) (λ _. result ≡ Err meta.OutOfMemory) }
-{
-    match text {
-        Ok(text) => Ok(text),
-        Err(_) => Err(MetaFault::OutOfMemory),
     }
 }

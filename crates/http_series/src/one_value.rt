@@ -27,7 +27,7 @@ fn one_name(test: &Test) -> Option<&Name>
     match test {
         Test::Any => None,
         Test::OneOf { names } => only(names.list()),
-        Test::NotOneOf { .. } => None,
+        Test::NotOneOf { .. } | Test::Wild { .. } | Test::Pattern { .. } => None,
     }
 }
 

@@ -1,17 +1,18 @@
 //! The objects that tell of series.
 ghost use Rattle.std.specs.Prelude.{◌≡◌, ◌++◌, map, OnOk};
 ghost use Rattle.json_reply.specs.Texts.{listed, quoted, tag_text};
-ghost use Rattle.http_series.specs.SeriesReplies.{identifier_text, names_text, point_text, tags_text, time_text, tsuid_text, value_text};
+ghost use Rattle.http_series.specs.SeriesReplies.{count_text, found_text, identifier_text, line_text, names_text, point_text, tags_text, time_text, tsuid_text, value_text};
 
 use json_reply::json_text::write_comma;
-use series_meta::Last;
+use series_meta::{Last, Line};
+use short_bytes::short::Bytes;
 use std::alloc::{AllocError, Global};
 use tsd_base::decimals::{write_number, write_signed};
 use tsd_base::names::Name;
 use tsd_base::tags::Tags;
 
 /// Appends a text in quotes, which needs no escapes.
-fn write_quoted(out: &mut Vec<u8>, text: &[u8]) -> Result<(), AllocError>
+pub(crate) fn write_quoted(out: &mut Vec<u8>, text: &[u8]) -> Result<(), AllocError>
     ensures { OnOk result (out.new.items ≡ out.old.items ++ quoted text.now) }
 {
     out.extend_from_slice(b"\"")?;
@@ -56,6 +57,34 @@ fn write_tsuid(alloc: Global, out: &mut Vec<u8>, tsuid: &[u8]) -> Result<(), All
     write_quoted(out, digits.as_bytes())
 }
 
+/// Appends the object of a series that was found.
+pub(crate) fn write_line(alloc: Global, out: &mut Vec<u8>, line: &Line) -> Result<(), AllocError>
+    ensures { OnOk result (out.new.items ≡ out.old.items ++ line_text line.now) }
+{
+    write_count(out, line.count)?;
+    write_found(alloc, out, line)?;
+    Ok(())
+}
+
+/// Appends the count of a series that was found, at the beginning of its object.
+fn write_count(out: &mut Vec<u8>, count: u64) -> Result<(), AllocError>
+    ensures { OnOk result (out.new.items ≡ out.old.items ++ count_text count) }
+{
+    out.extend_from_slice(b"{\"count\":")?;
+    write_number(count, out)?;
+    Ok(())
+}
+
+/// Appends the tags and the identifier of a series that was found, at the end of its object.
+fn write_found(alloc: Global, out: &mut Vec<u8>, line: &Line) -> Result<(), AllocError>
+    ensures { OnOk result (out.new.items ≡ out.old.items ++ found_text line.now) }
+{
+    out.extend_from_slice(b",\"tags\":")?;
+    write_tags(out, &line.tags)?;
+    write_identifier(alloc, out, &line.tsuid)?;
+    out.extend_from_slice(b"}")
+}
+
 /// Appends the object of the last point of a series.
 pub(crate) fn write_point(
     alloc: Global,
@@ -68,7 +97,7 @@ pub(crate) fn write_point(
 {
     write_names(out, metric, tags)?;
     write_time(out, last)?;
-    write_identifier(alloc, out, last)?;
+    write_identifier(alloc, out, &last.tsuid)?;
     write_value(out, last)?;
     Ok(())
 }
@@ -92,12 +121,12 @@ fn write_time(out: &mut Vec<u8>, last: &Last) -> Result<(), AllocError>
     Ok(())
 }
 
-/// Appends the identifier of a point's series.
-fn write_identifier(alloc: Global, out: &mut Vec<u8>, last: &Last) -> Result<(), AllocError>
-    ensures { OnOk result (out.new.items ≡ out.old.items ++ identifier_text last.now) }
+/// Appends the identifier of a series.
+fn write_identifier(alloc: Global, out: &mut Vec<u8>, tsuid: &Bytes) -> Result<(), AllocError>
+    ensures { OnOk result (out.new.items ≡ out.old.items ++ identifier_text tsuid.now) }
 {
     out.extend_from_slice(b",\"tsuid\":")?;
-    write_tsuid(alloc, out, last.tsuid.list())?;
+    write_tsuid(alloc, out, tsuid.list())?;
     Ok(())
 }
 

@@ -78,6 +78,7 @@ row_says w key now cells p (Err ask.OutOfMemory) step reply g = few_one p (point
 row_says w key now cells p (Err ask.Stopped) step reply g = absurd g.2
 row_says w key now cells p (Err (ask.Unknown kind name)) step reply g = absurd g.2
 row_says w key now cells p (Err (ask.TooManyBuckets count)) step reply g = absurd g.2
+row_says w key now cells p (Err (ask.BadFilter index)) step reply g = absurd g.2
 row_says w key now cells p (Err (ask.Overflow time)) step reply g = absurd g.2
 
 -- the answer of what was read
@@ -95,6 +96,7 @@ read_leaves cells base now s before after (Err ask.OutOfMemory) g possible le = 
 read_leaves cells base now s before after (Err ask.Stopped) g possible le = absurd g.2
 read_leaves cells base now s before after (Err (ask.Unknown kind name)) g possible le = absurd g.2
 read_leaves cells base now s before after (Err (ask.TooManyBuckets count)) g possible le = absurd g.2
+read_leaves cells base now s before after (Err (ask.BadFilter index)) g possible le = absurd g.2
 read_leaves cells base now s before after (Err (ask.Overflow time)) g possible le = absurd g.2
 
 -- ---- the hours so far
@@ -183,6 +185,7 @@ module _ (key : RowKey) (now : ℕ) (old s t : Seen) (gone base : ℕ) (at : Row
     walk_failed ask.Stopped (more, made, few) = record { own = far.own ++ more; made = made_joined old s t far.own more far.made made; few = few_more gone (back + 1) far.own more far.few few (omega (arith, within)); is = tt }
     walk_failed (ask.Unknown kind name) (more, made, (p, is, (dots, reads, of))) = absurd of
     walk_failed (ask.TooManyBuckets count) (more, made, (p, is, (dots, reads, of))) = absurd of
+    walk_failed (ask.BadFilter index) (more, made, (p, is, (dots, reads, of))) = absurd of
     walk_failed (ask.Overflow time) (more, made, (p, is, (dots, reads, of))) = absurd of
 
 -- the key of the row that is read next

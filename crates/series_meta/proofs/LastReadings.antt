@@ -38,7 +38,7 @@ use Rattle.series_meta.proofs.HourSteps.{shown_cells}
 use Rattle.series_meta.proofs.ReadRows.{stood, shown_reading}
 
 -- the data points of one of the cells are among those of all
-cell_dots : (cells : List Cell) (all : List Dot) (c : Cell) (dots : List Dot) (d : Dot) → AreDots cells all → Contains cells c → HoldsDots c.qual c.value dots → Contains dots d → Contains all d
+pub cell_dots : (cells : List Cell) (all : List Dot) (c : Cell) (dots : List Dot) (d : Dot) → AreDots cells all → Contains cells c → HoldsDots c.qual c.value dots → Contains dots d → Contains all d
 cell_dots [] all c dots d are i has k = absurd (not_in c i)
 cell_dots (x ∷ cells) all c dots d (first_, rest, is, are, parts) i has k = subst (λ (l : List Dot). Contains l d) (sym parts) (elim (split x c cells i) [
   | inl same ↦

@@ -6,3 +6,10 @@ mod HourSteps
 mod ReadRows
 mod LastReadings
 mod OneLast
+mod RowCounting
+mod TimeLists
+mod CountAdds
+mod CountLoop
+mod FoundTimes
+mod LineLists
+mod FoundSeries

@@ -21,7 +21,7 @@ use Rattle.uid_table.specs.Shown.{HasShown}
 use Rattle.uid_table.specs.ShownKeys.{IdsShown, PairsShown}
 use Rattle.uid_table.specs.IdSteps.{MadeSo, DidRead, LookedOrKept, ResolveMade}
 use Rattle.query_run.specs.declared.fault.AskFault.{AskFault}
-use Rattle.query_run.specs.declared.fault.AskFault.TheVariants.{TooManyBuckets, Unknown, Duplicate, Overflow, OutOfMemory, Stopped}
+use Rattle.query_run.specs.declared.fault.AskFault.TheVariants.{TooManyBuckets, BadFilter, Unknown, Duplicate, Overflow, OutOfMemory, Stopped}
 use Rattle.query_run.specs.Parts.{NameOf}
 use Rattle.query_run.specs.RowNames.{AreReads}
 use Rattle.query_run.specs.ResolvedIds.{AreShown, AreLooks, AreResolved, IsFirstUnknown, UnresolvedBy, IsUnresolved}
@@ -97,6 +97,7 @@ unresolved_by ns ms list new (Unknown kind name) u =
 unresolved_by ns ms list new OutOfMemory u = tt
 unresolved_by ns ms list new Stopped u = tt
 unresolved_by ns ms list new (TooManyBuckets count) u = absurd u
+unresolved_by ns ms list new (BadFilter index) u = absurd u
 unresolved_by ns ms list new (Duplicate time x y) u = absurd u
 unresolved_by ns ms list new (Overflow time) u = absurd u
 
@@ -114,6 +115,7 @@ unresolved_after ns ms xs ys new (Unknown kind name) shown u = record {
 unresolved_after ns ms xs ys new OutOfMemory shown u = tt
 unresolved_after ns ms xs ys new Stopped shown u = tt
 unresolved_after ns ms xs ys new (TooManyBuckets count) shown u = absurd u
+unresolved_after ns ms xs ys new (BadFilter index) shown u = absurd u
 unresolved_after ns ms xs ys new (Duplicate time x y) shown u = absurd u
 unresolved_after ns ms xs ys new (Overflow time) shown u = absurd u
 

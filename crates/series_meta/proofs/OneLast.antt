@@ -64,6 +64,7 @@ names_failed q old new (ask.Unknown kind name) u =
 names_failed q old new ask.OutOfMemory u = (tt, record { own = u.list; made = u.made; steps = reads_steps u.list u.looks.reads; few = few_names q u.list u.looks.few; is = λ h lawful fits. tt })
 names_failed q old new ask.Stopped u = (tt, record { own = u.list; made = u.made; steps = reads_steps u.list u.looks.reads; few = few_names q u.list u.looks.few; is = λ h lawful fits. tt })
 names_failed q old new (ask.TooManyBuckets count) u = absurd u.cause
+names_failed q old new (ask.BadFilter index) u = absurd u.cause
 names_failed q old new (ask.Duplicate time a b) u = absurd u.cause
 names_failed q old new (ask.Overflow time) u = absurd u.cause
 
@@ -245,6 +246,7 @@ module _ (q : Asking) (old mid new : Seen) (key : RowKey) (r : AreResolved old (
   rows_failed ask.Stopped at w = (tt, record { own = all; made = made_all; steps = steps_all; few = few_all; is = λ h lawful fits. tt })
   rows_failed (ask.Unknown kind name) at w = absurd w
   rows_failed (ask.TooManyBuckets count) at w = absurd w
+  rows_failed (ask.BadFilter index) at w = absurd w
   rows_failed (ask.Overflow time) at w = absurd w
 
 -- ---- by the sights of the steps

@@ -2,4 +2,10 @@ pub mod MetaFaults
 pub mod LookupTexts
 pub mod HourWalks
 pub mod SeriesRows
+pub mod RowCounts
+pub mod PairsOrder
+pub mod SeriesCounts
+pub mod SeriesTimes
+pub mod SeriesLines
 pub mod LatestPoints
+pub mod Lookups

@@ -17,6 +17,7 @@ text_fault _ = text.BadSeries
 -- it is a fault of steps that look for rows and names
 abbrev pub IsOfSteps : AskFault → Type 0
 IsOfSteps (ask.TooManyBuckets count) = ⊥
+IsOfSteps (ask.BadFilter index) = ⊥
 IsOfSteps (ask.Overflow time) = ⊥
 IsOfSteps _ = Unit {0}
 

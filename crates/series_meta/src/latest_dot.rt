@@ -10,7 +10,7 @@ use qual_codec::{Dot, MergeFault};
 use std::alloc::{AllocError, Global};
 
 /// The data points of cells that read, one cell after the other, and within the column in its order.
-fn gather(alloc: Global, cells: &Cells) -> Result<Vec<Dot>, AllocError>
+pub(crate) fn gather(alloc: Global, cells: &Cells) -> Result<Vec<Dot>, AllocError>
     requires { All (λ c. Reads c.qual c.value) cells.now }
     ensures { IfOk result (λ dots. AreDots cells.now dots.items) }
 {

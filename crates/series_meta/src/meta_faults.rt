@@ -72,7 +72,7 @@ pub(crate) fn meta_fault(fault: AskFault) -> MetaFault
     ensures { result ≡ meta_fault fault }
 {
     match fault {
-        AskFault::TooManyBuckets { .. } => unreachable!(),
+        AskFault::TooManyBuckets { .. } | AskFault::BadFilter { .. } => unreachable!(),
         AskFault::Unknown { kind, name } => MetaFault::Unknown { kind, name },
         AskFault::Duplicate { time, a, b } => MetaFault::Duplicate { time, a, b },
         AskFault::Overflow { .. } => unreachable!(),

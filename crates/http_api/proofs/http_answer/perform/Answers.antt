@@ -25,6 +25,11 @@ returns-in-Ask-clause-err g c = of_error c.answer_query.result
     (λ broken work is. subst (λ (w : Work). WorkBroken (admission c.args.config.now c.args.rule.now.patterns) w (g.R.Rows.seen c.args.names.now.rows) c.args.queue.now (g.R.Rows.seen c.answer_query.new.names.rows) c.args.queue.now) (sym (subst (IsTask work) c.in-Ask.is is).0) (broken (admission c.args.config.now c.args.rule.now.patterns) c.args.queue.now))
     c.answer_query.ensures.err
 
+pub returns-in-LookUp-clause-err : goal.returns-in-LookUp-clause-err
+returns-in-LookUp-clause-err g c = of_error c.reply_lookup.result
+    (λ broken work is. subst (λ (w : Work). WorkBroken (admission c.args.config.now c.args.rule.now.patterns) w (g.R.Rows.seen c.args.names.now.rows) c.args.queue.now (g.R.Rows.seen c.reply_lookup.new.names.rows) c.args.queue.now) (sym (subst (IsTask work) c.in-LookUp.is is)) (broken (admission c.args.config.now c.args.rule.now.patterns) c.args.queue.now))
+    c.reply_lookup.ensures.err
+
 pub returns-in-AskLast-clause-err : goal.returns-in-AskLast-clause-err
 returns-in-AskLast-clause-err g c = of_error c.reply_lasts.result
     (λ broken work is. subst (λ (w : Work). WorkBroken (admission c.args.config.now c.args.rule.now.patterns) w (g.R.Rows.seen c.args.names.now.rows) c.args.queue.now (g.R.Rows.seen c.reply_lasts.new.names.rows) c.args.queue.now) (sym (subst (IsTask work) c.in-AskLast.is is).0) (broken (admission c.args.config.now c.args.rule.now.patterns) c.args.queue.now))
