@@ -72,6 +72,17 @@ impl<X: Drop, P: Ledger, T: Ledger> ClosableQueues<X, P, T> {
         !lists.is_closed()
     }
 
+    /// Tells that a taker of the queue with this number, from 0, has begun.
+    pub fn begin<R: Wait>(&self, rt: &R, queue: usize) {
+        let at = queue % self.arrivals.len();
+        self.lists.lock(rt).begin(at);
+    }
+
+    /// Whether a taker of each of so many queues, from the first, has begun.
+    pub fn have_begun<R: Wait>(&self, rt: &R, count: usize) -> bool {
+        self.lists.lock(rt).have_begun(count)
+    }
+
     /// Closes the queues and wakes all that wait.
     pub fn close<R: Wait>(&self, rt: &R) {
         self.lists.lock(rt).close();

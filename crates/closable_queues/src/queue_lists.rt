@@ -16,6 +16,7 @@ pub struct QueueLists<X: Drop, P: Ledger, T: Ledger> {
     puts: Book<P>,
     takes: Book<T>,
     closed: bool,
+    begun: Vec<bool>,
     ghost counted: { puts.total ≡ takes.total + sum_by deque_len lists.items },
 }
 
@@ -31,11 +32,14 @@ impl<X: Drop, P: Ledger, T: Ledger> QueueLists<X, P, T> {
         requires takes { takes.total ≡ 0 }
     {
         let lists = empty_lists(alloc, count)?;
+        let mut begun = Vec::new(alloc);
+        begun.resize(count, false)?;
         Ok(QueueLists {
             lists,
             puts,
             takes,
             closed: false,
+            begun,
         })
     }
 
@@ -123,6 +127,23 @@ impl<X: Drop, P: Ledger, T: Ledger> QueueLists<X, P, T> {
     /// Whether the lists are closed.
     pub fn is_closed(&self) -> bool {
         self.closed
+    }
+
+    /// Notes that a taker of the list at this place has begun.
+    pub fn begin(&mut self, at: usize) {
+        if let Some(begun) = self.begun.get_mut(at) {
+            *begun = true;
+        }
+    }
+
+    /// Whether a taker of each of so many lists, from the first, has begun.
+    pub fn have_begun(&self, count: usize) -> bool {
+        for begun in self.begun.iter().take(count) {
+            if !*begun {
+                return false;
+            }
+        }
+        true
     }
 
     /// Closes all lists: no taker waits any more.

@@ -7,7 +7,7 @@ use Rattle.std.specs.List.{sum_by}
 use Rattle.std.proofs.lemmas.List.Sums.{sum_by-cons}
 use Rattle.std.proofs.lemmas.List.Elements.{All-head, All-rest}
 use Rattle.tsd_doors.specs.Links.{Counts, Shut, Ends, one_returned}
-use Rattle.link_workers.specs.Accepting.{AddsUp, Allows, AsksEach, AsksHalt, LastAsk, lost_by}
+use Rattle.link_workers.specs.Accepting.{AddsUp, AddsUpOrFails, Allows, AsksEach, AsksHalt, LastAsk, lost_by}
 use Rattle.link_workers.specs.Returns.{AllEnd, AccountsFor, many_returned}
 use Rattle.link_workers.specs.declared.accept_loop.AcceptEnd.{AcceptEnd}
 use Rattle.link_workers.specs.declared.accept_loop.AcceptEnd.TheVariants.{NoneLeft, Stopped, DoorFault, OutOfMemory}
@@ -50,30 +50,30 @@ whole_written n now before same len =
     ap (λ l. take n (now ++ l)) none ∙ ap (λ l. take n l) (append-nil now) ∙ ap (λ k. take k now) (len ∙ sym same) ∙ take-length now
 
 -- all that was accepted was put into the queues, and what was taken of them has an end
-pub accounts : (end : AcceptEnd) (a b : Counts) (from put ends : ℕ) → from ≡ 0 → AddsUp (lost_by end) a b from put → ends ≡ put → AccountsFor end a b ends
-accounts end a b from put ends new adds all = record {
+pub accounts : (end : AcceptEnd) (a b : Counts) (from put ends : ℕ) → from ≡ 0 → AddsUpOrFails end a b from put → ends ≡ put → AccountsFor end a b ends
+accounts end a b from put ends new (lost, few_lost, adds) all = record {
   returned = adds.returned;
   port = adds.port;
   few = few adds.out;
   each = λ none. each adds.out none;
 }
   where
-    few : b.out + from ≡ a.out + put + lost_by end → a.out + ends ≤ b.out
+    few : b.out + from ≡ a.out + put + lost → a.out + ends ≤ b.out
     few out = omega (arith, out, all, new)
 
-    each : b.out + from ≡ a.out + put + lost_by end → lost_by end ≡ 0 → b.out ≡ a.out + ends
-    each out none = omega (arith, out, none, all, new)
+    each : b.out + from ≡ a.out + put + lost → lost_by end ≡ 0 → b.out ≡ a.out + ends
+    each out none = omega (arith, out, none, few_lost, all, new)
 
 -- where memory ran out, no more have an end than were put
-pub accounts_few : (end : AcceptEnd) (a b : Counts) (from put ends : ℕ) → from ≡ 0 → AddsUp (lost_by end) a b from put → ends ≤ put → AccountsFor OutOfMemory a b ends
-accounts_few end a b from put ends new adds few = record {
+pub accounts_few : (end : AcceptEnd) (a b : Counts) (from put ends : ℕ) → from ≡ 0 → AddsUpOrFails end a b from put → ends ≤ put → AccountsFor OutOfMemory a b ends
+accounts_few end a b from put ends new (lost, few_lost, adds) few = record {
   returned = adds.returned;
   port = adds.port;
   few = at_most adds.out;
   each = λ lost. omega (arith, lost);
 }
   where
-    at_most : b.out + from ≡ a.out + put + lost_by end → a.out + ends ≤ b.out
+    at_most : b.out + from ≡ a.out + put + lost → a.out + ends ≤ b.out
     at_most out = omega (arith, out, few, new)
 
 -- nothing was accepted

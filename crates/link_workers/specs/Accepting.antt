@@ -23,6 +23,10 @@ lost_by Stopped = 0
 lost_by DoorFault = 0
 lost_by OutOfMemory = 1
 
+-- so it is where accepting ended so, or want of memory is told and nothing was lost
+abbrev pub AddsUpOrFails : AcceptEnd → Counts → Counts → ℕ → ℕ → Type 0
+AddsUpOrFails end before now put_before put_now = (lost : ℕ) × (lost ≤ lost_by end) × AddsUp lost before now put_before put_now
+
 -- where the doors tell which connections are left, they still do
 abbrev pub StillTells : Option (List (List ℕ)) → Option (List (List ℕ)) → Type 0
 StillTells None now = ⊤

@@ -22,7 +22,7 @@ pub enum AcceptEnd {
     /// The doors failed.
     DoorFault,
 
-    /// There was no memory for the connection that was accepted last, for what workers begin with or for a further end.
+    /// There was no memory for the connection that was accepted last, for what workers begin with, for the thread of a queue's only one or for a further end.
     OutOfMemory,
 }
 

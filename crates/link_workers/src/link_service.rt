@@ -8,8 +8,8 @@ use crate::accept_loop::{AcceptEnd, Accepted};
 use crate::link::Link;
 use crate::link_ends::LinkEnds;
 use crate::link_work::LinkWork;
-use crate::staff::work_together;
-use crate::worker_loop::{LinkWorker, serve_left};
+use crate::staff::accept_beside;
+use crate::worker_loop::{LinkWorker, serve_left, serve_worker};
 use closable_queues::closable::ClosableQueues;
 use std::alloc::{AllocError, Global};
 use std::marker::Brand;
@@ -123,7 +123,18 @@ fn serve_counted<
     };
     let mut seated = seated;
     seat_workers::<D, W, T>(workers, &mut seated, &mut taken);
-    let accepted = work_together(rt, &queues, doors, halt, &mut seated, &mut put);
+    let accepted = accept_beside(
+        rt,
+        &queues,
+        doors,
+        halt,
+        &mut put,
+        &mut seated,
+        &|_, worker: &mut LinkWorker<W, D::Kept, W::End, T>|
+            requires { AllServed W.served D.shown worker.now.links.work worker.now.links.ends.items }
+            ensures { AllServed W.served D.shown worker.exit.now.links.work worker.exit.now.links.ends.items }
+        { serve_worker::<R, D, W, P, T>(rt, &queues, worker) },
+    );
     unseat_workers::<D, W, T>(workers, &mut seated, &mut taken);
     let mut lists = queues.into_lists();
     if serve_left::<R, D, W, P, T>(rt, &mut lists, own, &mut put, &mut taken) {

@@ -10,6 +10,8 @@ use closable_queues::closable::ClosableQueues;
 use closable_queues::queue_lists::QueueLists;
 use std::sync::Wait;
 use std::sync::ledger::{Ledger, Share};
+use std::thread::Parker;
+use std::time::Duration;
 use tsd_doors::doors::Doors;
 
 /// A worker: what it has served, and its share of what was taken from the queues, which is as many.
@@ -28,7 +30,8 @@ pub struct LinkWorker<W: Drop, K: Drop, E: Drop, T: Ledger> {
 }
 
 /// Serves the connections of the worker's queue until it is closed and empty. Room for a further end is taken before a connection is.
-/// Where there is none it tries again once a connection comes, and ends where the queue is closed.
+/// Where there is none it waits for a connection and a hundredth of a second, and tries again. It ends where the queue is closed.
+/// Before the first it tells its queue that it has begun.
 pub fn serve_worker<
     R: Wait,
     D: Doors,
@@ -48,13 +51,17 @@ pub fn serve_worker<
         share,
         queue,
     } = worker;
+    queues.begin(rt, *queue);
+    let pause = Parker::new();
     for _ in rt.forever() {
         if links.ends.reserve(1).is_ok() {
             let Some(link) = queues.take(rt, *queue, share) else {
                 return;
             };
             serve_next::<D, W>(links, link);
-        } else if !queues.wait(rt, *queue) {
+        } else if queues.wait(rt, *queue) {
+            pause.park_timeout(rt, Duration::from_millis(10));
+        } else {
             return;
         }
     }

@@ -16,24 +16,24 @@ returns-in_default-clause-asked g c =
 
 pub returns-then-serve_left-clause-asked : goal.returns-then-serve_left-clause-asked
 returns-then-serve_left-clause-asked g c =
-    let end = c.work_together-accepted.result.end in
-    asked_in_all g.H.Halt.answers end end (g.D.Doors.counts c.args.doors.now) (g.D.Doors.counts c.work_together-accepted.new.doors) c.args.halt.now c.work_together-accepted.new.halt
-    (inl refl) c.work_together-accepted.ensures.adds_up.returned c.work_together-accepted.ensures.asked
+    let end = c.accept_beside-accepted.result.end in
+    asked_in_all g.H.Halt.answers end end (g.D.Doors.counts c.args.doors.now) (g.D.Doors.counts c.accept_beside-accepted.new.doors) c.args.halt.now c.accept_beside-accepted.new.halt
+    (inl refl) c.accept_beside-accepted.ensures.adds_up.2.returned c.accept_beside-accepted.ensures.asked
 
 pub returns-clause-asked : goal.returns-clause-asked
 returns-clause-asked g c =
-    asked_in_all g.H.Halt.answers OutOfMemory c.work_together-accepted.result.end (g.D.Doors.counts c.args.doors.now) (g.D.Doors.counts c.work_together-accepted.new.doors) c.args.halt.now
-    c.work_together-accepted.new.halt (inr refl) c.work_together-accepted.ensures.adds_up.returned c.work_together-accepted.ensures.asked
+    asked_in_all g.H.Halt.answers OutOfMemory c.accept_beside-accepted.result.end (g.D.Doors.counts c.args.doors.now) (g.D.Doors.counts c.accept_beside-accepted.new.doors) c.args.halt.now
+    c.accept_beside-accepted.new.halt (inr refl) c.accept_beside-accepted.ensures.adds_up.2.returned c.accept_beside-accepted.ensures.asked
 
 pub returns-then-serve_left-clause-counted : goal.returns-then-serve_left-clause-counted
 returns-then-serve_left-clause-counted g c =
     let own = ap length c.requires.own_idle in
     let all = c.serve_left.ensures.all c.if-serve_left.true in
-    accounts _ _ _ _ _ _ c.open-puts.ensures.amount c.work_together-accepted.ensures.adds_up
+    accounts _ _ _ _ _ _ c.open-puts.ensures.amount c.accept_beside-accepted.ensures.adds_up
     (omega (arith, own, all, c.serve_left.ensures.counted, c.serve_left.ensures.put, c.unseat_workers.ensures.amount))
 
 pub returns-clause-counted : goal.returns-clause-counted
 returns-clause-counted g c =
     let own = ap length c.requires.own_idle in
-    accounts_few _ _ _ _ _ _ c.open-puts.ensures.amount c.work_together-accepted.ensures.adds_up
+    accounts_few _ _ _ _ _ _ c.open-puts.ensures.amount c.accept_beside-accepted.ensures.adds_up
     (omega (arith, own, c.serve_left.ensures.few, c.serve_left.ensures.counted, c.serve_left.ensures.put, c.unseat_workers.ensures.amount))
