@@ -6,9 +6,8 @@ use Rattle.std.proofs.lemmas.Bool.{true≢false}
 use Rattle.std.specs.Io.KnownBytes.{Appends, IsAtEnd}
 use Rattle.tsd_io.specs.Causes.{Rose}
 use Rattle.tsd_doors.specs.Links.{AreFresh, IsNothing, Shut}
-use Rattle.cell_model.specs.History.{History, entry_at}
+use Rattle.cell_model.specs.History.{History}
 use Rattle.cell_model.specs.Lawful.{IsLawful}
-use Rattle.cell_model.specs.declared.events.Entry.{Entry}
 use Rattle.cell_model.specs.Seen.{Seen, Fits, HasSeenOpening}
 use Rattle.cell_store.specs.CallerViews.{SawOpeningsAlone}
 use Rattle.point_put.specs.Admissions.{Admission}

@@ -1,6 +1,6 @@
 -- The last lines, and behind them a store that is saved.
-use Rattle.std.proofs.Common.{◌≡◌, ℕ, ◌+◌, List, [], ◌++◌, length, sym, ap, ◌∙◌, refl, append_assoc, append-nil, length-append}
-use Rattle.std.specs.Prelude.{true, false, Option, None, Some, Bool, is_some, OnOk, OnErr, Result, Ok, Err}
+use Rattle.std.proofs.Common.{◌≡◌, ℕ, ◌+◌, List, [], ◌++◌, length, sym, ap, ◌∙◌, append_assoc, append-nil, length-append}
+use Rattle.std.specs.Prelude.{true, false, Option, None, Some, is_some, OnOk, OnErr, Result, Ok, Err}
 use Rattle.std.specs.Io.KnownBytes.{Appends}
 use Rattle.std.proofs.KnownBytes.{Appends-trans}
 use Rattle.cell_model.specs.Store.{Store}

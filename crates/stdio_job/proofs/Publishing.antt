@@ -20,16 +20,16 @@ nothing_fills = omega arith
 
 fills_all : (ended result : Served) (text given : List ℕ) (n : ℕ) → TellsAll ended result text given → Fills ended n → n ≤ 2 ^ 40 → Fills result n
 fills_all ended result text given n (inl (is, whole)) fills most = subst (λ (r : Served). Fills r n) (sym is) fills
-fills_all ended answer.WriteFault text given n (inr (cut, front)) fills most = most
-fills_all ended answer.OutOfMemory text given n (inr (cut, front)) fills most = most
-fills_all ended answer.End text given n (inr (cut, front)) fills most = absurd cut
-fills_all ended answer.Exit text given n (inr (cut, front)) fills most = absurd cut
-fills_all ended answer.Die text given n (inr (cut, front)) fills most = absurd cut
-fills_all ended answer.Closed text given n (inr (cut, front)) fills most = absurd cut
-fills_all ended answer.ReadFault text given n (inr (cut, front)) fills most = absurd cut
-fills_all ended answer.ClockFault text given n (inr (cut, front)) fills most = absurd cut
-fills_all ended answer.Stopped text given n (inr (cut, front)) fills most = absurd cut
-fills_all ended answer.SessionFull text given n (inr (cut, front)) fills most = absurd cut
+fills_all ended answer.WriteFault text given n (inr cut) fills most = most
+fills_all ended answer.OutOfMemory text given n (inr cut) fills most = most
+fills_all ended answer.End text given n (inr cut) fills most = absurd cut
+fills_all ended answer.Exit text given n (inr cut) fills most = absurd cut
+fills_all ended answer.Die text given n (inr cut) fills most = absurd cut
+fills_all ended answer.Closed text given n (inr cut) fills most = absurd cut
+fills_all ended answer.ReadFault text given n (inr cut) fills most = absurd cut
+fills_all ended answer.ClockFault text given n (inr cut) fills most = absurd cut
+fills_all ended answer.Stopped text given n (inr cut) fills most = absurd cut
+fills_all ended answer.SessionFull text given n (inr cut) fills most = absurd cut
 
 -- what is told behind the replies takes nothing more of the input
 fills_told : (ended result : Served) (text given : List ℕ) (n : ℕ) → Tells ended result text given → Fills ended n → Fills result n

@@ -22,15 +22,15 @@ published points = published_text (length points) (lines_of points)
 abbrev pub IsFront : List ℕ → List ℕ → Type 0
 IsFront front text = (rest : List ℕ) × (text ≡ front ++ rest)
 
--- the sink failed, or memory ran out
-abbrev pub CutsShort : Served → Type 0
-CutsShort answer.WriteFault = Unit {0}
-CutsShort answer.OutOfMemory = Unit {0}
-CutsShort result = ⊥
+-- the sink failed behind a front of the text, or memory ran out before its first byte
+abbrev pub CutsShort : Served → List ℕ → List ℕ → Type 0
+CutsShort answer.WriteFault text given = IsFront given text
+CutsShort answer.OutOfMemory text given = given ≡ []
+CutsShort result text given = ⊥
 
--- the text was given and all ended as the connection did, or a front of it was
+-- the text was given and all ended as the connection did, or it was cut short
 abbrev pub TellsAll : Served → Served → List ℕ → List ℕ → Type 0
-TellsAll ended result text given = ((result ≡ ended) × (given ≡ text)) ⊎ (CutsShort result × IsFront given text)
+TellsAll ended result text given = ((result ≡ ended) × (given ≡ text)) ⊎ CutsShort result text given
 
 -- so it is where a connection ended by itself; else nothing is given
 abbrev pub Tells : Served → Served → List ℕ → List ℕ → Type 0

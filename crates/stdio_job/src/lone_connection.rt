@@ -28,8 +28,8 @@ pub struct Finished<H> {
 /// name is given an id only where the rule allows it. Rows that were put to are not compacted: the store goes with the connection.
 ///
 /// With a prefix to `publish`, where the connection ends by itself the line `published N` follows behind the replies, and the lines of the N
-/// points that were accepted and whose metric begins with the prefix, in the order in which they were put. Where it ends otherwise nothing
-/// follows.
+/// points that were accepted and whose metric begins with the prefix, in the order in which they were put. Where it ends otherwise, or memory
+/// runs out, nothing follows.
 pub fn serve_alone<S: Source, K: Sink, C: Clock, H: Halt + Drop>(
     alloc: Global,
     widths: Widths,

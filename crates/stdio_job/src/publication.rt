@@ -11,7 +11,7 @@ use tsd_io::give_all::give_all;
 use tsd_io::ports::{Failed, Sink};
 
 /// Gives the line `published N` and the lines of N points, where a connection ended by itself, and answers how all ended: so, or for want
-/// of memory, or since the sink failed. Where the connection ended otherwise nothing is given.
+/// of memory, or since the sink failed. Where the connection ended otherwise, or memory runs out, nothing is given.
 pub fn publish<K: Sink>(
     alloc: Global,
     ended: Served,
@@ -37,7 +37,7 @@ pub fn publish<K: Sink>(
     }
 }
 
-/// Gives the line `published N` and the lines of N points, and answers how all ended.
+/// Gives the line `published N` and the lines of N points, and answers how all ended. All memory is taken before the first byte is given.
 fn publish_whole<K: Sink>(
     alloc: Global,
     ended: Served,

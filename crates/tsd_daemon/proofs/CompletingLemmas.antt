@@ -1,13 +1,11 @@
 -- A connection whose devices don't fail ends by itself, and is answered whole.
 use Rattle.std.proofs.Common.{◌≡◌, ◌^◌, ◌<◌, ℕ, List, refl, arith}
 use Rattle.std.specs.Prelude.{◌≢◌, length}
-use Rattle.cell_model.specs.Deeds.{deeds}
 use Rattle.cell_model.specs.History.{History}
-use Rattle.cell_model.specs.Seen.{Seen, InEach}
 use Rattle.point_put.specs.Admissions.{Admission}
 use Rattle.tsd_daemon.specs.declared.served.Served.{Served}
 use Rattle.tsd_daemon.specs.declared.served.Served.TheVariants as answer
-use Rattle.tsd_daemon.specs.ServedConns.{AllAnswered, ConnCauses, Fills, IsServed, Serves, Table}
+use Rattle.tsd_daemon.specs.ServedConns.{ConnCauses, Fills, IsServed}
 use Rattle.tsd_daemon.specs.ConnCompletes.{ConnCompletes, EndsByItself, IsAnsweredWhole, NoneRose}
 
 too_long : (n : ℕ) → n ≡ 2 ^ 40 → n < 2 ^ 40 → ⊥

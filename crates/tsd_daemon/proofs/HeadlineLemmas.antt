@@ -32,7 +32,7 @@ use Rattle.json_reply.specs.Replies.{Group}
 use Rattle.query_text.specs.declared.queries.Query.{Query}
 use Rattle.query_text.specs.declared.queries.Sub.{Sub}
 use Rattle.query_run.specs.declared.fault.AskFault.{AskFault}
-use Rattle.query_run.specs.declared.fault.AskFault.TheVariants.{TooManyBuckets, Unknown, Duplicate, Overflow, OutOfMemory, Stopped}
+use Rattle.query_run.specs.declared.fault.AskFault.TheVariants.{TooManyBuckets, BadFilter, Unknown, Duplicate, Overflow, OutOfMemory, Stopped}
 use Rattle.query_run.specs.Asked.{Answers}
 use Rattle.query_run.specs.Asked.Answers.{none, more}
 use Rattle.query_run.specs.AskedQueries.{answer_over, barred, names_in, wanted, IsFew, QueryAsked}
@@ -180,6 +180,7 @@ module _ (h : History) (n n2 : ℕ) (lawful : IsLawful h) (le : n ≤ n2) (q : Q
       stand p c =
           let d = deeds_each h caller n n2 p (subst (λ (l : List Placed). Contains l p) (sym r.made) (Contains-append_right (all_own r.parts) r.part.own p c)) in (d.within, d.stands)
   result_plain caller (Err (TooManyBuckets count)) r one = tt
+  result_plain caller (Err (BadFilter index)) r one = tt
   result_plain caller (Err (Unknown kind name)) r one = tt
   result_plain caller (Err (Overflow time)) r one = tt
   result_plain caller (Err OutOfMemory) r one = tt

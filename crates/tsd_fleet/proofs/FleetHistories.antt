@@ -1,6 +1,6 @@
 -- The one history that a fleet's connections were served in.
 use Rattle.std.proofs.Common.{◌≡◌, ◌≢◌, ◌⊎◌, inl, inr, ⊎_elim, ℕ, suc, ◌+◌, ◌<◌, ◌≤◌, true, false, Bool, List, [], ◌∷◌, ◌++◌, length, refl, sym, ap, ◌∙◌, subst, length-append, rules, arith}
-use Rattle.std.specs.Prelude.{AllPairs, Contains, Option, None, Some, map, nat_le}
+use Rattle.std.specs.Prelude.{Contains, Option, None, Some, nat_le}
 use Rattle.std.proofs.lemmas.Bool.{true≢false}
 use Rattle.std.proofs.lemmas.List.Elements.{All-nil, Contains-append_cases, Contains-append_left, Contains-append_right}
 use lib.ListN.{length-map}

@@ -1,6 +1,6 @@
 -- The line of a fleet, why it ended, and the numbers of the store that it leaves.
 use Rattle.std.proofs.Common.{◌≡◌, ℕ, ◌+◌, ◌-◌, ◌^◌, ◌≤◌, List, [], ◌∷◌, length, take, drop, inl, inr, refl, sym, subst, ap, ◌∙◌, take-append-drop, append-nil, arith}
-use Rattle.std.specs.Prelude.{◌≢◌, ◌⊎◌, Bool, Option, None, Some, min, filter, map}
+use Rattle.std.specs.Prelude.{◌≢◌, ◌⊎◌, Bool, Option, None, min, filter, map}
 use Rattle.std.specs.Option.{option_map_or}
 use Rattle.std.specs.Int.{w64, from_be_bytes}
 use Rattle.std.specs.List.{list_any}

@@ -27,7 +27,6 @@ use Rattle.listing_job.specs.ListingJobs.{OverListing, Told}
 use Rattle.image_job.specs.ImageJobs.{GivesRefusal, LoadsImage, OverImage, Unpacked}
 use Rattle.tsd_fleet.specs.declared.fleet_end.FleetEnd.{FleetEnd}
 use Rattle.tsd_fleet.specs.declared.fleet_end.FleetEnd.TheVariants as end
-use Rattle.tsd_run.specs.declared.status.Status.{Status}
 use Rattle.tsd_run.specs.declared.status.Status.TheVariants.{Done, Usage, Refused, ReadFault, WriteFault, Memory, Stopped, DoorFault, SessionFull, ClockFault}
 use Rattle.tsd_run.specs.BatchQueries.{query_of}
 use Rattle.tsd_run.specs.FleetStatuses.{LacksStore, ServesFleet, fleet_status}
@@ -175,17 +174,11 @@ lacks_usage image before after held held' (inr x) = usage_memory x.0 where
 -- ---- fleets
 
 fleet_usages : (s : Serve) (inlets_tell outlets_tell : Type 0) (before after : Devices) → ServesFleet s inlets_tell outlets_tell before after Usage → ⊥
-fleet_usages s inlets_tell outlets_tell before after (inl (base, begins, inl x)) = fleet_usage x.0 x.1 x.2
-fleet_usages s inlets_tell outlets_tell before after (inl (base, begins, inr x)) = usage_memory x.0 where
-  usage_memory : Usage ≡ Memory → ⊥
-  usage_memory is = cc
+fleet_usages s inlets_tell outlets_tell before after (inl (base, begins, x)) = fleet_usage x.0 x.1 x.2
 fleet_usages s inlets_tell outlets_tell before after (inr x) = lacks_usage s.image before.input after.input before.output.held after.output.held x.0
 
 fleet_fulls : (s : Serve) (inlets_tell outlets_tell : Type 0) (before after : Devices) → IsShort before.input after.input → ServesFleet s inlets_tell outlets_tell before after SessionFull → ⊥
-fleet_fulls s inlets_tell outlets_tell before after short (inl (base, begins, inl x)) = fleet_full x.0 x.1 x.2
-fleet_fulls s inlets_tell outlets_tell before after short (inl (base, begins, inr x)) = full_memory x.0 where
-  full_memory : SessionFull ≡ Memory → ⊥
-  full_memory is = cc
+fleet_fulls s inlets_tell outlets_tell before after short (inl (base, begins, x)) = fleet_full x.0 x.1 x.2
 fleet_fulls s inlets_tell outlets_tell before after short (inr x) = lacks_full before.input after.input before.output.held after.output.held short s.image x.0
 
 -- ---- a connection of its own

@@ -1,6 +1,7 @@
 -- Fleets that served as the words say, from the store that they begin with, and runs for which there was no memory.
-use Rattle.std.proofs.Common.{◌≡◌, ◌≢◌, ◌≤◌, inl, inr, ℕ, Bool, true, false, List, [], refl, sym, ap, subst, ◌∙◌, arith}
+use Rattle.std.proofs.Common.{◌≡◌, ◌≢◌, ◌≤◌, inl, inr, ℕ, Bool, true, false, ◌&&◌, List, [], refl, sym, ap, subst, ◌∙◌, arith}
 use Rattle.std.specs.Prelude.{Option, None, Some, MatchOption, Ok}
+use Rattle.std.proofs.lemmas.Bool.{true≢false}
 use Rattle.tsd_io.specs.Causes.{Rose}
 use Rattle.row_key.specs.Made.{three}
 use Rattle.row_key.specs.declared.widths.Widths.{Widths}
@@ -9,17 +10,21 @@ use Rattle.cell_model.specs.Sound.{IsBase}
 use Rattle.cell_model.specs.Store.{Store, no_cells}
 use Rattle.cell_model.specs.declared.row.Listing.{Listing}
 use Rattle.cell_laws.proofs.CallerLemmas.{empty_base}
-use Rattle.tsd_fleet.specs.Devices.{ClockTold, DoorsTold, FleetDevices, OutputTold}
+use Rattle.point_put.specs.Admissions.{Admission}
+use Rattle.tsd_fleet.specs.Devices.{ClockTold, DoorsTold, FleetDevices, OutputTold, Terms}
+use Rattle.tsd_fleet.specs.declared.fleet_end.FleetEnd.{FleetEnd}
+use Rattle.tsd_fleet.specs.declared.fleet_end.FleetEnd.TheVariants as end
+use Rattle.serve_job.specs.FleetRuns.{FleetCauses, RunsFleet, has_no_more, is_too_large}
 use Rattle.command_words.specs.CommandWords.{Serve, Asked, fleet_asked}
 use Rattle.command_words.specs.CommandWords.Asked.{BatchAsked, StdioAsked, ServeAsked, ImportAsked, DumpAsked, FsckAsked, FixAsked, WeaveAsked, PackAsked, UnpackAsked}
 use Rattle.image_job.specs.ImageJobs.{LoadsImage}
 use Rattle.tsd_run.specs.declared.status.Status.{Status}
 use Rattle.tsd_run.specs.declared.status.Status.TheVariants.{Done, ReadFault, WriteFault, Memory, Stopped, DoorFault, ClockFault}
-use Rattle.tsd_run.specs.FleetStatuses.{BeginsWith, LacksStore, ServesFleet, ServesOver, asks_clock}
-use Rattle.tsd_run.specs.RunCauses.{HasFleetCauses, HasLoneCauses}
+use Rattle.tsd_run.specs.FleetStatuses.{BeginsWith, LacksStore, ServesFleet, ServesOver, asks_clock, fleet_status}
+use Rattle.tsd_run.specs.RunCauses.{HasCauses, HasFleetEnd, HasLoneCauses}
 use Rattle.tsd_run.specs.RunDevices.{Devices, InputTold, LoneDevices, fleet, lone}
 use Rattle.tsd_run.specs.RunPromises.{Ran, RanAlone, RanFleet}
-use Rattle.tsd_run.specs.Runs.{RunsAlone, is_stdio}
+use Rattle.tsd_run.specs.Runs.{RunsAlone, admission_of, is_stdio}
 use Rattle.tsd_run.proofs.StdioLemmas.{runs_unread}
 
 -- ---- what devices tell, part by part
@@ -67,6 +72,12 @@ memory_causes d = record {
   stopped = λ e. absurd (memory_stop e);
 }
 
+memory_doors : (d : Devices) → HasCauses d d Memory
+memory_doors d = record { lone_causes = memory_causes (lone d); doors_later = omega arith; door_fault = λ e. absurd (memory_door e) }
+
+memory_ends : (d : Devices) → HasFleetEnd d d Memory
+memory_ends d = record { none_left = λ e. absurd (memory_done e); heeded = λ n enough. absurd (enough refl) }
+
 -- for the words of a command that waits for nobody
 pub alone_unread : (asked : Option Asked) (i : InputTold) (o : OutputTold) (k : ClockTold) (stops stops' : ℕ) (status : Status) → status ≡ Memory → stops' ≡ stops → RanAlone asked (lone_of i o k stops) (lone_of i o k stops') status
 alone_unread asked i o k stops stops' status is same =
@@ -79,6 +90,13 @@ matches (Some s) A F a f = f s
 unserved : (s : Serve) (inlets_tell outlets_tell : Type 0) (d : Devices) → ServesFleet s inlets_tell outlets_tell d d Memory
 unserved s inlets_tell outlets_tell d = inr (inr (refl, refl, inl refl), record { doors = refl; clock = refl; stops = refl })
 
+-- for the rule of a fleet
+pub starved : (s : Serve) (inlets_tell outlets_tell : Type 0) (i : InputTold) (o : OutputTold) (k : ClockTold) (d : DoorsTold) (stops stops' : ℕ) (status : Status) → status ≡ Memory → stops' ≡ stops
+    → RanFleet s inlets_tell outlets_tell (devices_of i o k d stops) (devices_of i o k d stops') status
+starved s inlets_tell outlets_tell i o k d stops stops' status is same =
+    let all = devices_of i o k d stops in
+    subst (λ (p : Status × ℕ). RanFleet s inlets_tell outlets_tell (devices_of i o k d stops) (devices_of i o k d p.1) p.0) (λ j. (sym is j, sym same j)) (record { serves = unserved s inlets_tell outlets_tell all; causes = memory_doors all; ends = memory_ends all })
+
 -- for any words
 pub unread : (asked : Option Asked) (inlets_tell outlets_tell : Type 0) (i : InputTold) (o : OutputTold) (k : ClockTold) (d : DoorsTold) (stops stops' : ℕ) (status : Status) → status ≡ Memory → stops' ≡ stops
     → Ran asked inlets_tell outlets_tell (devices_of i o k d stops) (devices_of i o k d stops') status
@@ -86,8 +104,8 @@ unread asked inlets_tell outlets_tell i o k d stops stops' status is same =
     let all = devices_of i o k d stops in
     subst (λ (p : Status × ℕ). Ran asked inlets_tell outlets_tell (devices_of i o k d stops) (devices_of i o k d p.1) p.0) (λ j. (sym is j, sym same j)) (record {
       runs = matches (fleet_asked asked) (RunsAlone asked (lone all) (lone all) Memory) (λ s. ServesFleet s inlets_tell outlets_tell all all Memory) (runs_unread (lone all) asked) (λ s. unserved s inlets_tell outlets_tell all);
-      causes = record { lone_causes = memory_causes (lone all); doors_later = omega arith; door_fault = λ e. absurd (memory_door e) };
-      ends = λ some. record { none_left = λ e. absurd (memory_done e); heeded = λ n enough. absurd (enough refl) };
+      causes = memory_doors all;
+      ends = λ some. memory_ends all;
     })
 
 -- ---- the store that a fleet begins with
@@ -118,30 +136,62 @@ begins_loaded image i i' held held' l so t = subst (λ (b : Bool). BeginsWith b 
 
 -- ---- a fleet, from the store that it begins with
 
+-- where the halt refused, the status says so, unless memory ran out
+heeded_so : (ended : FleetEnd) (refused large : Bool) (A : Type 0) → refused ≡ (has_no_more ended && large) → (ended ≢ end.Stopped → ended ≢ end.OutOfMemory → A) → fleet_status ended refused ≢ Stopped → fleet_status ended refused ≢ Memory → A
+heeded_so end.Closed refused large A is heeded n m = heeded (λ e. cc) (λ e. cc)
+heeded_so end.Died refused large A is heeded n m = heeded (λ e. cc) (λ e. cc)
+heeded_so end.DoorFault refused large A is heeded n m = heeded (λ e. cc) (λ e. cc)
+heeded_so end.WriteFault refused large A is heeded n m = heeded (λ e. cc) (λ e. cc)
+heeded_so end.Stopped true large A is heeded n m = absurd (true≢false is)
+heeded_so end.Stopped false large A is heeded n m = absurd (n refl)
+heeded_so end.OutOfMemory true large A is heeded n m = absurd (true≢false is)
+heeded_so end.OutOfMemory false large A is heeded n m = absurd (m refl)
+
+-- what the status of a fleet's end tells of that end
+pub record TellsEnd (ended : FleetEnd) (refused : Bool) (status : Status) : Type 0 where
+  pub is : status ≡ fleet_status ended refused
+  pub done : status ≡ Done → has_no_more ended ≡ true
+  pub stopped : status ≡ Stopped → ended ≡ end.Stopped
+  pub door_fault : status ≡ DoorFault → ended ≡ end.DoorFault
+  pub write_fault : status ≡ WriteFault → ended ≡ end.WriteFault
+  pub no_read : status ≢ ReadFault
+  pub no_clock : status ≢ ClockFault
+
 module _ (s : Serve) (inlets_tell outlets_tell : Type 0) where
-  pub ran_served : (i i' : InputTold) (o mid o' : OutputTold) (k k' : ClockTold) (d d' : DoorsTold) (stops stops' : ℕ) (base : Store) (status : Status) → mid ≡ o → BeginsWith s.image i i' base → i.faults ≤ i'.faults
-      → ServesOver s inlets_tell outlets_tell base (fleet_of mid k d stops) (fleet_of o' k' d' stops') status → HasFleetCauses (fleet_of mid k d stops) (fleet_of o' k' d' stops') status
+  abbrev pub terms_on : ℕ → Admission → Store → Terms
+  terms_on port a base = record { port = port; admission = a; base = base; inlets_tell = inlets_tell; outlets_tell = outlets_tell }
+
+  served_over : (before after : FleetDevices) (base : Store) (port : ℕ) (a : Admission) (ended : FleetEnd) (refused : Bool) (status : Status) → port ≡ s.port → a ≡ admission_of s.names s.appends → status ≡ fleet_status ended refused
+      → RunsFleet (terms_on port a base) s.save before after ended refused → ServesOver s inlets_tell outlets_tell base before after status
+  served_over before after base port a ended refused status port_is admits is runs =
+      (ended, refused, is, subst (λ (p : ℕ × Admission). RunsFleet (terms_on p.0 p.1 base) s.save before after ended refused) (λ j. (port_is j, admits j)) runs)
+
+  pub ran_served : (i i' : InputTold) (o mid o' : OutputTold) (k k' : ClockTold) (d d' : DoorsTold) (stops stops' : ℕ) (base : Store) (port : ℕ) (a : Admission) (ended : FleetEnd) (refused : Bool) (status : Status)
+      → mid ≡ o → BeginsWith s.image i i' base → i.faults ≤ i'.faults → port ≡ s.port → a ≡ admission_of s.names s.appends → TellsEnd ended refused status
+      → RunsFleet (terms_on port a base) s.save (fleet_of mid k d stops) (fleet_of o' k' d' stops') ended refused → FleetCauses (fleet_of mid k d stops) (fleet_of o' k' d' stops') ended
       → RanFleet s inlets_tell outlets_tell (devices_of i o k d stops) (devices_of i' o' k' d' stops') status
-  ran_served i i' o mid o' k k' d d' stops stops' base status same begins reads over causes =
-      let so = subst (λ (m : OutputTold). HasFleetCauses (fleet_of m k d stops) (fleet_of o' k' d' stops') status) same causes in
-      record {
-        serves = inl (base, begins, subst (λ (m : OutputTold). ServesOver s inlets_tell outlets_tell base (fleet_of m k d stops) (fleet_of o' k' d' stops') status) same over);
+  ran_served i i' o mid o' k k' d d' stops stops' base port a ended refused status same begins reads port_is admits tells runs causes =
+      subst (λ (m : OutputTold). RanFleet s inlets_tell outlets_tell (devices_of i m k d stops) (devices_of i' o' k' d' stops') status) same (record {
+        serves = inl (base, begins, served_over (fleet_of mid k d stops) (fleet_of o' k' d' stops') base port a ended refused status port_is admits tells.is runs);
         causes = record {
           lone_causes = record {
             reads_later = reads;
-            writes_later = so.later.writes;
-            clock_later = so.later.clock;
-            stops_later = so.later.stops;
-            read_fault = λ is. absurd (so.no_read is);
-            write_fault = so.write_fault;
-            clock_fault = λ is. absurd (so.no_clock is);
-            stopped = so.stopped;
+            writes_later = causes.later.writes;
+            clock_later = causes.later.clock;
+            stops_later = causes.later.stops;
+            read_fault = λ is. absurd (tells.no_read is);
+            write_fault = λ is. causes.write_fault (tells.write_fault is);
+            clock_fault = λ is. absurd (tells.no_clock is);
+            stopped = λ is. causes.stopped (tells.stopped is);
           };
-          doors_later = so.later.doors;
-          door_fault = so.door_fault;
+          doors_later = causes.later.doors;
+          door_fault = λ is. causes.door_fault (tells.door_fault is);
         };
-        ends = record { none_left = so.none_left; heeded = so.heeded };
-      }
+        ends = record {
+          none_left = λ is. causes.none_left (tells.done is);
+          heeded = λ n m. heeded_so ended refused (is_too_large s.save runs.serves.store) (stops' ≡ stops) runs.refused_is causes.heeded (λ e. n (tells.is ∙ e)) (λ e. m (tells.is ∙ e));
+        };
+      })
 
   pub ran_without : (i i' : InputTold) (o o' : OutputTold) (k : ClockTold) (d : DoorsTold) (stops : ℕ) (status : Status) → LacksStore s.image i i' o.held o'.held status → i.faults ≤ i'.faults → o.faults ≤ o'.faults
       → (status ≡ ReadFault → Rose i.faults i'.faults) → (status ≡ WriteFault → Rose o.faults o'.faults) → status ≢ Done → status ≢ ClockFault → status ≢ Stopped → status ≢ DoorFault

@@ -1,6 +1,6 @@
 -- A batch over lines of which no series has two values at one time prints the plain aggregation of all points that it wants.
-use Rattle.std.proofs.Common.{◌≡◌, ◌⊎◌, inl, inr, ℕ, ℤ, Bool, true, false, ◌&&◌, ◌||◌, List, [], ◌∷◌, length, map, refl, sym, ap, subst, ◌∙◌}
-use Rattle.std.specs.Prelude.{Contains, filter, find, nat_le, nat_lt, not, Option, None, Some, option_map, Result, Ok, Err, if◌then◌else◌}
+use Rattle.std.proofs.Common.{◌≡◌, ◌⊎◌, inl, inr, ℕ, ℤ, Bool, true, false, ◌&&◌, ◌||◌, List, [], ◌∷◌, map, refl, sym, ap, subst, ◌∙◌}
+use Rattle.std.specs.Prelude.{Contains, filter, find, nat_le, not, Option, None, Some, option_map, Result, Ok, Err, if◌then◌else◌}
 use Rattle.std.specs.Cmp.Lexicographic.{texts_ties}
 use Rattle.std.specs.List.{flat_map, list_any}
 use Rattle.std.proofs.lemmas.Bool.{and_parts}
@@ -12,26 +12,23 @@ use Rattle.std.proofs.lemmas.Map.Views.{tells_apart}
 use Rattle.list_lemmas.proofs.BoolTests.{nat_eq_is, same_Some}
 use Rattle.list_lemmas.proofs.ListMembers.{here, there, split, not_in, map_in, in_map}
 use Rattle.list_lemmas.proofs.ListParts.{in_filter, to_filter}
-use Rattle.tsd_base.specs.declared.kinds.Down.{Down}
-use Rattle.tsd_base.specs.declared.kinds.Fill.{Fill}
-use Rattle.tsd_base.specs.declared.kinds.Fill.TheVariants.{NoFill, Zero}
 use Rattle.tsd_base.specs.LastPoints.{is_same_place, last_points}
 use Rattle.tsd_base.specs.Points.{DataPoint}
 use Rattle.tsd_base.specs.TagOrder.{tags_same}
 use Rattle.tsd_base.specs.Tags.{is_same}
 use Rattle.cell_model.specs.Readings.{Reading, Meets, OneValued, reading_of}
 use Rattle.cell_laws.proofs.CallerLemmas.{same_reading}
-use Rattle.downsample.specs.Buckets.{all_buckets}
-use Rattle.group_by.specs.TagFilters.{passes}
+use Rattle.tag_match.specs.Building.{first_bad}
+use Rattle.tag_match.specs.Patterns.{passes}
 use Rattle.json_reply.specs.Replies.{Group}
 use Rattle.query_text.specs.Subs.{sub_of}
 use Rattle.query_text.specs.declared.queries.Query.{Query}
 use Rattle.query_text.specs.declared.queries.Sub.{Sub}
 use Rattle.row_scan.specs.RowReadings.{Chosen}
-use Rattle.query_run.specs.AskedQueries.{barred, barred_by, barred_down, wanted}
-use Rattle.query_run.specs.QueryAnswers.{answer}
+use Rattle.query_run.specs.AskedQueries.{bar_of, barred, wanted}
+use Rattle.series_groups.specs.QueryAnswers.{answer, too_many_down}
 use Rattle.query_run.specs.declared.fault.AskFault.{AskFault}
-use Rattle.query_run.specs.declared.fault.AskFault.TheVariants.{TooManyBuckets, Unknown, Duplicate, Overflow, OutOfMemory, Stopped}
+use Rattle.query_run.specs.declared.fault.AskFault.TheVariants.{TooManyBuckets, BadFilter, Unknown, Duplicate, Overflow, OutOfMemory, Stopped}
 use Rattle.query_run.specs.Parts.{NameOf}
 use Rattle.batch_job.specs.Conflicts.{Conflict, are_conflict, conflict_of, conflicts, first_conflict, is_first}
 use Rattle.batch_job.specs.JobAnswers.{answered, first_unknown, kept, names_after, unless, unless_overflow}
@@ -172,22 +169,18 @@ module _ (q : Query) (s : Sub) where
     -- ---- the answer
 
     module _ (time : ℕ) (a b : ℤ) where
-      many_not : (count : ℕ) (t : Bool) → (if t then Some (TooManyBuckets count) else None) ≡ Some (Duplicate time a b) → ⊥
-      many_not count true e = cc
-      many_not count false e = none_some (Duplicate time a b) e
+      bar_not : (count index : Option ℕ) → bar_of count index ≡ Some (Duplicate time a b) → ⊥
+      bar_not (Some count) index e = cc
+      bar_not None (Some index) e = cc
+      bar_not None None e = none_some (Duplicate time a b) e
 
-      fill_not : (interval : ℕ) (fill : Fill) → barred_by q.start q.end interval fill ≡ Some (Duplicate time a b) → ⊥
-      fill_not interval NoFill e = none_some (Duplicate time a b) e
-      fill_not interval Zero e = many_not (length (all_buckets interval q.start q.end)) (nat_lt 1000000 (length (all_buckets interval q.start q.end))) e
-
-      barred_not : (down : Option Down) → barred_down q.start q.end down ≡ Some (Duplicate time a b) → ⊥
-      barred_not None e = none_some (Duplicate time a b) e
-      barred_not (Some down) e = fill_not down.interval down.fill e
+      barred_not : barred q s ≡ Some (Duplicate time a b) → ⊥
+      barred_not e = bar_not (too_many_down q.start q.end s.down) (first_bad s.filters) e
 
       -- it isn't refused for two values
       not_two : (barrier : Option AskFault) → barred q s ≡ barrier → (unknown : Option NameOf) (names : Names) (conflict : Option (ℕ × ℤ × ℤ)) → first_conflict names (kept q s lines) ≡ conflict → (x : Result (List Group) ℕ)
           → unless barrier (unless (option_map (λ (n : NameOf). Unknown n.0 n.1) unknown) (unless (option_map (λ (c : ℕ × ℤ × ℤ). Duplicate c.0 c.1 c.2) conflict) (unless_overflow x))) ≡ Err (Duplicate time a b) → ⊥
-      not_two (Some fault) is unknown names conflict free x e = let same : fault ≡ Duplicate time a b = cc in barred_not s.down (is ∙ ap Some same)
+      not_two (Some fault) is unknown names conflict free x e = let same : fault ≡ Duplicate time a b = cc in barred_not (is ∙ ap Some same)
       not_two None is (Some n) names conflict free x e = cc
       not_two None is None names (Some c) free x e = no_conflict names c free
       not_two None is None names None free (Ok groups) e = cc
@@ -210,6 +203,7 @@ module _ (q : Query) (s : Sub) where
     plain_over (Err (Duplicate time a b)) is =
         not_two time a b (barred q s) refl (first_unknown s lines) (names_after lines) (first_conflict (names_after lines) (kept q s lines)) refl (answer q s (kept q s lines)) is
     plain_over (Err (TooManyBuckets count)) is = tt
+    plain_over (Err (BadFilter index)) is = tt
     plain_over (Err (Unknown kind name)) is = tt
     plain_over (Err (Overflow time)) is = tt
     plain_over (Err OutOfMemory) is = tt

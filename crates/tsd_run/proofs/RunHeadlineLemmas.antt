@@ -27,7 +27,7 @@ use Rattle.tsd_daemon.proofs.CallerLemmas.{one_id_each, served_headline}
 use Rattle.conn_workers.specs.ServedLinks.{LinkServed, OnlyServed, ServedInTurn, ServedLink}
 use Rattle.conn_workers.specs.ServedLinks.ServedInTurn.{none_yet as none_served, then_served}
 use Rattle.site_workers.specs.GatheredLinks.{AllInTurn, CallerLinks}
-use Rattle.tsd_fleet.specs.Devices.{DoorsTold, FleetDevices}
+use Rattle.tsd_fleet.specs.Devices.{DoorsTold}
 use Rattle.tsd_fleet.specs.FleetServes.{IsTally, listening_line}
 use Rattle.tsd_fleet.specs.declared.fleet_end.FleetEnd.{FleetEnd}
 use Rattle.tsd_fleet.specs.declared.fleet_end.FleetEnd.TheVariants as end
@@ -36,7 +36,7 @@ use Rattle.command_words.specs.CommandWords.{Asked, Serve, Stdio, fleet_asked}
 use Rattle.command_words.specs.CommandWords.Asked.{BatchAsked, StdioAsked, ServeAsked, ImportAsked, DumpAsked, FsckAsked, FixAsked, WeaveAsked, PackAsked, UnpackAsked}
 use Rattle.tsd_run.specs.declared.status.Status.{Status}
 use Rattle.tsd_run.specs.declared.status.Status.TheVariants.{Done, Memory}
-use Rattle.tsd_run.specs.FleetStatuses.{BeginsWith, LacksStore, ServesFleet, ServesOver, TakesStore, fleet_status, terms_of}
+use Rattle.tsd_run.specs.FleetStatuses.{BeginsWith, LacksStore, ServesFleet, TakesStore, fleet_status, terms_of}
 use Rattle.tsd_run.specs.RunDevices.{Devices, LoneDevices, fleet, lone}
 use Rattle.tsd_run.specs.RunHeadlines.{BeginsSo, FleetHeadline, IsOwnHistory, LinkHeadline, LoneHeadline, RunHeadline, StdioHeadline}
 use Rattle.tsd_run.specs.RunPromises.{RanAlone, Runs}
@@ -206,16 +206,12 @@ module _ (s : Serve) (inlets_tell outlets_tell : Type 0) (before after : Devices
             (runs.tally, runs.serves.tally_is, (runs.links, listening_line all.0, subst (Appends before.output.held after.output.held) all.2 runs.prints.gives));
       }
 
-  over_headline : (base : Store) → BeginsWith s.image before.input after.input base → ServesOver s inlets_tell outlets_tell base (fleet before) (fleet after) status → FleetHeadline s inlets_tell outlets_tell before after status
-  over_headline base begins (inl w) = served_so base w.0 w.1 begins w.2 w.3
-  over_headline base begins (inr none) = idle_headline (ap (λ (d : FleetDevices). d.doors.back) none.1) (λ is. done_memory (sym is ∙ none.0))
-
   lacks_done : LacksStore s.image before.input after.input before.output.held after.output.held status → status ≢ Done
   lacks_done (inl w) = w.2
   lacks_done (inr w) = λ is. done_memory (sym is ∙ w.0)
 
   pub fleet_headline : ServesFleet s inlets_tell outlets_tell before after status → FleetHeadline s inlets_tell outlets_tell before after status
-  fleet_headline (inl w) = over_headline w.0 w.1 w.2
+  fleet_headline (inl w) = served_so w.0 w.2.0 w.2.1 w.1 w.2.2 w.2.3
   fleet_headline (inr w) = idle_headline (ap (λ (d : DoorsTold). d.back) w.1.doors) (lacks_done w.0)
 
 -- ---- any words

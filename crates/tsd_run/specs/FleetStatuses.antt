@@ -50,7 +50,7 @@ abbrev pub BeginsWith : Bool → (before after : InputTold) → Store → Type 0
 BeginsWith true before after base = TakesStore before after base
 BeginsWith false before after base = (after ≡ before) × (base ≡ no_cells three)
 
--- None was loaded: the image wasn't read, or it is refused, as was told. Or there was no memory for the words or for the store, and nothing was printed.
+-- None was loaded: the image wasn't read, or it is refused, as was told. Or there was no memory for the words, for the rule for new names or for the store, and nothing was printed.
 abbrev pub LacksStore : Bool → (before after : InputTold) → (held held' : Option (List ℕ)) → Status → Type 0
 LacksStore image before after held held' status =
     ((ended : ListingEnd) × (status ≡ listing_status ended) × (status ≢ Done) × (image ≡ true) × LoadsImage before.taken after.taken before.left after.left held held' (Err ended))
@@ -66,11 +66,10 @@ pub record ServesNone (before after : Devices) : Type 0 where
 abbrev pub terms_of : Serve → (inlets_tell outlets_tell : Type 0) → Store → Terms
 terms_of s inlets_tell outlets_tell base = record { port = s.port; admission = admission_of s.names s.appends; base = base; inlets_tell = inlets_tell; outlets_tell = outlets_tell }
 
--- a fleet served its connections over this store, on the port that the words name, and the status is that of its end; or there was no memory for its rule for new names, and nothing was done
+-- a fleet served its connections over this store, on the port that the words name, and the status is that of its end
 abbrev pub ServesOver : Serve → (inlets_tell outlets_tell : Type 0) → Store → (before after : FleetDevices) → Status → Type 0
 ServesOver s inlets_tell outlets_tell base before after status =
-    ((ended : FleetEnd) × (refused : Bool) × (status ≡ fleet_status ended refused) × RunsFleet (terms_of s inlets_tell outlets_tell base) s.save before after ended refused)
-    ⊎ ((status ≡ Memory) × (after ≡ before))
+    (ended : FleetEnd) × (refused : Bool) × (status ≡ fleet_status ended refused) × RunsFleet (terms_of s inlets_tell outlets_tell base) s.save before after ended refused
 
 -- a fleet served over the store that it begins with, or there is none, and then no port is bound
 abbrev pub ServesFleet : Serve → (inlets_tell outlets_tell : Type 0) → (before after : Devices) → Status → Type 0

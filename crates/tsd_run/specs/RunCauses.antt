@@ -2,7 +2,6 @@
 use Rattle.std.specs.Prelude.{◌≡◌, ◌≢◌, ◌≤◌}
 use Rattle.tsd_io.specs.Causes.{Rose}
 use Rattle.link_workers.specs.Accepting.{IsNoneLeft}
-use Rattle.tsd_fleet.specs.Devices.{FleetDevices, NoneFalls}
 use Rattle.tsd_run.specs.declared.status.Status.{Status}
 use Rattle.tsd_run.specs.declared.status.Status.TheVariants.{Done, ReadFault, WriteFault, Memory, Stopped, DoorFault, ClockFault}
 use Rattle.tsd_run.specs.RunDevices.{Devices, LoneDevices, lone}
@@ -23,17 +22,6 @@ pub record HasCauses (before after : Devices) (status : Status) : Type 0 where
   pub lone_causes : HasLoneCauses (lone before) (lone after) status
   pub doors_later : before.doors.faults ≤ after.doors.faults
   pub door_fault : status ≡ DoorFault → Rose before.doors.faults after.doors.faults
-
--- The same of the devices of a fleet, whose input is none and whose clock faults end no fleet. It is done only where no more connections came, and where the halt refused it is stopped, unless memory ran out.
-pub record HasFleetCauses (before after : FleetDevices) (status : Status) : Type 0 where
-  pub later : NoneFalls before after
-  pub no_read : status ≢ ReadFault
-  pub no_clock : status ≢ ClockFault
-  pub write_fault : status ≡ WriteFault → Rose before.output.faults after.output.faults
-  pub stopped : status ≡ Stopped → Rose before.stops after.stops
-  pub door_fault : status ≡ DoorFault → Rose before.doors.faults after.doors.faults
-  pub none_left : status ≡ Done → IsNoneLeft before.doors.waiting after.doors.waiting
-  pub heeded : status ≢ Stopped → status ≢ Memory → after.stops ≡ before.stops
 
 -- A fleet is done only where no more connections came, and where the halt refused it is stopped, unless memory ran out.
 pub record HasFleetEnd (before after : Devices) (status : Status) : Type 0 where

@@ -14,7 +14,7 @@ use Rattle.query_text.specs.declared.queries.Sub.{Sub}
 use Rattle.json_reply.specs.Replies.{Group}
 use Rattle.row_scan.specs.RowReadings.{Chosen}
 use Rattle.query_run.specs.AskedQueries.{wanted}
-use Rattle.query_run.specs.QueryAnswers.{answer}
+use Rattle.series_groups.specs.QueryAnswers.{answer}
 use Rattle.query_run.specs.declared.fault.AskFault.{AskFault}
 use Rattle.query_run.specs.declared.fault.AskFault.TheVariants.{Duplicate}
 use Rattle.command_words.specs.CommandWords.{Batch, Asked, Serve, fleet_asked}

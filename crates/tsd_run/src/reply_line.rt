@@ -46,6 +46,7 @@ fn is_stop(fault: &AskFault) -> bool
 {
     match fault {
         AskFault::TooManyBuckets { count: _ } => false,
+        AskFault::BadFilter { index: _ } => false,
         AskFault::Unknown { kind: _, name: _ } => false,
         AskFault::Duplicate {
             time: _,

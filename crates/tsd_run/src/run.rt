@@ -1,13 +1,11 @@
 //! The top call: everything that the program does.
 ghost use Rattle.std.specs.Prelude.{◌≡◌, ◌≢◌, true, false, map, string_bytes, None};
 ghost use Rattle.tsd_hooks.specs.AllowedNames.{allowed};
-ghost use Rattle.cell_model.specs.Sound.{IsBase};
 ghost use Rattle.conn_workers.specs.ServedLinks.{AllTell};
 ghost use Rattle.serve_job.specs.FleetRuns.{has_no_more};
 ghost use Rattle.command_words.specs.CommandWords.{asked_of, fleet_asked};
 ghost use Rattle.command_words.specs.PlainAsked.{IsFleet, plain_serve};
-ghost use Rattle.tsd_run.specs.FleetStatuses.{ServesOver, asks_clock, fleet_status, reads_input};
-ghost use Rattle.tsd_run.specs.RunCauses.{HasFleetCauses};
+ghost use Rattle.tsd_run.specs.FleetStatuses.{asks_clock, fleet_status, reads_input};
 ghost use Rattle.tsd_run.specs.RunHeadlines.{RunHeadline};
 ghost use Rattle.tsd_run.specs.RunPromises.{Ran, RanFleet};
 
@@ -15,7 +13,6 @@ use crate::fleet_base::first_store;
 use crate::new_names::{config_of, patterns_of};
 use crate::run_alone::{Ended, no_memory, run_alone};
 use crate::status::Status;
-use cell_region::Regions;
 use command_words::{Serve, read_fleet};
 use serve_job::{Finished, serve_fleet};
 use std::alloc::{AllocError, Global};
@@ -100,7 +97,7 @@ pub fn run<
     }
 }
 
-/// Serves the connections of a fleet, from the store that it begins with.
+/// Makes the rule for new names, and serves the connections of a fleet from the store that it begins with.
 fn run_fleet<
     T: Threads + Wait + Sync,
     S: Source,
@@ -136,53 +133,6 @@ fn run_fleet<
         }) result.status }
     ensures input { asked.now.image ≡ false → input.new ≡ input.old }
 {
-    match first_store(alloc, asked, input, output) {
-        Ok(base) => serve_from(rt, alloc, asked, base, output, clock, halt, doors),
-        Err(status) => Ended { status, halt },
-    }
-}
-
-/// Makes the rule for new names, and serves the connections of a fleet over this store.
-fn serve_from<T: Threads + Wait + Sync, K: Sink, C: Clock + Send + Drop, H: Halt + Drop, D: Doors>(
-    rt: &T,
-    alloc: Global,
-    asked: &Serve<'_>,
-    base: Regions,
-    output: &mut K,
-    clock: &mut C,
-    halt: H,
-    doors: &mut D,
-) -> Ended<H>
-    requires fleet { IsFleet asked.now }
-    requires base { IsBase base.content }
-    requires divided { base.data_regions ≡ asked.now.regions }
-    ensures serves { ServesOver (plain_serve asked.now) (AllTell D.Inlet.taken) (AllTell D.Outlet.held) base.content
-        (record {
-          output = record { held = K.held output.old; faults = K.faults output.old };
-          clock = record { moments = C.moments clock.old; faults = C.faults clock.old };
-          doors = record { waiting = D.waiting doors.old; back = D.back doors.old; counts = D.counts doors.old; faults = D.faults doors.old };
-          stops = H.stops halt;
-        })
-        (record {
-          output = record { held = K.held output.new; faults = K.faults output.new };
-          clock = record { moments = C.moments clock.new; faults = C.faults clock.new };
-          doors = record { waiting = D.waiting doors.new; back = D.back doors.new; counts = D.counts doors.new; faults = D.faults doors.new };
-          stops = H.stops result.halt;
-        }) result.status }
-    ensures causes { HasFleetCauses
-        (record {
-          output = record { held = K.held output.old; faults = K.faults output.old };
-          clock = record { moments = C.moments clock.old; faults = C.faults clock.old };
-          doors = record { waiting = D.waiting doors.old; back = D.back doors.old; counts = D.counts doors.old; faults = D.faults doors.old };
-          stops = H.stops halt;
-        })
-        (record {
-          output = record { held = K.held output.new; faults = K.faults output.new };
-          clock = record { moments = C.moments clock.new; faults = C.faults clock.new };
-          doors = record { waiting = D.waiting doors.new; back = D.back doors.new; counts = D.counts doors.new; faults = D.faults doors.new };
-          stops = H.stops result.halt;
-        }) result.status }
-{
     let Ok(patterns) = patterns_of(alloc, &asked.names.patterns) else {
         return no_memory(halt);
     };
@@ -198,6 +148,10 @@ fn serve_from<T: Threads + Wait + Sync, K: Sink, C: Clock + Send + Drop, H: Halt
         return no_memory(halt);
     };
     let rule = UidRule::keep(kept, test);
+    let base = match first_store(alloc, asked, input, output) {
+        Ok(base) => base,
+        Err(status) => return Ended { status, halt },
+    };
     let config = config_of(&asked.names, asked.appends);
     let fleet = fleet_of(asked);
     let Finished { end, refused, halt } = serve_fleet(
