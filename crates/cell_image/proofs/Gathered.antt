@@ -6,7 +6,7 @@ use Rattle.std.proofs.lemmas.Bool.Decides.{nat_tests}
 use Rattle.std.proofs.lemmas.Grind.{flat_map-append}
 use Rattle.cell_model.specs.declared.row.ListLine.{ListLine}
 use Rattle.cell_image.specs.Images.{cell_image, cells_image, first_large, fits}
-use Rattle.cell_image.specs.StoreImages.{AddsLine, HoldsCells, large_with}
+use Rattle.cell_image.specs.StoreImages.{AddsLine, large_with}
 use Rattle.cell_image.specs.declared.image_cells.ImageCells.{ImageCells}
 
 abbrev large : ListLine → Bool

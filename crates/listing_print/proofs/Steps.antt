@@ -8,7 +8,7 @@ use Rattle.cell_model.specs.declared.row.ListLine.{ListLine}
 use Rattle.cell_model.specs.Counts.{lines_of}
 use Rattle.cell_model.specs.Store.{Store, cells_of, row_cmp}
 use Rattle.listing_print.specs.LineTaking.{JoinsLines, TookUpTo}
-use Rattle.listing_print.specs.StoreRows.{TookRows, TookSome, line_in, lines_from, row_at, row_lines}
+use Rattle.listing_print.specs.StoreRows.{TookRows, TookSome, line_in, lines_from, row_lines}
 use Rattle.listing_print.proofs.RowOrder.{behind_row}
 use Rattle.listing_print.proofs.RowLines.{Gap, NoneFrom, first_row, lines_all, lines_none, lines_over, lines_row}
 

@@ -1,10 +1,10 @@
 -- Histories that others begin, by entries of some callers.
-use Rattle.std.proofs.Common.{◌≡◌, ◌≢◌, ◌⊎◌, inl, inr, ℕ, ◌+◌, ◌<◌, ◌≤◌, Bool, false, refl, sym, ap, subst, ◌∙◌, arith}
+use Rattle.std.proofs.Common.{◌≡◌, ◌≢◌, ◌⊎◌, inl, inr, ℕ, ◌+◌, ◌≤◌, false, refl, ap, ◌∙◌, arith}
 use Rattle.std.proofs.lemmas.Bool.{false≢true}
 use Rattle.std.specs.Prelude.{Contains}
 use Rattle.cell_model.specs.declared.events.Entry.{Entry}
 use Rattle.cell_model.specs.declared.events.Placed.{Placed}
-use Rattle.cell_model.specs.History.{History, base_of, len}
+use Rattle.cell_model.specs.History.{History, len}
 use Rattle.cell_model.specs.History.History.{Then}
 use Rattle.cell_model.specs.Seen.{Saw, IsOwn, Waited}
 use Rattle.cell_solo.specs.Turns.{all_placed, whole_seen}

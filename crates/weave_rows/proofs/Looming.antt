@@ -1,19 +1,17 @@
 -- A store of three callers stays one, by each step and turn.
-use Rattle.std.proofs.Common.{◌≡◌, ◌≢◌, ℕ, ◌+◌, ◌≤◌, Bool, false, refl, sym, ap, subst, ◌∙◌, arith}
-use Rattle.std.specs.Prelude.{if◌then◌else◌, nat_eq}
-use Rattle.row_key.specs.declared.widths.Widths.{Widths}
+use Rattle.std.proofs.Common.{◌≡◌, ℕ, ◌+◌, ◌≤◌, false, sym, ap, subst, ◌∙◌, arith}
+use Rattle.std.specs.Prelude.{if◌then◌else◌}
 use Rattle.row_key.specs.Made.{three}
 use Rattle.cell_model.specs.declared.events.Step.{Step}
 use Rattle.cell_model.specs.declared.events.Reply.{Reply}
 use Rattle.cell_model.specs.Store.{Store, no_cells}
-use Rattle.cell_model.specs.History.{History, len, store_after}
+use Rattle.cell_model.specs.History.{store_after}
 use Rattle.cell_model.specs.Lawful.{IsLawful}
 use Rattle.cell_model.specs.Seen.{Seen, IsPossible}
 use Rattle.cell_solo.specs.Turns.{Play, history_of, opened, sight, whole_seen, Steps, Stays}
-use Rattle.cell_solo.proofs.CallerLemmas.{lives_on}
 use Rattle.weave_rows.specs.WovenHistories.{IsLater, IsWoven, begun, is_put, puts_in}
 use Rattle.weave_rows.specs.WovenHistories.IsLater.{same, more}
-use Rattle.weave_rows.specs.Looms.{IsLoom, Loomed}
+use Rattle.weave_rows.specs.Looms.{IsLoom}
 
 -- the caller whose turn it is has made one more step
 pub loom_steps : (old new : Play) (step : Step) (reply : Reply) (accepted room accepted' room' : ℕ) → IsLoom (record { play = old; accepted = accepted; room = room }) → Steps old step reply new

@@ -1,7 +1,7 @@
 -- A daemon stays at work, whatever those behind it and it itself step.
 use Rattle.std.proofs.Common.{◌≡◌, ◌≢◌, ℕ, ◌+◌, ◌≤◌, Bool, false, refl, sym, ap, subst, ◌∙◌, arith}
 use Rattle.std.proofs.lemmas.Bool.{false≢true}
-use Rattle.std.specs.Prelude.{Option, None, Some, Result, Ok, Err, IsOk, IfOk, OnOk, OnErr, nat_eq}
+use Rattle.std.specs.Prelude.{Option, Some, Result, Ok, Err, IsOk, IfOk, OnOk, OnErr, nat_eq}
 use Rattle.cell_model.specs.declared.events.Step.{Step}
 use Rattle.cell_model.specs.declared.events.Reply.{Reply}
 use Rattle.cell_model.specs.History.{History}

@@ -1,14 +1,11 @@
 -- Counters fit, and what is counted of a store is counted of its history.
-use Rattle.std.proofs.Common.{◌≡◌, ℕ, suc, ◌+◌, ◌^◌, ◌<◌, ◌≤◌, Bool, true, false, List, [], ◌∷◌, ◌++◌, refl, sym, ap, ◌∙◌, arith}
-use Rattle.std.specs.Prelude.{Option, None, Some, cond, length, slice_index_or, sum_by}
-use Rattle.std.proofs.lemmas.List.Sums.{sum_by-append, sum_by-cons}
+use Rattle.std.proofs.Common.{◌≡◌, ℕ, ◌+◌, ◌^◌, ◌<◌, List, refl, ap, ◌∙◌, arith}
+use Rattle.std.specs.Prelude.{Option, None, Some, length, slice_index_or}
 use Rattle.std.specs.Option.{option_map_or}
 use Rattle.std.specs.Int.{w64, from_be_bytes}
 use Rattle.std.proofs.lemmas.Nat.{from_be_bytes-to_be_bytes_8}
 use Rattle.tsd_base.specs.declared.kinds.Kind.{Kind}
 use Rattle.tsd_base.specs.declared.kinds.Kind.TheVariants.{Metric, TagKey, TagValue}
-use Rattle.row_key.specs.declared.widths.Widths.{Widths}
-use Rattle.cell_model.specs.declared.row.ListLine.{ListLine}
 use Rattle.cell_model.specs.declared.row.Listing.{Listing}
 use Rattle.cell_model.specs.Counts.{counters_of, listing_of, point_entries}
 use Rattle.cell_model.specs.Store.{Store, value_at}
@@ -16,7 +13,7 @@ use Rattle.cell_model.specs.Machine.{counter_of, counter_row, kind_qual}
 use Rattle.cell_model.specs.Sound.{CountersRead}
 use Rattle.cell_model.proofs.CallerLemmas.{greatest_fits}
 use Rattle.weave_rows.specs.WovenHistories.{IsWoven}
-use Rattle.weave_script.specs.WovenCounts.{CountsWoven, ids_to, is_wasted, wasted_in, wasted_of}
+use Rattle.weave_script.specs.WovenCounts.{CountsWoven, wasted_in, wasted_of}
 
 -- each counter is a number of 32 bits
 pub counter_fits : (s : Store) → CountersRead s → (kind : Kind) → counter_of s kind < 2 ^ 32
