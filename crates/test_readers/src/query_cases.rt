@@ -69,6 +69,16 @@ fn tell_filter(out: &mut Told, filter: &Filter) {
             out.add("!=");
             tell_names(out, names);
         }
+        Test::Wild { text } => {
+            out.add("=wildcard(");
+            out.bytes(text.list());
+            out.add(")");
+        }
+        Test::Pattern { text } => {
+            out.add("=regexp(");
+            out.add(text.text());
+            out.add(")");
+        }
     }
 }
 
