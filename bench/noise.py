@@ -30,7 +30,7 @@ POINT = rf"(?:not enough words \(4 needed, [0-3] found\)|{NAMED}|bad time|floats
 QUERY = rf"(?:bad query at byte \d+|unknown aggregator|rate is not supported|bad downsample|bad filter \d+|bad times|bad request|\d+ queries \(16 at most\)|\d+ buckets \(1000000 at most\)|unknown {KIND} {NAME}|two values at \d+: -?\d+ and -?\d+|overflow at \d+)"
 TELNET = re.compile(rf"(?:put: {POINT}|tsd integer profile 1|available commands: diediedie dropcaches exit help put stats version|requests \d+\nputs \d+\nrefused \d+|Caches dropped\.|Cleaning up and exiting now\.|line too long|unknown command)\n")
 PUT_ERROR = re.compile(rf"(?:not an object|bad member (?:metric|timestamp|value|tags)|{POINT})")
-OTHER = re.compile(rf"(?:bad head|head too large|codings are not supported|bad length|length required|body too large|no such path|no such method|body is not JSON|body is not a point or a list of points|One or more data points had errors|bad lists|nothing to assign|bad type|bad max|{QUERY})")
+OTHER = re.compile(rf"(?:bad head|head too large|codings are not supported|bad length|length required|body too large|no such path|no such method|body is not JSON|body is not a point or a list of points|One or more data points had errors|bad lists|nothing to assign|bad type|bad max|bad lookup|bad limit|bad timeseries|bad back_scan|{QUERY})")
 HEAD = re.compile(rb"HTTP/1\.1 (200 OK|204 No Content|400 Bad Request|404 Not Found|405 Method Not Allowed|411 Length Required|413 Payload Too Large|431 Request Header Fields Too Large|501 Not Implemented)\r\n(?:Content-Type: application/json; charset=UTF-8\r\nContent-Length: (\d+)\r\n)?(Connection: close\r\n)?\r\n")
 BATCH = re.compile(rf"(?:line \d+: (?:{POINT}|line too long)|query: {QUERY})\n")
 PIECE = re.compile(r'"((?:[^"\\]|\\.)*)"(?:\*(\d+))?')
@@ -187,7 +187,7 @@ class Server:
             client = socket.create_connection(("127.0.0.1", port), timeout=30)
         except ConnectionError:
             return None, False
-        heard = b""
+        heard = bytearray()
         with client:
             try:
                 client.sendall(text)
@@ -198,14 +198,14 @@ class Server:
                 while piece := client.recv(65536):
                     heard += piece
             except ConnectionResetError:
-                return heard, False
-        return heard, True
+                return bytes(heard), False
+        return bytes(heard), True
 
     def again(self, process):
         """Starts it anew, if it ended with status 0 and nobody has."""
         with self.lock:
             if process is self.live[0]:
-                if process.wait(timeout=60) != 0 or process.stderr.read():
+                if process.wait(timeout=600) != 0 or process.stderr.read():
                     self.bad.append(("serve", b"", process.returncode))
                 process.stdout.close(), process.stderr.close()
                 self.start()
