@@ -5,7 +5,7 @@
     docs/protocol.py --check    tells whether the page is the one that would be written
 
 A block of comments is text. A case is an example: its title, its comments, the bytes of its `input` and `tail` lines as a line to copy, and
-the output that its run is to have."""
+the output that its run is to have. What its clock shows stands in its comments."""
 import pathlib
 import re
 import sys
@@ -105,7 +105,7 @@ def example(lines):
             words = rest
         elif verb == "=":
             output.append(meant(rest))
-        else:
+        elif verb != "clock":
             sys.exit(f"protocol.txt: no line of an example: {line}")
     if not words.endswith(" stdio --auto-metric") or output[:1] != ["status 0"]:
         sys.exit(f"protocol.txt: {title}: not a run of the daemon that the page names")

@@ -25,7 +25,7 @@ PATH = [
     ("tsd_daemon", "TakenInTurn", "TakenInTurn InTurn answers_all"),
     ("query_run", "Invisible", "AcceptedFor IsOneValued"),
     ("row_scan", "RowReadings", "Chosen"),
-    ("query_run", "AskedQueries", "wanted is_wanted answer_over"),
+    ("query_run", "AskedQueries", "wanted is_wanted as_point answer_over"),
     ("http_api", "HttpAnswers", "IsReplyTo QueryTells Told told"),
     ("tsd_daemon", "Exchanges", "Exchange requests_in replies_in moments_in moment_by moment_for"),
     ("tsd_daemon", "ConnRequests", "ConnRequest asks_clock point_asked conn_requests begins_http is_capital telnet_asks http_asks"),
@@ -45,7 +45,7 @@ LEAVES = {
     "A lawful history": [("cell_model", "History", "History base_of first len store_after"), ("cell_model", "Lawful", "IsLawful")],
     "Names and ids": [("cell_model", "IdRows", "id_of NameOf IsResolved")],
     "Points and readings": [("cell_model", "Readings", "Reading OneValued Accepted reading_of"), ("tsd_base", "Points", "DataPoint")],
-    "The plain answer": [("query_run", "QueryAnswers", "answer as_point"), ("group_by", "TagFilters", "passes"), ("tsd_base", "Tags", "is_same")],
+    "The plain answer": [("series_groups", "QueryAnswers", "answer"), ("tag_match", "Patterns", "passes"), ("tsd_base", "Tags", "is_same")],
     "The reply's text": [
         ("json_reply", "Replies", "Group text_of"),
         ("json_reply", "ErrorBodies", "error_body"),
