@@ -22,14 +22,14 @@ use Rattle.json_reply.specs.Replies.{Group, plain}
 use Rattle.json_reply.specs.declared.reply.Reply.{Reply}
 use Rattle.query_text.specs.declared.queries.Query.{Query}
 use Rattle.query_text.specs.declared.queries.Sub.{Sub}
-use Rattle.query_run.specs.declared.fault.AskFault.{AskFault}
-use Rattle.query_run.specs.declared.fault.AskFault.TheVariants.{TooManyBuckets, BadFilter, Unknown, Duplicate, Overflow, OutOfMemory, Stopped}
+use Rattle.metric_scan.specs.declared.fault.AskFault.{AskFault}
+use Rattle.metric_scan.specs.declared.fault.AskFault.TheVariants.{TooManyBuckets, BadFilter, Unknown, Duplicate, Overflow, OutOfMemory, Stopped}
 use Rattle.series_groups.specs.QueryAnswers.{answer}
 use Rattle.query_run.specs.AskedQueries.{as_point}
 use Rattle.query_run.specs.Asked.{Answers, Cause}
 use Rattle.query_run.specs.Asked.Answers.{none, more}
 use Rattle.query_run.specs.Laws.{AnswerIsUnordered}
-use Rattle.query_run.specs.Parts.{AllResolved, AreQuerySteps, FoundNone, NameOf, Part, PartStands}
+use Rattle.metric_scan.specs.Parts.{AllResolved, AreQuerySteps, FoundNone, NameOf, Part, PartStands}
 use Rattle.query_run.specs.AskedQueries.{IsFew, QuerySays, answer_over, barred, names_in, wanted}
 use Rattle.batch_job.specs.Conflicts.{Conflict, conflicts, first_conflict, is_first}
 use Rattle.point_lines.specs.NameIds.{id_in}

@@ -22,7 +22,7 @@ use Rattle.cell_model.specs.Store.{Store, no_cells, value_at}
 use Rattle.series_groups.specs.QueryAnswers.{answer}
 use Rattle.query_run.specs.AskedQueries.{as_point}
 use Rattle.query_run.specs.Laws.{AnswerIsUnordered}
-use Rattle.query_run.specs.Parts.{AreQuerySteps, IsQueryStep, Part}
+use Rattle.metric_scan.specs.Parts.{AreQuerySteps, IsQueryStep, Part}
 use Rattle.query_text.specs.declared.queries.Query.{Query}
 use Rattle.query_text.specs.declared.queries.Sub.{Sub}
 use Rattle.row_scan.specs.RowReadings.{Chosen, Covers}

@@ -44,7 +44,7 @@ use Rattle.cell_model.specs.Lawful.{IsLawful, Wrote}
 use Rattle.cell_model.specs.Readings.{Reading, CellReads, IsNamed, IsStanding, Meets, point_row, reading_of}
 use Rattle.cell_model.specs.Seen.{Seen, Fits}
 use Rattle.cell_model.specs.Store.{Store, no_cells, value_at}
-use Rattle.query_run.specs.Parts.{AreQuerySteps, FirstConflict, HasConflict, NameOf, Part, PartStands}
+use Rattle.metric_scan.specs.Parts.{AreQuerySteps, FirstConflict, HasConflict, NameOf, Part, PartStands}
 use Rattle.qual_codec.specs.Merge as row
 use Rattle.qual_codec.specs.Merge.{AreDots, values_at}
 use Rattle.row_scan.specs.RowReadings.{RowReads}

@@ -23,7 +23,7 @@ use Rattle.cell_model.specs.Machine.{reply_of}
 use Rattle.cell_model.specs.Readings.{Reading}
 use Rattle.cell_model.specs.Seen.{Seen, Fits}
 use Rattle.cell_model.specs.Store.{Store, cells_of, value_at}
-use Rattle.query_run.specs.Parts.{AreQuerySteps, IsQueryStep}
+use Rattle.metric_scan.specs.Parts.{AreQuerySteps, IsQueryStep}
 use Rattle.qual_codec.specs.Merge.{AreDots, first_conflict}
 use Rattle.row_scan.specs.RowReadings.{RowReads}
 use Rattle.batch_job.specs.Storing.{IsStored}

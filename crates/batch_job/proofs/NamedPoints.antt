@@ -11,7 +11,7 @@ use Rattle.tsd_base.specs.TagList.{Pair, is_same}
 use Rattle.cell_model.specs.Layout.{names_of, tag_names}
 use Rattle.row_key.specs.Made.{three}
 use Rattle.cell_model.specs.KindWidths.{greatest}
-use Rattle.query_run.specs.Parts.{NameOf}
+use Rattle.metric_scan.specs.Parts.{NameOf}
 use Rattle.point_lines.specs.NameIds.{Names, id_in, no_names}
 use Rattle.batch_job.specs.NotedIds.{list_of, with_list, with_listed, noted, noted_all, and_then_noted}
 use Rattle.batch_job.specs.JobAnswers.{has_name}

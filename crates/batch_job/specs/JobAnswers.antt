@@ -15,10 +15,10 @@ use Rattle.query_text.specs.declared.queries.Sub.{Sub}
 use Rattle.json_reply.specs.Replies.{Group, plain}
 use Rattle.json_reply.specs.declared.reply.Reply.{Reply}
 use Rattle.series_groups.specs.QueryAnswers.{answer}
-use Rattle.query_run.specs.Parts.{NameOf}
+use Rattle.metric_scan.specs.Parts.{NameOf}
 use Rattle.query_run.specs.AskedQueries.{barred, names_in, wanted}
-use Rattle.query_run.specs.declared.fault.AskFault.{AskFault}
-use Rattle.query_run.specs.declared.fault.AskFault.TheVariants.{Unknown, Duplicate, Overflow, OutOfMemory, Stopped}
+use Rattle.metric_scan.specs.declared.fault.AskFault.{AskFault}
+use Rattle.metric_scan.specs.declared.fault.AskFault.TheVariants.{Unknown, Duplicate, Overflow, OutOfMemory, Stopped}
 use Rattle.batch_job.specs.Conflicts.{first_conflict}
 use Rattle.batch_job.specs.NotedIds.{Names, no_names, noted_all}
 

@@ -2,7 +2,7 @@
 ghost use Rattle.std.specs.Prelude.{◌≡◌, ◌∷◌, [], List, All, IfOk};
 ghost use Rattle.json_reply.specs.Replies.{IsReady};
 ghost use Rattle.cell_model.specs.Stops.{CountsStops};
-ghost use Rattle.query_run.specs.AskFaults.{is_stop};
+ghost use Rattle.metric_scan.specs.AskFaults.{is_stop};
 ghost use Rattle.query_text.specs.declared.queries.Sub.{Sub};
 ghost use Rattle.tsd_base.specs.Points.{DataPoint};
 ghost use Rattle.batch_job.specs.JobAnswers.{CanAsk, GivesAnswer, answered};

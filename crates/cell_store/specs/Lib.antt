@@ -1,6 +1,1 @@
-pub mod StepOrders
-pub mod CallerViews
-pub mod StepEntries
-pub mod SiteStarts
-pub mod SiteEnds
 pub mod SeenCodes

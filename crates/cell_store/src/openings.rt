@@ -1,9 +1,9 @@
 //! How callers of a site open.
 ghost use Rattle.std.specs.Prelude.{◌≡◌};
 ghost use Rattle.step_count.specs.Tokens.{counter_of_licence, counter_of_steps, view_of_licence, view_of_steps};
-ghost use Rattle.cell_store.specs.CallerViews.{IsOpener, opened_numbers};
+ghost use Rattle.region_locks.specs.CallerViews.{IsOpener, opened_numbers};
 
-use crate::step_names::StepNames;
+use region_locks::step_names::StepNames;
 use std::marker::{Model, PhantomData};
 use step_count::{Licence, Steps};
 
@@ -19,7 +19,7 @@ pub struct Openings<J: StepNames> {
 impl<J: StepNames> Model for Openings<J> {
     ghost use Rattle.std.specs.Prelude.{◌≡◌, ℕ, List};
     ghost use Rattle.step_count.specs.Tokens.{counter_of_steps, view_of_steps};
-    ghost use Rattle.cell_store.specs.CallerViews.{IsOpener, opened_numbers};
+    ghost use Rattle.region_locks.specs.CallerViews.{IsOpener, opened_numbers};
 
     ghost Value = { List ℕ };
 

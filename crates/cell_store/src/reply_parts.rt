@@ -1,7 +1,7 @@
 //! What a reply holds.
 ghost use Rattle.std.specs.Prelude.{◌≡◌, true};
 ghost use Rattle.cell_model.specs.declared.events.Reply.TheVariants.{Shown, Next, BumpReply, ClaimReply, Removed};
-ghost use Rattle.cell_store.specs.StepOrders.{is_shown, is_next, is_bump, is_claim, is_removed};
+ghost use Rattle.region_locks.specs.StepOrders.{is_shown, is_next, is_bump, is_claim, is_removed};
 
 use cell_model::answers::{Bumped, Claimed};
 use cell_model::events::Reply;

@@ -3,13 +3,13 @@ ghost use Rattle.std.specs.Prelude.{◌≡◌, [], IfOk};
 ghost use Rattle.cell_model.specs.Sound.{IsBase};
 ghost use Rattle.step_count.specs.FirstViews.{named};
 
-use crate::gate::Gate;
 use crate::openings::Openings;
 use crate::site::Site;
-use crate::site_locks::{MOST_REGIONS, SiteLocks};
-use crate::step_names::StepNames;
 use cell_model::Body;
 use cell_region::{Region, Regions};
+use region_locks::gate::Gate;
+use region_locks::site_locks::{MOST_REGIONS, SiteLocks};
+use region_locks::step_names::StepNames;
 use row_key::{NAME_REGIONS, Widths};
 use std::alloc::{AllocError, Global};
 use std::marker::{Brand, Model};
@@ -33,8 +33,8 @@ pub struct SiteParts<G: Gate + Drop> {
 impl<G: Gate + Drop> Model for SiteParts<G> {
     ghost use Rattle.std.specs.Prelude.{◌≡◌, ◌+◌, ◌≤◌, [], vec_len, vec_capacity};
     ghost use Rattle.step_count.specs.Tokens.{counter_of_steps, name_of_steps, view_of_steps};
-    ghost use Rattle.cell_store.specs.CallerViews.{IsOpener, opened_numbers};
-    ghost use Rattle.cell_store.specs.SiteStarts.{AreUnopened, Unnamed};
+    ghost use Rattle.region_locks.specs.CallerViews.{IsOpener, opened_numbers};
+    ghost use Rattle.region_locks.specs.SiteStarts.{AreUnopened, Unnamed};
 
     ghost Value = { Unnamed };
 
@@ -61,8 +61,8 @@ impl<G: Gate + Drop> SiteParts<G> {
         let widths = regions.widths();
         let regions = regions.split();
         let count = regions.len() as u32;
-        let (steps, licences) = Steps::make::<B>(alloc, count)?;
         let room = Vec::with_capacity(alloc, MOST_REGIONS)?;
+        let (steps, licences) = Steps::make::<B>(alloc, count)?;
         Ok(SiteParts {
             steps,
             regions,

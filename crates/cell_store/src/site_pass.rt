@@ -1,23 +1,23 @@
 //! A caller of a site.
-ghost use Rattle.std.specs.Prelude.{◌≡◌, ◌++◌, ◌<◌, ◌≤◌, true, IfOk, OnOk, OnErr};
+ghost use Rattle.std.specs.Prelude.{◌≡◌, ◌++◌, ◌<◌, ◌≤◌, true, IfOk, OnErr};
 ghost use Rattle.cell_model.specs.Deeds.{Extends};
 ghost use Rattle.cell_model.specs.Seen.{IsPossible, Knows, Stepped, Waited};
 ghost use Rattle.cell_laws.specs.StoreParts.{is_in, is_mine};
 ghost use Rattle.step_count.specs.CounterRule.{AreDifferent, region_count};
 ghost use Rattle.step_count.specs.Tokens.{counter_of_note, counter_of_pass, view_of_note, view_of_pass};
 ghost use Rattle.step_count.specs.ViewSteps.{Lives, learned, met};
-ghost use Rattle.cell_store.specs.StepOrders.{Answers, TakesMemory, step_of};
-ghost use Rattle.cell_store.specs.CallerViews.{Heard, IsCaller, IsNote, MadeNoMore, Tells, numbers_of, seen_of};
-ghost use Rattle.cell_store.specs.StepEntries.{InRange, WasLetIn};
+ghost use Rattle.region_locks.specs.StepOrders.{Answers, TakesMemory, step_of};
+ghost use Rattle.region_locks.specs.CallerViews.{Heard, IsCaller, IsNote, MadeNoMore, Tells, numbers_of, seen_of};
+ghost use Rattle.region_locks.specs.StepEntries.{InRange, WasLetIn};
 
-use crate::gate::Gate;
 use crate::reply_parts::{bumped, claimed, let_go, next, removed, shown};
 use crate::site::Site;
-use crate::step_names::StepNames;
-use crate::step_order::Order;
 use cell_model::events::Reply;
 use cell_model::{Bumped, Cells, Claimed, Drops, Found, Row, Rows, RowsFault, Stopped};
 use qual_codec::Bytes;
+use region_locks::gate::Gate;
+use region_locks::step_names::StepNames;
+use region_locks::step_order::Order;
 use row_key::{Table, Widths};
 use std::alloc::{AllocError, Global};
 use std::marker::Model;
@@ -38,7 +38,7 @@ impl<'a, J: StepNames, G: Gate + Drop, T: Wait> Model for SitePass<'a, J, G, T> 
     ghost use Rattle.std.specs.Prelude.{◌≡◌};
     ghost use Rattle.cell_model.specs.Seen.{Seen};
     ghost use Rattle.step_count.specs.Tokens.{counter_of_pass, view_of_pass};
-    ghost use Rattle.cell_store.specs.CallerViews.{IsCaller, seen_of};
+    ghost use Rattle.region_locks.specs.CallerViews.{IsCaller, seen_of};
     ghost use Rattle.cell_store.specs.SeenCodes.{coded_seen};
 
     ghost Value = { Seen };
@@ -130,8 +130,8 @@ impl<'a, J: StepNames, G: Gate + Drop, T: Wait> SitePass<'a, J, G, T> {
         ensures gate { WasLetIn G.lets_in region }
         ensures ok { IfOk result (λ reply. Stepped self.old (step_of order.now) reply self.new) }
         ensures answers { IfOk result (λ reply. Answers (step_of order.now) reply) }
-        ensures possible { OnOk result (IsPossible self.new) }
-        ensures err { OnErr result (self.new ≡ self.old) }
+        ensures possible { IsPossible self.new }
+        ensures err { OnErr result (Waited self.old self.new) }
         ensures memory { OnErr result (TakesMemory (step_of order.now)) }
     {
         self.site.run(alloc, self.rt, &mut self.pass, region, order)

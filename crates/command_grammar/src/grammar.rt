@@ -26,12 +26,9 @@ fn with_connections<'a>(alloc: Global, command: Command<'a>) -> Result<Command<'
     ensures app { IfOk result (λ made. app_of made ≡ with_connections (app_of command.entry)) }
     ensures local { IfOk result (λ made. (fields_of made).has_globals ≡ false) }
 {
-    let batch = batch_grammar(alloc)?;
-    let stdio = stdio_grammar(alloc)?;
-    let serve = serve_grammar(alloc)?;
-    let command = with_command(command, batch)?;
-    let command = with_command(command, stdio)?;
-    with_command(command, serve)
+    let command = with_command(command, batch_grammar(alloc)?)?;
+    let command = with_command(command, stdio_grammar(alloc)?)?;
+    with_command(command, serve_grammar(alloc)?)
 }
 
 /// A command with those that make a store.
@@ -40,10 +37,8 @@ fn with_makers<'a>(alloc: Global, command: Command<'a>) -> Result<Command<'a>, A
     ensures app { IfOk result (λ made. app_of made ≡ with_makers (app_of command.entry)) }
     ensures local { IfOk result (λ made. (fields_of made).has_globals ≡ false) }
 {
-    let import = import_grammar(alloc)?;
-    let weave = weave_grammar(alloc)?;
-    let command = with_command(command, import)?;
-    with_command(command, weave)
+    let command = with_command(command, import_grammar(alloc)?)?;
+    with_command(command, weave_grammar(alloc)?)
 }
 
 /// A command with those that read a listing.
@@ -52,12 +47,9 @@ fn with_listings<'a>(alloc: Global, command: Command<'a>) -> Result<Command<'a>,
     ensures app { IfOk result (λ made. app_of made ≡ with_listings (app_of command.entry)) }
     ensures local { IfOk result (λ made. (fields_of made).has_globals ≡ false) }
 {
-    let dump = listing_grammar(alloc, "dump")?;
-    let fsck = listing_grammar(alloc, "fsck")?;
-    let fix = listing_grammar(alloc, "fix")?;
-    let command = with_command(command, dump)?;
-    let command = with_command(command, fsck)?;
-    with_command(command, fix)
+    let command = with_listing(alloc, command, "dump")?;
+    let command = with_listing(alloc, command, "fsck")?;
+    with_listing(alloc, command, "fix")
 }
 
 /// A command with those that make an image or read one.
@@ -66,10 +58,8 @@ fn with_images<'a>(alloc: Global, command: Command<'a>) -> Result<Command<'a>, A
     ensures app { IfOk result (λ made. app_of made ≡ with_images (app_of command.entry)) }
     ensures local { IfOk result (λ made. (fields_of made).has_globals ≡ false) }
 {
-    let pack = listing_grammar(alloc, "pack")?;
-    let unpack = unpack_grammar(alloc);
-    let command = with_command(command, pack)?;
-    with_command(command, unpack)
+    let command = with_listing(alloc, command, "pack")?;
+    with_command(command, unpack_grammar(alloc))
 }
 
 /// `unpack`, which has no words.
@@ -97,6 +87,20 @@ fn listing_grammar<'a>(alloc: Global, name: &'a str) -> Result<Command<'a>, Allo
 {
     let command = begun(alloc, name);
     with_arg(command, valued(alloc, "widths"))
+}
+
+/// A command with one on a listing.
+fn with_listing<'a>(
+    alloc: Global,
+    command: Command<'a>,
+    name: &'a str,
+) -> Result<Command<'a>, AllocError>
+    requires local { (fields_of command).has_globals ≡ false }
+    ensures app { IfOk result (λ made. app_of made ≡ with_subcommand (app_of command.entry) (listing_grammar name.entry.now)) }
+    ensures local { IfOk result (λ made. (fields_of made).has_globals ≡ false) }
+{
+    let listing = listing_grammar(alloc, name)?;
+    with_command(command, listing)
 }
 
 /// `weave` with its words.

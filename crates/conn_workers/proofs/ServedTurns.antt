@@ -9,7 +9,7 @@ use Rattle.tsd_doors.specs.Links.{AreFresh, IsNothing, Shut}
 use Rattle.cell_model.specs.History.{History}
 use Rattle.cell_model.specs.Lawful.{IsLawful}
 use Rattle.cell_model.specs.Seen.{Seen, Fits, HasSeenOpening}
-use Rattle.cell_store.specs.CallerViews.{SawOpeningsAlone}
+use Rattle.region_locks.specs.CallerViews.{SawOpeningsAlone}
 use Rattle.point_put.specs.Admissions.{Admission}
 use Rattle.tsd_daemon.specs.declared.served.Served.{Served}
 use Rattle.tsd_daemon.specs.declared.served.Served.TheVariants as answer

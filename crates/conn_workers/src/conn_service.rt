@@ -1,7 +1,7 @@
 //! The connections of doors, served by workers over any rows.
 ghost use Rattle.std.specs.Prelude.{◌≡◌, ◌<◌, ◌≤◌, ◌+◌, [], All, length, map, vec_len};
 ghost use Rattle.std.specs.List.{sum_by};
-ghost use Rattle.link_workers.specs.Accepting.{AsksHalt, HasReason, links_between};
+ghost use Rattle.link_acceptor.specs.Accepting.{AsksHalt, HasReason, links_between};
 ghost use Rattle.link_workers.specs.Returns.{AccountsFor};
 ghost use Rattle.point_put.specs.Admissions.{admission};
 ghost use Rattle.conn_workers.specs.ServedLinks.{AllTell, WorkerServed};
@@ -9,7 +9,7 @@ ghost use Rattle.conn_workers.specs.ServedLinks.{AllTell, WorkerServed};
 use crate::conn_terms::ConnTerms;
 use crate::conn_worker::ConnWorker;
 use crate::unstopped_rows::UnstoppedRows;
-use link_workers::accept_loop::Accepted;
+use link_acceptor::accept_loop::Accepted;
 use link_workers::link_ends::LinkEnds;
 use link_workers::link_service::serve_links;
 use row_compactors::row_compactor::RowsTo;

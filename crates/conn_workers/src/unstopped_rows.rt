@@ -2,7 +2,8 @@
 ghost use Rattle.std.specs.Prelude.{◌≡◌};
 
 use cell_model::rows::Rows;
-use cell_store::{Gate, SitePass, StepNames};
+use cell_store::SitePass;
+use region_locks::{Gate, StepNames};
 use std::marker::Model;
 use std::sync::Wait;
 

@@ -5,11 +5,12 @@ ghost use Rattle.conn_workers.specs.ServedLinks.{AllTell, WorkerServed};
 
 use crate::conn_terms::ConnTerms;
 use crate::conn_worker::ConnWorker;
-use cell_store::{Gate, Openings, Site, SitePass, StepNames};
+use cell_store::{Openings, Site, SitePass};
 use compactor::queue::Queue;
 use crossbeam_channel::Sender;
 use link_workers::link_ends::LinkEnds;
 use point_put::Config;
+use region_locks::{Gate, StepNames};
 use row_compactors::row_compactor::ToCompactor;
 use std::alloc::{AllocError, Global};
 use std::marker::{Model, PhantomData};

@@ -3,7 +3,7 @@ use Rattle.std.proofs.Common.{◌≡◌, inl, inr, ℕ, Bool, List, [], ◌++◌
 use Rattle.std.specs.Prelude.{IfOk, OnErr, Option, None, Some, option_map}
 use Rattle.query_text.specs.declared.queries.Query.{Query}
 use Rattle.query_run.specs.AskedQueries.{QuerySays, plain_result}
-use Rattle.query_run.specs.declared.fault.AskFault.{AskFault}
+use Rattle.metric_scan.specs.declared.fault.AskFault.{AskFault}
 use Rattle.query_run.proofs.CallerLemmas.{query_asked}
 use Rattle.json_reply.specs.declared.reply.Reply.{Reply}
 use Rattle.serde_json.specs.Data.{Data}

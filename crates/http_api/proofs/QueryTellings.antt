@@ -8,10 +8,10 @@ use Rattle.http_reply.specs.ReplyBytes.{reply_bytes}
 use Rattle.http_reply.specs.ReplyStatuses.{code_of}
 use Rattle.http_reply.specs.declared.reply_status.Status.TheVariants as status
 use Rattle.json_reply.specs.ErrorBodies.{error_body}
-use Rattle.query_run.specs.AskFaultTexts.{ask_fault_text}
-use Rattle.query_run.specs.AskFaults.{is_stop}
-use Rattle.query_run.specs.declared.fault.AskFault.{AskFault}
-use Rattle.query_run.specs.declared.fault.AskFault.TheVariants.{TooManyBuckets, BadFilter, Unknown, Duplicate, Overflow, OutOfMemory, Stopped}
+use Rattle.metric_scan.specs.AskFaultTexts.{ask_fault_text}
+use Rattle.metric_scan.specs.AskFaults.{is_stop}
+use Rattle.metric_scan.specs.declared.fault.AskFault.{AskFault}
+use Rattle.metric_scan.specs.declared.fault.AskFault.TheVariants.{TooManyBuckets, BadFilter, Unknown, Duplicate, Overflow, OutOfMemory, Stopped}
 use Rattle.http_api.specs.HttpAnswers.{IsReplyTo, QueryTells, told}
 
 -- the text of a fault is told but for want of memory and a stop

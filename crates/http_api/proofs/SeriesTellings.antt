@@ -4,8 +4,8 @@ use Rattle.std.specs.Prelude.{IfErr}
 use Rattle.cell_model.specs.Stops.{CountsStops, RoseIf}
 use Rattle.cell_model.specs.Stops as rows_stops
 use Rattle.cell_model.specs.declared.answers.RowsFault.{RowsFault}
-use Rattle.query_run.specs.AskFaults as ask_faults
-use Rattle.query_run.specs.declared.fault.AskFault.{AskFault}
+use Rattle.metric_scan.specs.AskFaults as ask_faults
+use Rattle.metric_scan.specs.declared.fault.AskFault.{AskFault}
 use Rattle.series_meta.specs.MetaFaults as meta_faults
 use Rattle.series_meta.specs.declared.meta_faults.MetaFault.{MetaFault}
 use Rattle.series_meta.specs.declared.meta_faults.MetaFault.TheVariants.{Unknown, Duplicate, OutOfMemory, Stopped}

@@ -26,10 +26,10 @@ use Rattle.http_reply.specs.PutReplies.{put_body, put_status}
 use Rattle.http_reply.specs.ReplyBytes.{reply_bytes}
 use Rattle.http_reply.specs.ReplyStatuses.{code_of}
 use Rattle.name_requests.specs.AssignRequests.{AssignLists}
-use Rattle.query_run.specs.AskFaultTexts.{ask_fault_text}
+use Rattle.metric_scan.specs.AskFaultTexts.{ask_fault_text}
 use Rattle.query_run.specs.AskedQueries.{QueryAsked}
-use Rattle.query_run.specs.declared.fault.AskFault.{AskFault}
-use Rattle.query_run.specs.declared.fault.AskFault.TheVariants.{OutOfMemory, Stopped}
+use Rattle.metric_scan.specs.declared.fault.AskFault.{AskFault}
+use Rattle.metric_scan.specs.declared.fault.AskFault.TheVariants.{OutOfMemory, Stopped}
 use Rattle.series_meta.specs.declared.meta_faults.MetaFault.{MetaFault}
 use Rattle.http_series.specs.SeriesAnswers.{LastsTold, LookupTold, query_fault}
 use Rattle.http_api.specs.CallWork.{PutFlags, Work, work_of}

@@ -6,7 +6,7 @@ use Rattle.cell_model.specs.declared.events.Placed.{Placed}
 use Rattle.cell_model.specs.History.{History, first}
 use Rattle.cell_model.specs.Lawful.{IsLawful}
 use Rattle.cell_model.specs.Seen.{Seen, Fits}
-use Rattle.query_run.specs.Parts.{AreQuerySteps}
+use Rattle.metric_scan.specs.Parts.{AreQuerySteps}
 use Rattle.series_meta.specs.Lookups.{AreFewFor, LookupIs, LookupSays, SeriesAsked}
 use Rattle.series_meta.specs.declared.meta_answers.Line.{Line}
 use Rattle.series_meta.specs.declared.meta_faults.MetaFault.{MetaFault}

@@ -8,7 +8,7 @@ use Rattle.cell_model.specs.Lawful.{IsLawful}
 use Rattle.cell_model.specs.Deeds.{Since, deeds}
 use Rattle.cell_model.specs.Seen.{Seen, Fits, InEach}
 use Rattle.cell_model.specs.Stops.{RoseIf}
-use Rattle.query_run.specs.Parts.{AreQuerySteps}
+use Rattle.metric_scan.specs.Parts.{AreQuerySteps}
 use Rattle.series_meta.specs.LatestPoints.{Asking, LastIs, LastSays}
 use Rattle.series_meta.specs.MetaFaults.{is_stop}
 use Rattle.series_meta.specs.declared.meta_answers.Last.{Last}

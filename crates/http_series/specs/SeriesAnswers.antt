@@ -5,9 +5,9 @@ use Rattle.std.specs.declared.alloc.Global.{Global}
 use Rattle.cell_model.specs.History.{History, first}
 use Rattle.cell_model.specs.Deeds.{deeds, Since}
 use Rattle.cell_model.specs.Seen.{Seen, InEach}
-use Rattle.query_run.specs.Parts.{AreQuerySteps}
-use Rattle.query_run.specs.declared.fault.AskFault.{AskFault}
-use Rattle.query_run.specs.declared.fault.AskFault.TheVariants as ask
+use Rattle.metric_scan.specs.Parts.{AreQuerySteps}
+use Rattle.metric_scan.specs.declared.fault.AskFault.{AskFault}
+use Rattle.metric_scan.specs.declared.fault.AskFault.TheVariants as ask
 use Rattle.series_meta.specs.LatestPoints.{Asking, LastIs, LastSays}
 use Rattle.series_meta.specs.Lookups.{AreFewFor, LookupIs, SeriesAsked}
 use Rattle.series_meta.specs.declared.meta_answers.Last.{Last}

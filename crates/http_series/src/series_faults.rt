@@ -2,7 +2,7 @@
 ghost use Rattle.std.specs.Prelude.{◌≡◌};
 ghost use Rattle.http_series.specs.SeriesAnswers.{query_fault};
 
-use query_run::AskFault;
+use metric_scan::AskFault;
 use series_meta::MetaFault;
 
 /// The fault of a query whose text and cause are those of a fault of series.

@@ -2,9 +2,9 @@
 use Rattle.std.proofs.Common.{◌≡◌, ◌⊎◌, inl, inr, ℕ, ◌+◌, ◌-◌, Bool, List, ◌++◌, ap, subst, sym, append_assoc, refl, ◌∙◌, arith}
 use Rattle.std.specs.Prelude.{Option, Some, None}
 use Rattle.tsd_doors.specs.Links.{Counts, Shut, accepted}
-use Rattle.link_workers.specs.declared.accept_loop.AcceptEnd.{AcceptEnd}
-use Rattle.link_workers.specs.declared.accept_loop.AcceptEnd.TheVariants.{OutOfMemory}
-use Rattle.link_workers.specs.Accepting.{AsksEach, AsksHalt}
+use Rattle.link_acceptor.specs.declared.accept_loop.AcceptEnd.{AcceptEnd}
+use Rattle.link_acceptor.specs.declared.accept_loop.AcceptEnd.TheVariants.{OutOfMemory}
+use Rattle.link_acceptor.specs.Accepting.{AsksEach, AsksHalt}
 use Rattle.link_workers.specs.Returns.{AllEnd, many_returned}
 
 -- these were given back, and then those

@@ -7,10 +7,10 @@ use Rattle.std.specs.List.{sum_by}
 use Rattle.std.proofs.lemmas.List.Sums.{sum_by-cons}
 use Rattle.std.proofs.lemmas.List.Elements.{All-head, All-rest}
 use Rattle.tsd_doors.specs.Links.{Counts, Shut, Ends, one_returned}
-use Rattle.link_workers.specs.Accepting.{AddsUp, AddsUpOrFails, Allows, AsksEach, AsksHalt, LastAsk, lost_by}
+use Rattle.link_acceptor.specs.Accepting.{AddsUp, AddsUpOrFails, Allows, AsksEach, AsksHalt, LastAsk, lost_by}
 use Rattle.link_workers.specs.Returns.{AllEnd, AccountsFor, many_returned}
-use Rattle.link_workers.specs.declared.accept_loop.AcceptEnd.{AcceptEnd}
-use Rattle.link_workers.specs.declared.accept_loop.AcceptEnd.TheVariants.{NoneLeft, Stopped, DoorFault, OutOfMemory}
+use Rattle.link_acceptor.specs.declared.accept_loop.AcceptEnd.{AcceptEnd}
+use Rattle.link_acceptor.specs.declared.accept_loop.AcceptEnd.TheVariants.{NoneLeft, Stopped, DoorFault, OutOfMemory}
 
 -- what was given back so far, and one more
 pub one_more_ends : {X : Type 0} (shown : X → Shut) (a b c : Option (List Shut)) (xs : List X) (x : X) → AllEnd a b (map shown xs) → Ends b c (shown x) → AllEnd a c (map shown (xs ++ x ∷ []))
@@ -42,12 +42,6 @@ one_more_returned xs x a b c so_far more = more ∙ ap one_returned so_far ∙ s
         let returned : a.returned + n + 1 ≡ a.returned + m = omega (arith, one) in
         let out : a.out - n - 1 ≡ a.out - m = omega (arith, one) in
         rw (returned, out) refl
-
--- a part of a list that was written whole
-pub whole_written : {X : Type 0} (n : ℕ) (now before : List X) → length now ≡ length before → n ≡ length before → take n (now ++ drop (length now) before) ≡ now
-whole_written n now before same len =
-    let none : drop (length now) before ≡ [] = ap (λ k. drop k before) same ∙ drop-length before in
-    ap (λ l. take n (now ++ l)) none ∙ ap (λ l. take n l) (append-nil now) ∙ ap (λ k. take k now) (len ∙ sym same) ∙ take-length now
 
 -- all that was accepted was put into the queues, and what was taken of them has an end
 pub accounts : (end : AcceptEnd) (a b : Counts) (from put ends : ℕ) → from ≡ 0 → AddsUpOrFails end a b from put → ends ≡ put → AccountsFor end a b ends
@@ -92,20 +86,6 @@ none_served ends (x ∷ xs) idle =
     let one : length (ends x) ≡ 0 = ap length (All-head (λ y. ends y ≡ []) x xs idle) in
     let rest = none_served ends xs (All-rest (λ y. ends y ≡ []) _ _ _ refl idle) in
     omega (arith, one, rest, sum_by-cons (λ y. length (ends y)) x xs)
-
--- ---- asks of a halt
-module _ {H : Type 0} (answers : H → Bool → H → Type 0) (base out out' : ℕ) (old last new : H) (few : base ≤ out) (so_far : Allows answers (out - base) old last) where
-  pub one_more_ask : out' ≡ out + 1 → answers last true new → Allows answers (out' - base) old new
-  one_more_ask is asked = subst (λ count. Allows answers count old new) (omega (arith, few, is)) (Allows.more so_far asked)
-
-  pub asked_to_end : (end : AcceptEnd) → out' ≡ out + lost_by end → LastAsk answers end last new → AsksEach answers end (out' - base) old new
-  asked_to_end NoneLeft is asked = subst (λ count. Allows answers count old new) (omega (arith, few, is)) (Allows.more so_far asked)
-  asked_to_end Stopped is asked = (last, subst (λ count. Allows answers count old last) (omega (arith, few, is)) so_far, asked)
-  asked_to_end DoorFault is asked = subst (λ count. Allows answers count old new) (omega (arith, few, is)) (Allows.more so_far asked)
-  asked_to_end OutOfMemory is asked = one_more_ask is asked
-
-pub none_asked : {H : Type 0} (answers : H → Bool → H → Type 0) (count : ℕ) (halt : H) → Allows answers (count - count) halt halt
-none_asked answers count halt = subst (λ n. Allows answers n halt halt) (omega arith) Allows.none
 
 -- as many were accepted as are out besides
 pub asked_in_all : {H : Type 0} (answers : H → Bool → H → Type 0) (told end : AcceptEnd) (before now : Counts) (old new : H) → (told ≡ end) ⊎ (told ≡ OutOfMemory)

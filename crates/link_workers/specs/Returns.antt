@@ -1,7 +1,7 @@
 -- What was served, and what is given back to the doors.
-use Rattle.std.specs.Prelude.{ℕ, ◌+◌, ◌-◌, ◌<◌, ◌≤◌, ◌≡◌, ⊤, List, ◌++◌, length, map, slice_index_or, Option, Some, None}
-use Rattle.link_workers.specs.declared.accept_loop.AcceptEnd.{AcceptEnd}
-use Rattle.link_workers.specs.Accepting.{lost_by}
+use Rattle.std.specs.Prelude.{ℕ, ◌+◌, ◌-◌, ◌≤◌, ◌≡◌, ⊤, List, ◌++◌, map, Option, Some, None}
+use Rattle.link_acceptor.specs.declared.accept_loop.AcceptEnd.{AcceptEnd}
+use Rattle.link_acceptor.specs.Accepting.{lost_by}
 use Rattle.tsd_doors.specs.Links.{Counts, Shut}
 
 -- what is promised holds of the connections that were served, in order, each with its own end
@@ -23,7 +23,3 @@ many_returned count counts = record { returned = counts.returned + count; out = 
 abbrev pub AllEnd : Option (List Shut) → Option (List Shut) → List Shut → Type 0
 AllEnd None now last = ⊤
 AllEnd (Some all) now last = now ≡ Some (all ++ last)
-
--- each of the second list came of the one at its place in the first, as this relation says
-pub record EachChanged {X : Type 0} (Changes : ℕ → X → X → Type 0) (xs ys : List X) : Type 0 where
-  pub each : (place : ℕ) (other : X) → place < length xs → Changes place (slice_index_or xs place other) (slice_index_or ys place other)

@@ -1,16 +1,16 @@
 //! All connections of the doors, each served by one of the workers or by the caller.
 ghost use Rattle.std.specs.Prelude.{◌≡◌, ◌<◌, ◌≤◌, ◌+◌, [], All, length, max, IfOk, vec_len, vec_capacity};
 ghost use Rattle.std.specs.List.{sum_by};
-ghost use Rattle.link_workers.specs.Accepting.{AddsUp, AsksHalt, lost_by, links_between, HasReason};
+ghost use Rattle.link_acceptor.specs.Accepting.{AddsUp, AsksHalt, lost_by, links_between, HasReason};
 ghost use Rattle.link_workers.specs.Returns.{AllServed, AccountsFor};
 
-use crate::accept_loop::{AcceptEnd, Accepted};
-use crate::link::Link;
 use crate::link_ends::LinkEnds;
 use crate::link_work::LinkWork;
-use crate::staff::accept_beside;
 use crate::worker_loop::{LinkWorker, serve_left, serve_worker};
 use closable_queues::closable::ClosableQueues;
+use link_acceptor::accept_loop::{AcceptEnd, Accepted};
+use link_acceptor::link::Link;
+use link_acceptor::staff::accept_beside;
 use std::alloc::{AllocError, Global};
 use std::marker::Brand;
 use std::sync::Wait;

@@ -1,13 +1,13 @@
 //! Workers, which serve the connections of one queue until it is closed and empty.
-ghost use Rattle.std.specs.Prelude.{◌≡◌, ◌<◌, ◌≤◌, ◌+◌, ◌∷◌, ◌++◌, [], List, length, true, vec_capacity};
+ghost use Rattle.std.specs.Prelude.{◌≡◌, ◌<◌, ◌≤◌, ◌+◌, ◌∷◌, ◌++◌, [], List, length, true, vec_capacity, IfSome, MatchOption};
 ghost use Rattle.tsd_doors.specs.Links.{Shut};
 ghost use Rattle.link_workers.specs.Returns.{AllServed};
 
-use crate::link::Link;
 use crate::link_ends::LinkEnds;
 use crate::link_work::LinkWork;
 use closable_queues::closable::ClosableQueues;
 use closable_queues::queue_lists::QueueLists;
+use link_acceptor::link::Link;
 use std::sync::Wait;
 use std::sync::ledger::{Ledger, Share};
 use std::thread::Parker;
@@ -52,19 +52,39 @@ pub fn serve_worker<
         queue,
     } = worker;
     queues.begin(rt, *queue);
-    let pause = Parker::new();
     for _ in rt.forever() {
-        if links.ends.reserve(1).is_ok() {
-            let Some(link) = queues.take(rt, *queue, share) else {
-                return;
-            };
-            serve_next::<D, W>(links, link);
-        } else if queues.wait(rt, *queue) {
-            pause.park_timeout(rt, Duration::from_millis(10));
-        } else {
+        let Some(link) = next_link(rt, queues, *queue, &mut links.ends, share) else {
             return;
-        }
+        };
+        serve_next::<D, W>(links, link);
     }
+}
+
+/// The next of a queue, once there is room for a further end. None says that the queue is closed and empty, or that it was closed
+/// while there was no room.
+fn next_link<R: Wait, X: Drop, E: Drop, P: Ledger, T: Ledger>(
+    rt: &R,
+    queues: &ClosableQueues<X, P, T>,
+    queue: usize,
+    ends: &mut Vec<E>,
+    share: &mut Share<T>,
+) -> Option<X>
+    requires some { 0 < share.old.parts }
+    ensures ends { ends.new.items ≡ ends.old.items }
+    ensures room { IfSome result (λ _. length ends.new.items < vec_capacity ends.new) }
+    ensures moved { MatchOption result (share.new.amount ≡ share.old.amount) (λ _. share.new.amount ≡ share.old.amount + 1) }
+    ensures parts { share.new.parts ≡ share.old.parts }
+{
+    for _ in rt.forever() {
+        if ends.reserve(1).is_ok() {
+            return queues.take(rt, queue, share);
+        }
+        if !queues.wait(rt, queue) {
+            return None;
+        }
+        Parker::new().park_timeout(rt, Duration::from_millis(10));
+    }
+    unreachable!()
 }
 
 /// Serves what is left in the lists, once nothing more comes, with every part of both books. False says that there was no

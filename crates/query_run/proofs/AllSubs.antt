@@ -11,16 +11,16 @@ use Rattle.cell_model.specs.declared.events.Placed.{Placed}
 use Rattle.cell_model.specs.History.{History, first}
 use Rattle.cell_model.specs.Seen.{Seen}
 use Rattle.cell_model.specs.Deeds.{Made}
-use Rattle.query_run.specs.declared.fault.AskFault.{AskFault}
-use Rattle.query_run.specs.declared.fault.AskFault.TheVariants.{OutOfMemory}
-use Rattle.query_run.specs.Parts.{Part, all_own, AreQuerySteps, PartStands}
+use Rattle.metric_scan.specs.declared.fault.AskFault.{AskFault}
+use Rattle.metric_scan.specs.declared.fault.AskFault.TheVariants.{OutOfMemory}
+use Rattle.metric_scan.specs.Parts.{Part, all_own, AreQuerySteps, PartStands}
 use Rattle.query_run.specs.Asked.{Answers, Answered, Refused}
 use Rattle.query_run.specs.Asked.Answers.{none, more}
 use Rattle.query_run.specs.AskedQueries.{wanted, names_in, barred, answer_over, IsFew}
 use Rattle.query_run.specs.SubQuery.{Later, SubAnswered, SubRefused}
 use Rattle.query_run.proofs.Lower as lower
-use Rattle.query_run.proofs.NameReads.{about, taken}
-use Rattle.query_run.proofs.WalkSteps.{steps_joined}
+use Rattle.metric_scan.proofs.NameReads.{about, taken}
+use Rattle.metric_scan.proofs.WalkSteps.{steps_joined}
 
 abbrev pub AnswersOf : Query → ℕ → History → List Sub → List Part → List Group → Type 0
 AnswersOf q = Answers (wanted q) names_in (barred q) (answer_over q) (IsFew q)

@@ -5,22 +5,22 @@ use Rattle.cell_model.specs.Seen.{Seen, InEach}
 use Rattle.cell_model.specs.Deeds.{Since}
 use Rattle.json_reply.specs.declared.reply.Reply.{Reply}
 use Rattle.query_text.specs.declared.queries.Query.{Query}
-use Rattle.query_run.specs.declared.fault.AskFault.{AskFault}
-use Rattle.query_run.specs.Parts.{AreQuerySteps}
+use Rattle.metric_scan.specs.declared.fault.AskFault.{AskFault}
+use Rattle.metric_scan.specs.Parts.{AreQuerySteps}
 use Rattle.query_run.specs.AskedQueries.{QuerySays, QueryAsked, plain_result}
 -- a conflict is of two readings that were accepted, and so of a series with two values at one time
 pub use Rattle.query_run.proofs.Outcomes.{StandIn, no_conflict_of}
 -- an id that was seen is seen later
-pub use Rattle.query_run.proofs.NameIds.{id_later}
+pub use Rattle.metric_scan.proofs.NameIds.{id_later}
 -- names that were resolved behind others, or weren't
-pub use Rattle.query_run.proofs.NameIds.{resolved_none, resolved_joined, unresolved_wider, unresolved_behind}
+pub use Rattle.metric_scan.proofs.NameIds.{resolved_none, resolved_joined, unresolved_wider, unresolved_behind}
 -- those before the first unknown one are resolved in each history
 pub use Rattle.query_run.proofs.OneSub.{first_unknown}
 -- reads are steps of a query, and two lists of them are one
-pub use Rattle.query_run.proofs.WalkSteps.{steps_joined, reads_steps}
-pub use Rattle.query_run.proofs.NameReads.{no_reads, one_read, reads_joined}
+pub use Rattle.metric_scan.proofs.WalkSteps.{steps_joined, reads_steps}
+pub use Rattle.metric_scan.proofs.NameReads.{no_reads, one_read, reads_joined}
 -- a fault is handed on
-pub use Rattle.query_run.proofs.NameReads.{passed_on}
+pub use Rattle.metric_scan.proofs.NameReads.{passed_on}
 -- offsets are within the hour; values without a conflict are one
 pub use Rattle.query_run.proofs.RowPoints.{are_offsets, one_value}
 

@@ -22,16 +22,16 @@ use Rattle.cell_model.specs.Seen.{Seen, Fits}
 use Rattle.cell_model.specs.Deeds.{Made, InOrder, before_first}
 use Rattle.row_scan.specs.Scans.{IsRowOf, HasCell, IsWanted}
 use Rattle.qual_codec.specs.Merge.{values_at, first_conflict}
-use Rattle.query_run.specs.Parts.{HasConflict, ShowsRowsBelow, FirstConflict}
+use Rattle.metric_scan.specs.Parts.{HasConflict, ShowsRowsBelow, FirstConflict}
 use Rattle.query_run.specs.AskedQueries.{is_wanted}
-use Rattle.query_run.specs.RowNames.{IdOf, AreReads}
+use Rattle.metric_scan.specs.RowNames.{IdOf, AreReads}
 use Rattle.query_run.specs.RowDots.{IsIn}
 use Rattle.query_text.specs.declared.queries.Filter.{Filter}
 use Rattle.row_scan.specs.RowReadings.{ShowsRow}
-use Rattle.query_run.specs.Walks.{Picks, KeyOf, Counted, picked_by}
+use Rattle.metric_scan.specs.Walks.{Picks, KeyOf, Counted, picked_by}
 use Rattle.query_run.specs.Collection.{RowConflicts, FoundConflict}
 use Rattle.query_run.proofs.Lower as lower
-use Rattle.query_run.proofs.Titles.{tags_exist}
+use Rattle.metric_scan.proofs.TagNames.{tags_exist}
 use Rattle.query_run.proofs.RowReadings.{PicksBy, asks, is_asked, hours_within, ReadsDot, dot_reads, conflict_free_row, same_dots}
 use Rattle.query_run.proofs.Standing.{shown_behind, shown_after}
 

@@ -21,12 +21,12 @@ use Rattle.list_lemmas.specs.BytesOrder.{bytes_cmp}
 use Rattle.tsd_base.specs.declared.kinds.Down.{Down}
 use Rattle.span_merge.specs.Spans.{Span, KeptSpan, pairs_cmp, dots_of, added}
 use Rattle.query_run.specs.RowDots.{dot_at}
-use Rattle.query_run.specs.Walks.{Picks, KeyOf}
+use Rattle.metric_scan.specs.Walks.{Picks, KeyOf}
 use Rattle.query_run.specs.Collection.{RowIsIn, RowIsConflictFree, DotIsFrom, Gathered, Adds, RowTaken, StandsBehind}
 use Rattle.query_run.proofs.Lower as lower
 use Rattle.query_run.proofs.RowPoints.{are_offsets}
 use Rattle.query_run.proofs.Titles.{pairs_total}
-use Rattle.query_run.proofs.ScanSteps.{hours_rise, hour_before}
+use Rattle.metric_scan.proofs.ScanSteps.{hours_rise, hour_before}
 
 -- ---- the points of series
 

@@ -13,11 +13,11 @@ use Rattle.query_text.specs.declared.queries.Filter.{Filter}
 use Rattle.query_text.specs.FilterTexts.{is_of_text}
 use Rattle.row_scan.specs.Scans.{Left, Wanting, Skips, Scanned}
 use Rattle.row_scan.specs.Scans.Scanned.{ended, found, other, skipped}
-use Rattle.query_run.specs.declared.id_filter.IdFilter.{IdFilter}
-use Rattle.query_run.specs.IdFilters.{passes}
-use Rattle.query_run.specs.RowNames.{Names}
+use Rattle.metric_scan.specs.declared.id_filter.IdFilter.{IdFilter}
+use Rattle.metric_scan.specs.IdFilters.{passes}
+use Rattle.metric_scan.specs.RowNames.{Names}
 use Rattle.query_run.specs.ValueJudges.{pair_passes, suits}
-use Rattle.query_run.specs.Walks.{ShowsBelow}
+use Rattle.metric_scan.specs.Walks.{ShowsBelow}
 use Rattle.query_run.specs.Collection.{picks_in}
 
 -- what a row's pairs pass by ids and by names they pass by ids

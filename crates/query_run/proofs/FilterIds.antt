@@ -23,12 +23,12 @@ use Rattle.cell_model.specs.Deeds.{Extends}
 use Rattle.uid_table.specs.Shown.{HasShown}
 use Rattle.group_by.specs.TagFilters as by_name
 use Rattle.tag_match.specs.Patterns.{finds}
-use Rattle.query_run.specs.declared.id_filter.IdTest.{IdTest}
-use Rattle.query_run.specs.declared.id_filter.IdTest.TheVariants.{Any, OneOf, NotOneOf}
-use Rattle.query_run.specs.declared.id_filter.IdFilter.{IdFilter}
+use Rattle.metric_scan.specs.declared.id_filter.IdTest.{IdTest}
+use Rattle.metric_scan.specs.declared.id_filter.IdTest.TheVariants.{Any, OneOf, NotOneOf}
+use Rattle.metric_scan.specs.declared.id_filter.IdFilter.{IdFilter}
 use Rattle.query_run.specs.ValueJudges.{passes_named, pair_passes, suits_one, suits}
 use Rattle.query_run.specs.Collection.{picks_in}
-use Rattle.query_run.specs.IdFilters.{passes, passes_filter, passes_test, AreIds, AreIdsOf, IsIdTest, IsIdFilter, AreIdFilters}
+use Rattle.metric_scan.specs.IdFilters.{passes, passes_filter, passes_test, AreIds, AreIdsOf, IsIdTest, IsIdFilter, AreIdFilters}
 use Rattle.query_run.proofs.Lower as lower
 use Rattle.series_groups.proofs.AnyOf.{in_any, any_in}
 use Rattle.query_run.proofs.RowReadings.{PicksBy}

@@ -11,7 +11,7 @@ use Rattle.series_groups.specs.declared.named_series.Series as kept
 use Rattle.series_groups.specs.NamedSeries.{Series}
 use Rattle.series_groups.specs.KeptSeries.{KeepsWithin, with_points, all_with_points}
 use Rattle.series_groups.specs.QueryAnswers.{down_by}
-use Rattle.query_run.specs.RowNames.{Names, known}
+use Rattle.metric_scan.specs.RowNames.{Names, known}
 use Rattle.query_run.specs.SeriesTags.{Titles, TitlesKept}
 use Rattle.series_groups.specs.SeriesGroups.{AreSeriesFor}
 use Rattle.query_run.specs.SubQuery.{AreCollected}

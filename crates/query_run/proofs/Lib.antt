@@ -1,17 +1,11 @@
 mod Lower
-mod NameReads
-mod NameIds
 mod RowPoints
 mod Titles
 mod RowsTaken
-mod ScanSteps
 mod Contents
-mod Passing
-mod WalkSteps
-mod RowsBegun
-mod WalkTurns
 mod FewerRows
 mod ValueJudging
+mod PickedRows
 mod CollectLoop
 mod RowReadings
 mod FilterIds
@@ -26,10 +20,5 @@ mod Unordered
 mod Outcomes
 mod SameOutcome
 mod SameAnswer
-mod PairOrder
-mod IdSets
-mod Jumps
-mod SkipSteps
-mod TextLemmas
 pub mod CallerLemmas
 pub mod WalkLemmas

@@ -32,29 +32,30 @@ use Rattle.row_scan.specs.Scans.{HasCell, IsStart}
 use Rattle.tsd_base.specs.declared.kinds.Down.{Down}
 use Rattle.span_merge.specs.Spans.{Span, KeepsSpans}
 use Rattle.query_run.specs.declared.collection.Collected.{Collected}
-use Rattle.query_run.specs.declared.fault.AskFault.{AskFault}
-use Rattle.query_run.specs.declared.fault.AskFault.TheVariants.{TooManyBuckets, BadFilter, Unknown, Duplicate, Overflow, OutOfMemory, Stopped}
-use Rattle.query_run.specs.declared.id_filter.IdFilter.{IdFilter}
+use Rattle.metric_scan.specs.declared.fault.AskFault.{AskFault}
+use Rattle.metric_scan.specs.declared.fault.AskFault.TheVariants.{TooManyBuckets, BadFilter, Unknown, Duplicate, Overflow, OutOfMemory, Stopped}
+use Rattle.metric_scan.specs.declared.id_filter.IdFilter.{IdFilter}
 use Rattle.query_run.specs.declared.value_judges.ValueJudge.{ValueJudge}
 use Rattle.series_groups.specs.NamedSeries.{Series}
 use Rattle.series_groups.specs.QueryAnswers.{answer, down_by}
 use Rattle.series_groups.specs.NamedSeries.{points_in}
-use Rattle.query_run.specs.Parts.{NameOf, Part, AreQuerySteps, AllResolved, PartStands, FirstUnknown}
+use Rattle.metric_scan.specs.Parts.{NameOf, Part, AreQuerySteps, AllResolved, PartStands, FirstUnknown}
 use Rattle.query_run.specs.Asked.{Cause}
-use Rattle.query_run.specs.IdFilters.{IsIdFilter, AreIdFilters, passes}
+use Rattle.metric_scan.specs.IdFilters.{IsIdFilter, AreIdFilters, passes}
 use Rattle.query_run.specs.ValueJudges.{filters_of}
 use Rattle.query_run.specs.AskedQueries.{wanted, names_in, barred, answer_over, IsFew}
-use Rattle.query_run.specs.RowNames.{IdOf, Names, ids_of, known}
-use Rattle.query_run.specs.declared.metric_rows.MetricRows.{MetricRows}
-use Rattle.query_run.specs.Walks.{Picks, KeyOf, Counted, RowIsNamed, RowRange, AreRowsOf, picked_by, row_range}
+use Rattle.metric_scan.specs.RowNames.{IdOf, Names, ids_of, known}
+use Rattle.metric_scan.specs.declared.metric_rows.MetricRows.{MetricRows}
+use Rattle.metric_scan.specs.Walks.{Picks, KeyOf, Counted, RowIsNamed, RowRange, AreRowsOf, picked_by, row_range}
 use Rattle.query_run.specs.Collection.{picks_in, Gathered, HasCollected, KeepsCollected, WasCut, FoundConflict, ConflictOf}
-use Rattle.query_run.specs.ResolvedIds.{AreResolved, IsUnresolved, UnresolvedBy}
-use Rattle.query_run.specs.SeriesTags.{ArePairs, CanTitle, Titles}
+use Rattle.metric_scan.specs.ResolvedIds.{AreResolved, IsUnresolved, UnresolvedBy}
+use Rattle.metric_scan.specs.RowTags.{ArePairs}
+use Rattle.query_run.specs.SeriesTags.{CanTitle, Titles}
 use Rattle.cell_model.specs.Stops.{CountsStops}
-use Rattle.query_run.specs.AskFaults.{is_stop}
+use Rattle.metric_scan.specs.AskFaults.{is_stop}
 use Rattle.query_run.specs.SubQuery.{AreCollected, BuiltSays, GroupsSay, Later, SubRefused, SubSays}
 use Rattle.query_run.proofs.Lower as lower
-use Rattle.query_run.proofs.WalkSteps.{steps_joined, reads_steps}
+use Rattle.metric_scan.proofs.WalkSteps.{steps_joined, reads_steps}
 use Rattle.query_run.proofs.Shown.{readings_in, as_points}
 use Rattle.query_run.proofs.FilterIds.{id_now, picks_by}
 use Rattle.query_run.proofs.RowReadings.{PicksBy}

@@ -27,11 +27,11 @@ use Rattle.query_text.specs.declared.queries.Query.{Query}
 use Rattle.query_text.specs.declared.queries.Sub.{Sub}
 use Rattle.row_scan.specs.RowReadings.{RowReads}
 use Rattle.uid_table.specs.IdSteps.{DidLook}
-use Rattle.query_run.specs.declared.fault.AskFault.{AskFault}
-use Rattle.query_run.specs.declared.fault.AskFault.TheVariants.{TooManyBuckets, BadFilter, Unknown, Duplicate, Overflow, OutOfMemory, Stopped}
+use Rattle.metric_scan.specs.declared.fault.AskFault.{AskFault}
+use Rattle.metric_scan.specs.declared.fault.AskFault.TheVariants.{TooManyBuckets, BadFilter, Unknown, Duplicate, Overflow, OutOfMemory, Stopped}
 use Rattle.query_run.specs.Asked.{Cause}
 use Rattle.query_run.specs.Invisible.{AcceptedFor, IsSettled}
-use Rattle.query_run.specs.Parts.{NameOf, IsResolved, AllResolved, PartStands, FirstUnknown, HasConflict, FirstConflict}
+use Rattle.metric_scan.specs.Parts.{NameOf, IsResolved, AllResolved, PartStands, FirstUnknown, HasConflict, FirstConflict}
 use Rattle.query_run.specs.AskedQueries.{wanted, names_in, barred, answer_over, IsFew}
 use Rattle.query_run.proofs.Lower as lower
 use Rattle.query_run.proofs.Lower.{same_reading, OnlyBetween, accepted_grown, grown_between, ids_grown}

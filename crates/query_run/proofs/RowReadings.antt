@@ -25,7 +25,7 @@ use Rattle.query_text.specs.declared.queries.Filter.{Filter}
 use Rattle.tag_match.specs.Patterns.{passes}
 use Rattle.query_run.specs.AskedQueries.{is_wanted}
 use Rattle.query_run.specs.RowDots.{IsIn}
-use Rattle.query_run.specs.Walks.{Picks, KeyOf}
+use Rattle.metric_scan.specs.Walks.{Picks, KeyOf}
 use Rattle.query_run.specs.Collection.{RowIsConflictFree}
 use Rattle.query_run.proofs.Lower as lower
 use Rattle.query_run.proofs.RowPoints.{one_value}

@@ -1,39 +1,21 @@
 -- One row that was found, and what is taken of it.
-use Rattle.std.proofs.Common.{◌≡◌, ℕ, inl, inr, ◌+◌, ◌*◌, ◌<◌, ◌≤◌, List, [], ◌∷◌, length, refl, sym, ap, subst, ◌∙◌, arith}
-use Rattle.std.specs.Prelude.{ℤ, Bool, true, false, All, Contains, OnOk, Option, Result, Ok, Err}
+use Rattle.std.proofs.Common.{◌≡◌, ℕ, inl, inr, ◌+◌, ◌*◌, ◌<◌, ◌≤◌, List, [], ◌∷◌, length, refl, sym, ap, subst, arith}
+use Rattle.std.specs.Prelude.{ℤ, Bool, true, false, All, OnOk, Option, Result, Ok, Err}
 use Rattle.std.specs.List.{AllByRecursion}
 use Rattle.std.proofs.lemmas.List.Elements.{recursion_from_All}
-use Rattle.row_key.specs.declared.widths.Widths.{Widths}
 use Rattle.row_key.specs.declared.keys.RowKey.{RowKey}
-use Rattle.row_key.specs.Key.{IsKey, key_bytes}
 use Rattle.tsd_base.specs.declared.kinds.Down.{Down}
 use Rattle.tsd_base.specs.Dots.{IsAboveAll}
 use Rattle.qual_codec.specs.declared.cells.Cell.{Cell}
-use Rattle.cell_model.specs.declared.row.Row.{Row}
-use Rattle.cell_model.specs.declared.row.Found.{Found}
 use Rattle.cell_model.specs.Seen.{Seen}
 use Rattle.span_merge.specs.Spans.{Span, KeptSpan, KeepsSpans, HasAdded, added, dots_of}
-use Rattle.query_run.specs.declared.fault.AskFault.{AskFault}
-use Rattle.query_run.specs.declared.fault.AskFault.TheVariants.{TooManyBuckets, BadFilter, Unknown, Duplicate, Overflow, OutOfMemory, Stopped}
+use Rattle.metric_scan.specs.declared.fault.AskFault.{AskFault}
+use Rattle.metric_scan.specs.declared.fault.AskFault.TheVariants.{TooManyBuckets, BadFilter, Unknown, Duplicate, Overflow, OutOfMemory, Stopped}
 use Rattle.cell_model.specs.Calls.{Leaves}
-use Rattle.query_run.specs.AskFaults.{is_stop}
-use Rattle.query_run.specs.RowNames.{KnowsPair}
+use Rattle.metric_scan.specs.AskFaults.{is_stop}
 use Rattle.query_run.specs.RowDots.{HasDots, DotsAsked}
-use Rattle.query_run.specs.Walks.{KeyOf, FoundRow}
 use Rattle.query_run.specs.Collection.{StandsBehind, AddsKept, RowTaken, TakesRow, TakesIf}
 use Rattle.query_run.proofs.Lower as lower
-
-pub key_same : (s : Seen) (widths : Widths) (id start end : ℕ) (f : Found) (key : RowKey) → (x : FoundRow s widths id start end f) → IsKey widths key → f.row.bytes ≡ key_bytes widths key → x.key ≡ key
-key_same s widths id start end f key x is row = lower.one_key widths x.key key x.of.is_key is (sym (ap (λ (r : Row). r.bytes) x.of.row_is) ∙ row)
-
--- the key that was read is the row's
-pub key_of_row : (s : Seen) (widths : Widths) (id start end : ℕ) (f : Found) (key : RowKey) → FoundRow s widths id start end f → IsKey widths key → f.row.bytes ≡ key_bytes widths key → KeyOf widths id start end f key
-key_of_row s widths id start end f key x is row = subst (KeyOf widths id start end f) (key_same s widths id start end f key x is row) x.of
-
-pub row_knows : (s : Seen) (widths : Widths) (id start end : ℕ) (f : Found) (key : RowKey) (pairs : List (ℕ × ℕ)) → FoundRow s widths id start end f → IsKey widths key → f.row.bytes ≡ key_bytes widths key → pairs ≡ key.pairs.items
-    → (p : ℕ × ℕ) → Contains pairs p → KnowsPair s p
-row_knows s widths id start end f key pairs x is row same p c =
-    x.knows p (subst (λ (l : List (ℕ × ℕ)). Contains l p) (same ∙ ap (λ (k : RowKey). k.pairs.items) (sym (key_same s widths id start end f key x is row))) c)
 
 -- ---- a fault of its points
 

@@ -8,12 +8,12 @@ use Rattle.cell_model.specs.Readings.{Reading, Meets, OneValued, reading_of}
 use Rattle.json_reply.specs.Replies.{Group}
 use Rattle.query_text.specs.declared.queries.Query.{Query}
 use Rattle.query_text.specs.declared.queries.Sub.{Sub}
-use Rattle.query_run.specs.declared.fault.AskFault.{AskFault}
-use Rattle.query_run.specs.declared.fault.AskFault.TheVariants.{Unknown}
+use Rattle.metric_scan.specs.declared.fault.AskFault.{AskFault}
+use Rattle.metric_scan.specs.declared.fault.AskFault.TheVariants.{Unknown}
 use Rattle.query_run.specs.AskedQueries.{as_point}
 use Rattle.query_run.specs.Invisible.{AcceptedFor, IsSettled}
 use Rattle.query_run.specs.Laws.{AnswerIsUnordered}
-use Rattle.query_run.specs.Parts.{NameOf, IsResolved}
+use Rattle.metric_scan.specs.Parts.{NameOf, IsResolved}
 use Rattle.query_run.specs.AskedQueries.{names_in}
 use Rattle.query_run.proofs.Lower as lower
 use Rattle.query_run.proofs.Outcomes.{Comes, IsFirstUnresolved, IsOver, as_answer}

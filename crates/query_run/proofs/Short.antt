@@ -11,9 +11,9 @@ use Rattle.cell_model.specs.Layout.{base_time}
 use Rattle.cell_model.specs.History.{History, first, store_after}
 use Rattle.cell_model.specs.IdRows.{id_of}
 use Rattle.cell_model.specs.Lawful.{IsLawful}
-use Rattle.query_run.specs.Parts.{NameOf, IsShort}
-use Rattle.query_run.specs.RowNames.{IdOf, ids_of}
-use Rattle.query_run.specs.Walks.{Counted}
+use Rattle.metric_scan.specs.Parts.{NameOf, IsShort}
+use Rattle.metric_scan.specs.RowNames.{IdOf, ids_of}
+use Rattle.metric_scan.specs.Walks.{Counted}
 use Rattle.query_run.proofs.Lower as lower
 use Rattle.query_run.proofs.Conflicting.{StoodFound}
 

@@ -22,16 +22,17 @@ use Rattle.row_scan.specs.Laws.{ScanCovers}
 use Rattle.span_merge.specs.Spans.{Span, dots_of}
 use Rattle.series_groups.specs.NamedSeries.{Series}
 use Rattle.query_text.specs.declared.queries.Filter.{Filter}
-use Rattle.query_run.specs.Parts.{NameOf, AllResolved, PartStands}
+use Rattle.metric_scan.specs.Parts.{NameOf, AllResolved, PartStands}
 use Rattle.query_run.specs.AskedQueries.{is_wanted}
-use Rattle.query_run.specs.RowNames.{IdOf, Names, AllNamed, AreReads}
+use Rattle.metric_scan.specs.RowNames.{IdOf, Names, AllNamed, AreReads}
 use Rattle.query_run.specs.RowDots.{IsIn, dot_at}
-use Rattle.query_run.specs.Walks.{Picks, Counted, KeyOf, picked_by}
+use Rattle.metric_scan.specs.Walks.{Picks, Counted, KeyOf, picked_by}
 use Rattle.query_run.specs.Collection.{AreIn, Gathered}
-use Rattle.query_run.specs.SeriesTags.{Titles, OneToOne}
+use Rattle.metric_scan.specs.RowTags.{OneToOne}
+use Rattle.query_run.specs.SeriesTags.{Titles}
 use Rattle.query_run.proofs.Lower as lower
 use Rattle.query_run.proofs.Contents.{dot_stands, row_conflict_free}
-use Rattle.query_run.proofs.WalkSteps.{reads_other, reads_show_none}
+use Rattle.metric_scan.proofs.WalkSteps.{reads_other, reads_show_none}
 use Rattle.query_run.proofs.RowReadings.{Asks, PicksBy, asks, is_asked, by_series, hours_within, ReadsDot, reads_dot, read_tags, dot_reads, conflict_free_row, same_tags}
 use Rattle.query_run.proofs.Shown.{reading_at, readings_in, reading_of, of_reading}
 

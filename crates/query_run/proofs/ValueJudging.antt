@@ -16,9 +16,9 @@ use Rattle.query_text.specs.declared.queries.Filter.{Filter}
 use Rattle.query_text.specs.FilterTexts.{is_of_text}
 use Rattle.group_by.specs.TagFilters.{passes_test}
 use Rattle.tag_match.specs.Patterns.{finds}
-use Rattle.query_run.specs.declared.id_filter.IdFilter.{IdFilter}
+use Rattle.metric_scan.specs.declared.id_filter.IdFilter.{IdFilter}
 use Rattle.query_run.specs.declared.value_judges.ValueJudge.{ValueJudge}
-use Rattle.query_run.specs.RowNames.{Names}
+use Rattle.metric_scan.specs.RowNames.{Names}
 use Rattle.query_run.specs.ValueJudges.{passes_named, pair_passes, suits_one, suits, AreAmong, IsJudgedBy, HasJudged, HaveJudged, AreFresh, filters_of}
 
 same_Some : {X : Type 0} (x y : X) → ◌≡◌ {A = Option X} (Some x) (Some y) → x ≡ y

@@ -8,9 +8,9 @@ use Rattle.cell_model.specs.Seen.{Seen, InEach}
 use Rattle.cell_model.specs.Deeds.{Made, deeds, before_first}
 use Rattle.json_reply.specs.Replies.{Group, plain}
 use Rattle.json_reply.specs.declared.reply.Reply.{Reply}
-use Rattle.query_run.specs.declared.fault.AskFault.{AskFault}
-use Rattle.query_run.specs.declared.fault.AskFault.TheVariants.{TooManyBuckets, BadFilter, Unknown, Duplicate, Overflow, OutOfMemory, Stopped}
-use Rattle.query_run.specs.Parts.{NameOf, Part, all_own, AreQuerySteps, AllResolved, PartStands, FirstUnknown, FirstConflict}
+use Rattle.metric_scan.specs.declared.fault.AskFault.{AskFault}
+use Rattle.metric_scan.specs.declared.fault.AskFault.TheVariants.{TooManyBuckets, BadFilter, Unknown, Duplicate, Overflow, OutOfMemory, Stopped}
+use Rattle.metric_scan.specs.Parts.{NameOf, Part, all_own, AreQuerySteps, AllResolved, PartStands, FirstUnknown, FirstConflict}
 
 -- of a sub query: which readings are wanted; the names that it has, in order; why it is refused by itself, if it is; the groups
 -- over readings, or the time of an overflow; and which entries are few enough for it

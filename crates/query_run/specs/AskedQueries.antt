@@ -1,15 +1,11 @@
 -- What a query wants of the readings, and which sub queries are barred.
-use Rattle.std.specs.Prelude.{ℕ, Bool, true, ◌&&◌, nat_le, List, [], ◌∷◌, length, map, Option, None, Some, Result, Ok, Err}
-use Rattle.std.specs.List.{flat_map}
+use Rattle.std.specs.Prelude.{ℕ, Bool, true, ◌&&◌, nat_le, List, map, Option, None, Some, Result, Ok, Err}
 use Rattle.std.specs.Option.{option_map, option_or}
-use Rattle.tsd_base.specs.declared.kinds.Kind.TheVariants.{Metric, TagKey, TagValue}
 use Rattle.tsd_base.specs.Points.{DataPoint}
 use Rattle.tsd_base.specs.Tags.{is_same}
 use Rattle.query_text.specs.declared.queries.Query.{Query}
 use Rattle.query_text.specs.declared.queries.Sub.{Sub}
 use Rattle.query_text.specs.declared.queries.Filter.{Filter}
-use Rattle.query_text.specs.declared.queries.Test.{Test}
-use Rattle.query_text.specs.declared.queries.Test.TheVariants.{Any, OneOf, NotOneOf, Wild, Pattern}
 use Rattle.cell_model.specs.declared.events.Placed.{Placed}
 use Rattle.cell_model.specs.History.{History}
 use Rattle.cell_model.specs.Layout.{base_time}
@@ -19,10 +15,11 @@ use Rattle.tag_match.specs.Patterns.{passes}
 use Rattle.tag_match.specs.Building.{first_bad}
 use Rattle.json_reply.specs.Replies.{Group, plain}
 use Rattle.json_reply.specs.declared.reply.Reply.{Reply}
-use Rattle.query_run.specs.declared.fault.AskFault.{AskFault}
-use Rattle.query_run.specs.declared.fault.AskFault.TheVariants.{TooManyBuckets, BadFilter}
+use Rattle.metric_scan.specs.declared.fault.AskFault.{AskFault}
+use Rattle.metric_scan.specs.declared.fault.AskFault.TheVariants.{TooManyBuckets, BadFilter}
 use Rattle.series_groups.specs.QueryAnswers.{answer, too_many_down}
-use Rattle.query_run.specs.Parts.{NameOf, IsShort}
+use Rattle.metric_scan.specs.Parts.{IsShort}
+pub use Rattle.metric_scan.specs.SubNames.{names_in}
 use Rattle.query_run.specs.Asked.{AskSays, SubsAsked}
 
 -- of the metric, in the range of times, both ends included, and of tags that pass each filter
@@ -31,20 +28,6 @@ is_wanted start end metric filters r = is_same r.metric metric && (nat_le start 
 
 abbrev pub wanted : Query → Sub → Reading → Bool
 wanted q s r = is_wanted q.start q.end s.metric s.filters r
-
--- the names of a test, of a filter and of a sub query, each as often as it stands in the text
-abbrev pub test_names : Test → List (List ℕ)
-test_names Any = []
-test_names (OneOf names) = names
-test_names (NotOneOf names) = names
-test_names (Wild text) = []
-test_names (Pattern text) = []
-
-abbrev pub filter_names : Filter → List NameOf
-filter_names f = (TagKey, f.key) ∷ map (λ name. (TagValue, name)) (test_names f.test)
-
-abbrev pub names_in : Sub → List NameOf
-names_in s = (Metric, s.metric) ∷ flat_map filter_names s.filters
 
 -- too many buckets, or the first filter with a pattern that isn't read
 abbrev pub bar_of : Option ℕ → Option ℕ → Option AskFault

@@ -11,19 +11,23 @@ use Rattle.cell_model.specs.History.{History}
 use Rattle.cell_model.specs.IdRows.{name_of}
 use Rattle.cell_model.specs.Seen.{Seen, InEach}
 use Rattle.cell_model.specs.Deeds.{Made}
+use Rattle.qual_codec.specs.CellDots.{Reads}
+use Rattle.cell_model.specs.Layout.{base_time}
 use Rattle.qual_codec.specs.Merge.{AreDots, values_at, first_conflict}
 use Rattle.tsd_base.specs.declared.kinds.Down.{Down}
 use Rattle.span_merge.specs.Spans.{Span, dots_of, added, KeepsSpans, KeptSpan}
-use Rattle.query_run.specs.declared.fault.AskFault.{AskFault}
-use Rattle.query_run.specs.declared.fault.AskFault.TheVariants.{Duplicate, OutOfMemory, Stopped}
+use Rattle.metric_scan.specs.declared.fault.AskFault.{AskFault}
+use Rattle.metric_scan.specs.declared.fault.AskFault.TheVariants.{Duplicate, OutOfMemory, Stopped}
 use Rattle.query_run.specs.declared.collection.Collected.{Collected}
 use Rattle.query_text.specs.declared.queries.Filter.{Filter}
-use Rattle.query_run.specs.declared.id_filter.IdFilter.{IdFilter}
-use Rattle.query_run.specs.IdFilters.{passes}
-use Rattle.query_run.specs.ValueJudges.{suits}
-use Rattle.query_run.specs.RowNames.{IdOf, Names, AreReads, known}
+use Rattle.metric_scan.specs.declared.id_filter.IdFilter.{IdFilter}
+use Rattle.metric_scan.specs.IdFilters.{passes}
+use Rattle.metric_scan.specs.declared.metric_rows.MetricRows.{MetricRows}
+use Rattle.query_run.specs.declared.value_judges.ValueJudge.{ValueJudge}
+use Rattle.query_run.specs.ValueJudges.{HaveJudged, HaveValues, filters_of, suits}
+use Rattle.metric_scan.specs.RowNames.{IdOf, Names, AreReads, known}
 use Rattle.query_run.specs.RowDots.{HasDots, Conflicts, IsIn, dot_at}
-use Rattle.query_run.specs.Walks.{Picks, KeyOf, Counted, ShowsBelow, RowRange, WalkedAll}
+use Rattle.metric_scan.specs.Walks.{Picks, KeyOf, Counted, ShowsBelow, RowRange, WalkedAll, names_of}
 
 -- ---- one row
 
@@ -65,6 +69,25 @@ abbrev pub TakesIf : Bool → Option Down → RowKey → List Cell → ℕ → �
 TakesIf true how key cells start end spans result old kept = TakesRow how key cells start end spans result kept
 TakesIf false how key cells start end spans (Ok x) old kept = kept ≡ old
 TakesIf false how key cells start end spans (Err fault) old kept = ⊥
+
+-- the values of a picked row may be judged, and its points added
+pub record CanTake (rows : MetricRows) (judges : List ValueJudge) (how : Option Down) (kept : List KeptSpan) (key : RowKey) (cells : List Cell) (start end : ℕ) : Type 0 where
+  pub as_many : length judges ≡ length rows.filters.items
+  pub named : HaveValues (names_of rows) key.pairs.items
+  pub reads : All (λ c. Reads c.qual c.value) cells
+  pub from_on : base_time start ≤ key.base
+  pub up_to : key.base ≤ base_time end
+  pub behind : MayTake how kept key
+
+-- the values of a picked row were judged, and its points added where it is asked for
+pub record PickedTaken (rows : MetricRows) (before : List ValueJudge) (how : Option Down) (key : RowKey) (cells : List Cell) (start end : ℕ) (result : Result (Unit {0}) AskFault) (after : List ValueJudge) (old kept : List KeptSpan) : Type 0 where
+  pub asked : Bool
+  pub judged : HaveJudged (names_of rows) before after asked (λ all. suits all (filters_of before) rows.filters.items key.pairs.items)
+  pub takes : (spans : List Span) → KeepsSpans how old spans → StandsBehind spans key → TakesIf asked how key cells start end spans result old kept
+
+abbrev pub TakesPicked : MetricRows → List ValueJudge → Option Down → RowKey → List Cell → ℕ → ℕ → Result (Unit {0}) AskFault → List ValueJudge → List KeptSpan → List KeptSpan → Type 0
+TakesPicked rows before how key cells start end (Err OutOfMemory) after old kept = Unit {0}
+TakesPicked rows before how key cells start end result after old kept = PickedTaken rows before how key cells start end result after old kept
 
 -- the row has two values at this time of the range, and none earlier
 pub record RowConflicts (picks : Picks) (widths : Widths) (id start end : ℕ) (f : Found) (time : ℕ) (a b : ℤ) : Type 0 where
@@ -167,3 +190,8 @@ pub record KeepsCollected (r : RowRange) (list : List IdFilter) (filters : List 
 abbrev pub CollectSays : RowRange → List IdFilter → List Filter → Option Down → Result Collected AskFault → Seen → Type 0
 CollectSays r list filters how (Ok c) new = KeepsCollected r list filters how c new
 CollectSays r list filters how (Err fault) new = WasCut r list filters fault new
+
+-- so it is of what the rows left, and of what was kept
+abbrev pub LeftSays : RowRange → List IdFilter → List Filter → Option Down → Result (Unit {0}) AskFault → MetricRows → List KeptSpan → Seen → Type 0
+LeftSays r list filters how (Ok x) rows kept new = KeepsCollected r list filters how (record { spans = kept; names = rows.names }) new
+LeftSays r list filters how (Err fault) rows kept new = WasCut r list filters fault new

@@ -11,9 +11,9 @@ use Rattle.json_reply.specs.Replies.{Group, plain}
 use Rattle.json_reply.specs.declared.reply.Reply.{Reply}
 use Rattle.query_text.specs.declared.queries.Query.{Query}
 use Rattle.query_text.specs.declared.queries.Sub.{Sub}
-use Rattle.query_run.specs.declared.fault.AskFault.{AskFault}
-use Rattle.query_run.specs.declared.fault.AskFault.TheVariants.{Duplicate, OutOfMemory, Stopped}
-use Rattle.query_run.specs.Parts.{NameOf, IsResolved}
+use Rattle.metric_scan.specs.declared.fault.AskFault.{AskFault}
+use Rattle.metric_scan.specs.declared.fault.AskFault.TheVariants.{Duplicate, OutOfMemory, Stopped}
+use Rattle.metric_scan.specs.Parts.{NameOf, IsResolved}
 use Rattle.query_run.specs.AskedQueries.{wanted, names_in, QuerySays}
 
 -- The query was asked at the end of the history `began`, and answered so. Until the answer, which stands in a history of this store, nobody

@@ -4,8 +4,8 @@ use Rattle.qual_codec.specs.declared.cells.Cell.{Cell}
 use Rattle.qual_codec.specs.declared.cells.Dot.{Dot}
 use Rattle.qual_codec.specs.Merge.{AreDots, values_at, first_conflict}
 pub use Rattle.row_scan.specs.RowTimes.{dot_at}
-use Rattle.query_run.specs.declared.fault.AskFault.{AskFault}
-use Rattle.query_run.specs.declared.fault.AskFault.TheVariants.{Duplicate, OutOfMemory}
+use Rattle.metric_scan.specs.declared.fault.AskFault.{AskFault}
+use Rattle.metric_scan.specs.declared.fault.AskFault.TheVariants.{Duplicate, OutOfMemory}
 
 abbrev pub IsIn : ℕ → ℕ → ℕ → Type 0
 IsIn start end time = (start ≤ time) × (time ≤ end)

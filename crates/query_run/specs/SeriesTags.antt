@@ -1,9 +1,8 @@
 -- Series under the names of their tags, in place of the ids.
-use Rattle.std.specs.Prelude.{◌≡◌, ℕ, ℤ, ◌<◌, ◌≤◌, List, length, All, AllPairs, Contains, Option, Some}
+use Rattle.std.specs.Prelude.{◌≡◌, ℕ, ℤ, List, All, AllPairs, Contains, Option}
 use Rattle.std.specs.declared.cmp.Ordering.TheVariants.{Less}
 use Rattle.tsd_base.specs.TagList.{tags_cmp}
 use Rattle.cell_model.specs.Readings.{Named}
-use Rattle.tsd_base.specs.declared.kinds.Kind.{Kind}
 use Rattle.tsd_base.specs.declared.kinds.Down.{Down}
 use Rattle.span_merge.specs.KeptPoints.{Keeps}
 use Rattle.span_merge.specs.Spans.{Span}
@@ -11,18 +10,8 @@ use Rattle.span_merge.specs.declared.series.Series as by_ids
 use Rattle.series_groups.specs.declared.named_series.Series as kept
 use Rattle.series_groups.specs.KeptSeries.{PointsOf, all_with_points}
 use Rattle.series_groups.specs.NamedSeries.{Series}
-use Rattle.query_run.specs.RowNames.{IdOf, Names, HasName, ids_of}
-
--- no two ids of a kind have one name
-abbrev pub OneToOne : Names → Type 0
-OneToOne names = (kind : Kind) (i j : ℕ) (name : List ℕ) → names kind i ≡ Some name → names kind j ≡ Some name → i ≡ j
-
--- pairs of a key: 1 to 8, rising by their first ids, each of which has a name
-pub record ArePairs (names : Names) (pairs : List (ℕ × ℕ)) : Type 0 where
-  pub some : 1 ≤ length pairs
-  pub most : length pairs ≤ 8
-  pub rising : AllPairs (λ p q. p.0 < q.0) pairs
-  pub named : (i : IdOf) → Contains (ids_of pairs) i → HasName names i
+use Rattle.metric_scan.specs.RowNames.{Names}
+use Rattle.metric_scan.specs.RowTags.{ArePairs, OneToOne}
 
 -- the series has the names of these ids, and the same points
 pub record IsTitled (names : Names) (pairs : List (ℕ × ℕ)) (dots : List (ℕ × ℤ)) (series : Series) : Type 0 where

@@ -13,14 +13,14 @@ use Rattle.span_merge.specs.Spans.{Span, KeepsSpans}
 use Rattle.query_run.specs.declared.collection.Collected.{Collected}
 use Rattle.query_run.specs.RowDots.{IsIn}
 use Rattle.series_groups.specs.NamedSeries.{Series}
-use Rattle.query_run.specs.declared.fault.AskFault.{AskFault}
-use Rattle.query_run.specs.declared.fault.AskFault.TheVariants.{TooManyBuckets, BadFilter, Overflow, OutOfMemory}
+use Rattle.metric_scan.specs.declared.fault.AskFault.{AskFault}
+use Rattle.metric_scan.specs.declared.fault.AskFault.TheVariants.{TooManyBuckets, BadFilter, Overflow, OutOfMemory}
 use Rattle.series_groups.specs.QueryAnswers.{answer, down_by, too_many_down}
-use Rattle.query_run.specs.Parts.{Part, AreQuerySteps, PartStands}
+use Rattle.metric_scan.specs.Parts.{Part, AreQuerySteps, PartStands}
 use Rattle.query_run.specs.Asked.{Cause}
 use Rattle.query_run.specs.AskedQueries.{wanted, names_in, barred, answer_over, IsFew}
 use Rattle.series_groups.specs.NamedSeries.{points_in}
-use Rattle.query_run.specs.RowNames.{Names, known}
+use Rattle.metric_scan.specs.RowNames.{Names, known}
 use Rattle.query_run.specs.SeriesTags.{Titles, CanTitle}
 
 -- the filters are built, or what bars the sub query is told

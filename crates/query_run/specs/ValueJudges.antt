@@ -11,9 +11,9 @@ use Rattle.query_text.specs.declared.queries.Filter.{Filter}
 use Rattle.query_text.specs.FilterTexts.{is_of_text}
 use Rattle.group_by.specs.TagFilters.{passes_test}
 use Rattle.tag_match.specs.Patterns.{finds}
-use Rattle.query_run.specs.declared.id_filter.IdFilter.{IdFilter}
+use Rattle.metric_scan.specs.declared.id_filter.IdFilter.{IdFilter}
 use Rattle.query_run.specs.declared.value_judges.ValueJudge.{ValueJudge}
-use Rattle.query_run.specs.RowNames.{Names, HasName}
+use Rattle.metric_scan.specs.RowNames.{Names, HasName}
 
 -- a value passes by its name, where it has one
 abbrev pub passes_named : Test → Option (List ℕ) → Bool

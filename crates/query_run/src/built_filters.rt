@@ -5,8 +5,8 @@ ghost use Rattle.query_text.specs.Subs.{CanDown};
 ghost use Rattle.series_groups.specs.QueryAnswers.{too_many_down};
 ghost use Rattle.query_run.specs.SubQuery.{BuiltSays};
 
-use crate::fault::AskFault;
 use downsample::buckets;
+use metric_scan::fault::AskFault;
 use query_text::queries::{Query, Sub};
 use std::alloc::Global;
 use tag_match::{BuildFault, Built};

@@ -7,19 +7,19 @@ ghost use Rattle.cell_model.specs.Layout.{base_time};
 ghost use Rattle.tsd_base.specs.Dots.{IsAboveAll};
 ghost use Rattle.span_merge.specs.Spans.{KeepsSpans, Span, TakesLater, dots_of};
 ghost use Rattle.query_text.specs.declared.queries.Filter.{Filter};
-ghost use Rattle.query_run.specs.AskFaults.{is_stop};
+ghost use Rattle.metric_scan.specs.AskFaults.{is_stop};
 ghost use Rattle.query_run.specs.ValueJudges.{AreFresh, filters_of};
-ghost use Rattle.query_run.specs.Walks.{HasWalked, row_range};
-ghost use Rattle.query_run.specs.Collection.{AddsKept, CollectSays, MayTake, StandsBehind, TakesIf, TakesRow};
+ghost use Rattle.metric_scan.specs.Walks.{HasWalked, row_range};
+ghost use Rattle.query_run.specs.Collection.{AddsKept, CanTake, CollectSays, LeftSays, MayTake, StandsBehind, TakesPicked, TakesRow};
 
-use crate::fault::AskFault;
-use crate::metric_rows::MetricRows;
 use crate::row_dots::row_dots;
-use crate::row_names::IdNames;
-use crate::row_turn::RowTurn;
 use crate::value_judges::{ValueJudge, suits};
-use cell_model::row::Found;
+use cell_model::row::{Cells, Found};
 use cell_model::rows::Rows;
+use metric_scan::fault::AskFault;
+use metric_scan::metric_rows::MetricRows;
+use metric_scan::row_names::IdNames;
+use metric_scan::row_turn::RowTurn;
 use row_key::RowKey;
 use span_merge::spans::Spans;
 use std::alloc::{AllocError, Global};
@@ -57,25 +57,26 @@ fn take_row(
     how: Option<Down>,
     start: u64,
     end: u64,
-    key: RowKey,
-    found: Found,
+    key: &RowKey,
+    cells: &Cells,
     spans: &mut Spans,
 ) -> Result<(), AskFault>
-    requires reads { All (λ c. Reads c.qual c.value) found.cells }
-    requires from_on { base_time start ≤ key.base }
-    requires up_to { key.base ≤ base_time end }
-    requires behind { MayTake how spans.old key }
-    ensures { (series : List Span) → KeepsSpans how spans.old series → StandsBehind series key → TakesRow how key found.cells start end series result spans.new }
+    requires reads { All (λ c. Reads c.qual c.value) cells.now }
+    requires from_on { base_time start ≤ key.now.base }
+    requires up_to { key.now.base ≤ base_time end }
+    requires behind { MayTake how spans.old key.now }
+    ensures { (series : List Span) → KeepsSpans how spans.old series → StandsBehind series key.now → TakesRow how key.now cells.now start end series result spans.new }
 {
-    let dots = row_dots(alloc, &found.cells, key.base, start, end)?;
+    let dots = row_dots(alloc, cells, key.base, start, end)?;
     add_dots(alloc, spans, how, key.pairs.as_slice(), dots)?;
     Ok(())
 }
 
-/// Adds the points of a picked row, where it is asked for.
-fn take_if(
+/// Adds the points of a picked row, where its values pass the tests of text.
+fn take_picked(
     alloc: Global,
-    asked: bool,
+    rows: &MetricRows,
+    judges: &mut Vec<ValueJudge<'_>>,
     how: Option<Down>,
     start: u64,
     end: u64,
@@ -83,16 +84,44 @@ fn take_if(
     found: Found,
     spans: &mut Spans,
 ) -> Result<(), AskFault>
-    requires reads { All (λ c. Reads c.qual c.value) found.cells }
-    requires from_on { base_time start ≤ key.base }
-    requires up_to { key.base ≤ base_time end }
-    requires behind { MayTake how spans.old key }
-    ensures { (series : List Span) → KeepsSpans how spans.old series → StandsBehind series key → TakesIf asked how key found.cells start end series result spans.old spans.new }
+    requires { CanTake rows.now judges.old.items how spans.old key found.cells start end }
+    ensures { TakesPicked rows.now judges.old.items how key found.cells start end result judges.new.items spans.old spans.new }
 {
-    if !asked {
+    if !suits(judges, rows.names(), rows.filters(), key.pairs.as_slice())? {
         return Ok(());
     }
-    take_row(alloc, how, start, end, key, found, spans)
+    take_row(alloc, how, start, end, &key, &found.cells, spans)
+}
+
+/// Collects what is left of the picked rows whose values pass the tests of text.
+fn collect_left<R: Rows + Drop>(
+    alloc: Global,
+    names: &mut Uids<R>,
+    rows: &mut MetricRows,
+    judges: &mut Vec<ValueJudge<'_>>,
+    how: Option<Down>,
+    start: u64,
+    end: u64,
+    spans: &mut Spans,
+) -> Result<(), AskFault>
+    requires as_many { length judges.old.items ≡ length rows.old.filters.items }
+    requires fresh { (filters : List Filter) × AreFresh filters judges.old.items }
+    requires begun { (id : ℕ) × HasWalked (row_range id start end (R.seen names.old.rows)) [] [] rows.old (R.seen names.old.rows) }
+    requires possible { IsPossible (R.seen names.old.rows) }
+    requires none { spans.old ≡ [] }
+    ensures says { (id : ℕ) → HasWalked (row_range id start end (R.seen names.old.rows)) [] [] rows.old (R.seen names.old.rows) → LeftSays (row_range id start end (R.seen names.old.rows)) rows.old.filters.items (filters_of judges.old.items) how result rows.new spans.new (R.seen names.new.rows) }
+    ensures leaves { Leaves is_stop result (R.seen names.new.rows) (R.stops names.old.rows) (R.stops names.new.rows) }
+{
+    for _ in 0..u64::MAX {
+        match rows.turn(alloc, names)? {
+            RowTurn::End => return Ok(()),
+            RowTurn::Passed => {}
+            RowTurn::Picked { key, found } => {
+                take_picked(alloc, rows, judges, how, start, end, key, found, spans)?;
+            }
+        }
+    }
+    Err(AskFault::OutOfMemory)
 }
 
 /// Collects the picked rows whose values pass the tests of text, with the points from `start` to `end`. `how` is how the series are downsampled
@@ -114,25 +143,18 @@ pub(crate) fn collect<R: Rows + Drop>(
     ensures leaves { Leaves is_stop result (R.seen names.new.rows) (R.stops names.old.rows) (R.stops names.new.rows) }
 {
     let mut spans = Spans::make(alloc);
-    for _ in 0..u64::MAX {
-        match rows.turn(alloc, names)? {
-            RowTurn::End => {
-                return Ok(Collected {
-                    spans,
-                    names: rows.into_names(),
-                });
-            }
-            RowTurn::Passed => {}
-            RowTurn::Picked { key, found } => {
-                let asked = suits(
-                    &mut judges,
-                    rows.names(),
-                    rows.filters(),
-                    key.pairs.as_slice(),
-                )?;
-                take_if(alloc, asked, how, start, end, key, found, &mut spans)?;
-            }
-        }
-    }
-    Err(AskFault::OutOfMemory)
+    collect_left(
+        alloc,
+        names,
+        &mut rows,
+        &mut judges,
+        how,
+        start,
+        end,
+        &mut spans,
+    )?;
+    Ok(Collected {
+        spans,
+        names: rows.into_names(),
+    })
 }

@@ -4,13 +4,13 @@ ghost use Rattle.tsd_base.specs.declared.times.TheConstants.{LAST_TIME};
 ghost use Rattle.query_text.specs.Subs.{CanDown};
 ghost use Rattle.json_reply.specs.Replies.{IsReady};
 ghost use Rattle.cell_model.specs.Stops.{CountsStops};
-ghost use Rattle.query_run.specs.AskFaults.{is_stop};
+ghost use Rattle.metric_scan.specs.AskFaults.{is_stop};
 ghost use Rattle.query_run.specs.AskedQueries.{QuerySays};
 
-use crate::fault::AskFault;
 use crate::sub_query::work;
 use cell_model::Rows;
 use json_reply::reply::{Group, Reply};
+use metric_scan::fault::AskFault;
 use query_text::queries::Query;
 use std::alloc::{AllocError, Global};
 use uid_table::Uids;

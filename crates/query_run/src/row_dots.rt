@@ -3,8 +3,8 @@ ghost use Rattle.std.specs.Prelude.{◌+◌, ◌*◌, ◌<◌, ◌≤◌, All};
 ghost use Rattle.qual_codec.specs.CellDots.{Reads};
 ghost use Rattle.query_run.specs.RowDots.{DotsAsked};
 
-use crate::fault::AskFault;
 use cell_model::row::Cells;
+use metric_scan::fault::AskFault;
 use qual_codec::MergeFault;
 use row_hours::{HOUR_MILLIS, LAST_OFFSET};
 use row_scan::timed_points;

@@ -1,11 +1,11 @@
 //! Judging the values of rows' tags by their names, for the filters that are of text.
 ghost use Rattle.std.specs.Prelude.{◌≡◌, length, IfOk};
 ghost use Rattle.tsd_base.specs.declared.kinds.Kind.TheVariants.{TagValue};
-ghost use Rattle.query_run.specs.RowNames.{HasName, known};
+ghost use Rattle.metric_scan.specs.RowNames.{HasName, known};
 ghost use Rattle.query_run.specs.ValueJudges.{AreFresh, HasJudged, HaveJudged, HaveValues, filters_of, pair_passes, passes_named, suits, suits_one};
 
-use crate::id_filter::IdFilter;
-use crate::row_names::IdNames;
+use metric_scan::id_filter::IdFilter;
+use metric_scan::row_names::IdNames;
 use std::alloc::{AllocError, Global};
 use std::collections::BTreeMap;
 use tag_match::Judge;

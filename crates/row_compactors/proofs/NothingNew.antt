@@ -12,7 +12,7 @@ use Rattle.cell_model.specs.declared.events.Placed.{Placed}
 use Rattle.cell_model.specs.Seen.{Seen}
 use Rattle.cell_model.specs.Deeds.{placed, Made, MadeSo}
 use Rattle.cell_laws.proofs.CallerLemmas.{deed_of}
-use Rattle.cell_store.specs.CallerViews.{SawOpeningsAlone}
+use Rattle.region_locks.specs.CallerViews.{SawOpeningsAlone}
 use Rattle.compactor.specs.declared.compaction.Compacted.{Compacted}
 use Rattle.compactor.specs.declared.compaction.Compacted.TheVariants.{Nothing, Merged}
 use Rattle.compactor.specs.declared.compaction.CompactFault.{CompactFault}

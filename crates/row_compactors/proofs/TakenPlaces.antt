@@ -7,7 +7,7 @@ use Rattle.cell_model.specs.Seen.{Seen, IsOwn}
 use Rattle.cell_model.specs.Deeds.{Extends}
 use Rattle.step_count.specs.CounterRule.{AreDifferent}
 use Rattle.step_count.proofs.CallerLemmas.{none_different, one_different, different_among}
-use Rattle.cell_store.specs.CallerViews.{MadeNoMore, numbers_of}
+use Rattle.region_locks.specs.CallerViews.{MadeNoMore, numbers_of}
 use Rattle.row_compactors.specs.Upkeep.{BroughtNothing, TakesPlaces}
 
 -- a number of a caller is its own

@@ -7,7 +7,7 @@ use Rattle.cell_model.specs.History.{entry_at}
 use Rattle.cell_model.specs.Seen.{Seen, InEach}
 use Rattle.cell_model.specs.Deeds.{Extends}
 use Rattle.step_count.specs.CounterRule.{AreDifferent}
-use Rattle.cell_store.specs.CallerViews.{MadeNoMore, numbers_of}
+use Rattle.region_locks.specs.CallerViews.{MadeNoMore, numbers_of}
 
 -- the step counts an id, claims a cell or writes a point; an opening, a read, a next row, a merge and a drop don't
 abbrev pub brings_new : Step → Bool

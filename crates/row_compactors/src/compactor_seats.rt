@@ -1,15 +1,16 @@
 //! Compaction workers that have compacted no row yet, and how they are taken back.
 ghost use Rattle.std.specs.Prelude.{◌≡◌, ◌≤◌, ◌+◌, IfOk, length, vec_len};
 ghost use Rattle.step_count.specs.CounterRule.{AreDifferent};
-ghost use Rattle.cell_store.specs.CallerViews.{numbers_of};
+ghost use Rattle.region_locks.specs.CallerViews.{numbers_of};
 ghost use Rattle.row_compactors.specs.Upkeep.{TakesPlaces};
 
 use crate::row_compactor::RowCompactor;
 use crate::upkeep::Upkeep;
 use cell_model::rows::Rows;
-use cell_store::{Gate, Openings, Site, SitePass, StepNames};
+use cell_store::{Openings, Site, SitePass};
 use compactor::queue::Queue;
 use crossbeam_channel::{Receiver, Sender, unbounded};
+use region_locks::{Gate, StepNames};
 use std::alloc::{AllocError, Global};
 use std::marker::Model;
 use std::sync::Wait;

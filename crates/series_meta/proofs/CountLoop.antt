@@ -16,12 +16,12 @@ use Rattle.cell_model.specs.declared.answers.RowsFault.{RowsFault}
 use Rattle.cell_model.specs.declared.answers.RowsFault.TheVariants as broken
 use Rattle.cell_model.specs.Seen.{Seen}
 use Rattle.span_merge.specs.Spans.{pairs_cmp}
-use Rattle.query_run.specs.declared.fault.AskFault.TheVariants as ask
-use Rattle.query_run.specs.declared.metric_rows.MetricRows.{MetricRows}
-use Rattle.query_run.specs.declared.row_turn.RowTurn.TheVariants as turn
-use Rattle.query_run.specs.AskFaults.{ask_fault}
-use Rattle.query_run.specs.Walks.{Picks, KeyOf, RowRange, HasWalked, IsUnderWay, picks_of, names_of}
-use Rattle.query_run.specs.RowTurns.{TurnedTo, TurnSays}
+use Rattle.metric_scan.specs.declared.fault.AskFault.TheVariants as ask
+use Rattle.metric_scan.specs.declared.metric_rows.MetricRows.{MetricRows}
+use Rattle.metric_scan.specs.declared.row_turn.RowTurn.TheVariants as turn
+use Rattle.metric_scan.specs.AskFaults.{ask_fault}
+use Rattle.metric_scan.specs.Walks.{Picks, KeyOf, RowRange, HasWalked, IsUnderWay, picks_of, names_of}
+use Rattle.metric_scan.specs.RowTurns.{TurnedTo, TurnSays}
 use Rattle.query_run.proofs.WalkLemmas.{Going, going_from, under_way, turn_is, picks_still, given_up, hours_rise, hour_before, are_offsets}
 use Rattle.series_meta.specs.RowCounts.{CountsOffsets}
 use Rattle.series_meta.specs.SeriesCounts.{CountsMore, CountsRow}

@@ -31,15 +31,15 @@ use Rattle.row_scan.specs.Scans.{HasCell, IsStart}
 use Rattle.row_scan.specs.Laws.{ScanGives, ScanIsWhole}
 use Rattle.span_merge.specs.Spans.{pairs_cmp}
 use Rattle.query_text.specs.FilterTexts.{is_of_text}
-use Rattle.query_run.specs.declared.fault.AskFault.{AskFault}
-use Rattle.query_run.specs.declared.fault.AskFault.TheVariants as ask
-use Rattle.query_run.specs.declared.metric_rows.MetricRows.{MetricRows}
+use Rattle.metric_scan.specs.declared.fault.AskFault.{AskFault}
+use Rattle.metric_scan.specs.declared.fault.AskFault.TheVariants as ask
+use Rattle.metric_scan.specs.declared.metric_rows.MetricRows.{MetricRows}
 use Rattle.query_run.specs.AskedQueries.{names_in}
-use Rattle.query_run.specs.Parts.{AreQuerySteps}
-use Rattle.query_run.specs.ResolvedIds.{AreResolved, IsUnresolved, UnresolvedBy}
-use Rattle.query_run.specs.RowNames.{IdOf, Names, ids_of}
-use Rattle.query_run.specs.SeriesTags.{ArePairs, OneToOne}
-use Rattle.query_run.specs.Walks.{Counted, AreRowsOf, picked_by, picks_of, row_range}
+use Rattle.metric_scan.specs.Parts.{AreQuerySteps}
+use Rattle.metric_scan.specs.ResolvedIds.{AreResolved, IsUnresolved, UnresolvedBy}
+use Rattle.metric_scan.specs.RowNames.{IdOf, Names, ids_of}
+use Rattle.metric_scan.specs.RowTags.{ArePairs, OneToOne}
+use Rattle.metric_scan.specs.Walks.{Counted, AreRowsOf, picked_by, picks_of, row_range}
 use Rattle.query_run.proofs.WalkLemmas.{Begun, first_unknown, made_all, steps_all, metric_known, metric_named, widths_in, widths_here, counted_here, all_resolved, stood, plain_row, reads_steps, few_rows, few_looks, named_by, named_in, one_to_one, PicksBy, zip_left, zip_right}
 use Rattle.series_meta.specs.SeriesTimes.{AreTimes, IsBreak, IsCount, RowsCounted, CountSays}
 use Rattle.series_meta.specs.SeriesLines.{AreFirst, CanTell, IsLine, IsSeries}

@@ -27,7 +27,7 @@ use Rattle.row_scan.specs.Laws.{ScanGives}
 use Rattle.row_scan.specs.RowReadings.{RowReads}
 use Rattle.row_scan.proofs.CallerLemmas.{ShownCell, cell_at, metric_id, pair_ids, row_stays, row_stood, shown_accepted}
 use Rattle.query_text.specs.declared.queries.Sub.{Sub}
-use Rattle.query_run.specs.Walks.{Picks, picked_by}
+use Rattle.metric_scan.specs.Walks.{Picks, picked_by}
 use Rattle.query_run.proofs.WalkLemmas.{PicksBy}
 use Rattle.series_meta.specs.SeriesTimes.{Times, AreTimes}
 use Rattle.series_meta.specs.Lookups.{HadPoint}

@@ -28,9 +28,9 @@ use Rattle.cell_model.specs.Deeds.{Made, MadeSo, placed}
 use Rattle.cell_laws.proofs.CallerLemmas.{first_lawful, each_entry, each_reads, wait_made, step_made, made_joined, made_stands, nothing_made}
 use Rattle.row_scan.proofs.CallerLemmas.{cell_at}
 use Rattle.uid_table.specs.PlacedPoints.{key_at}
-use Rattle.query_run.specs.declared.fault.AskFault.{AskFault}
-use Rattle.query_run.specs.declared.fault.AskFault.TheVariants as ask
-use Rattle.query_run.specs.AskFaults.{ask_fault, is_stop}
+use Rattle.metric_scan.specs.declared.fault.AskFault.{AskFault}
+use Rattle.metric_scan.specs.declared.fault.AskFault.TheVariants as ask
+use Rattle.metric_scan.specs.AskFaults.{ask_fault, is_stop}
 use Rattle.series_meta.specs.HourWalks.{AreFewReads, PointOf, GivesPoint, ReadsRow, RowSays, HasPassed, WalkedTo, WalkSays}
 use Rattle.series_meta.proofs.NameLooks.{no_reads, one_read, reads_joined}
 use Rattle.series_meta.proofs.LatestDots.{le_or}

@@ -10,8 +10,8 @@ use Rattle.qual_codec.specs.declared.cells.MergeFault.{MergeFault}
 use Rattle.qual_codec.specs.declared.cells.MergeFault.TheVariants as merge
 use Rattle.qual_codec.specs.Merge.{AreDots, Keeps, values_at}
 use Rattle.qual_codec.proofs.CallerLemmas.{dot_good, dot_in, dot_value}
-use Rattle.query_run.specs.declared.fault.AskFault.{AskFault}
-use Rattle.query_run.specs.declared.fault.AskFault.TheVariants as ask
+use Rattle.metric_scan.specs.declared.fault.AskFault.{AskFault}
+use Rattle.metric_scan.specs.declared.fault.AskFault.TheVariants as ask
 use Rattle.series_meta.specs.HourWalks.{IsLatest, GivesLatest, GivesLater, GivesDot, GivesPoint, row_fault, row_point}
 
 pub le_or : (a b : ℕ) → (a ≤ b) ⊎ (b < a)

@@ -18,8 +18,8 @@ use Rattle.tsd_base.specs.TagList.{Pair, tags_cmp}
 use Rattle.tsd_base.specs.TagOrder.{tags_cmp_exact, tags_cmp_total}
 use Rattle.row_key.specs.declared.widths.Widths.{Widths}
 use Rattle.span_merge.specs.Spans.{pairs_cmp}
-use Rattle.query_run.specs.RowNames.{Names}
-use Rattle.query_run.specs.SeriesTags.{OneToOne}
+use Rattle.metric_scan.specs.RowNames.{Names}
+use Rattle.metric_scan.specs.RowTags.{OneToOne}
 use Rattle.query_run.proofs.WalkLemmas.{same_ids, still_differ, zip_push, zip_right}
 use Rattle.series_meta.specs.PairsOrder.{pairs_cmp_total}
 use Rattle.series_meta.specs.SeriesLines.{CanTell, IsLine}

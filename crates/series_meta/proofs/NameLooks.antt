@@ -20,11 +20,11 @@ use Rattle.uid_table.specs.declared.id_answers.ResolveFault.TheVariants as resol
 use Rattle.uid_table.specs.Shown.{HasShown}
 use Rattle.uid_table.specs.ShownKeys.{IdsShown, PairsShown}
 use Rattle.uid_table.specs.IdSteps.{MadeSo, DidRead, LookedOrKept, ResolveMade}
-use Rattle.query_run.specs.declared.fault.AskFault.{AskFault}
-use Rattle.query_run.specs.declared.fault.AskFault.TheVariants.{TooManyBuckets, BadFilter, Unknown, Duplicate, Overflow, OutOfMemory, Stopped}
-use Rattle.query_run.specs.Parts.{NameOf}
-use Rattle.query_run.specs.RowNames.{AreReads}
-use Rattle.query_run.specs.ResolvedIds.{AreShown, AreLooks, AreResolved, IsFirstUnknown, UnresolvedBy, IsUnresolved}
+use Rattle.metric_scan.specs.declared.fault.AskFault.{AskFault}
+use Rattle.metric_scan.specs.declared.fault.AskFault.TheVariants.{TooManyBuckets, BadFilter, Unknown, Duplicate, Overflow, OutOfMemory, Stopped}
+use Rattle.metric_scan.specs.Parts.{NameOf}
+use Rattle.metric_scan.specs.RowNames.{AreReads}
+use Rattle.metric_scan.specs.ResolvedIds.{AreShown, AreLooks, AreResolved, IsFirstUnknown, UnresolvedBy, IsUnresolved}
 use Rattle.series_meta.specs.SeriesRows.{series_names, IsShownKey}
 use Rattle.list_lemmas.proofs.ListMembers.{here, split, not_in}
 use Rattle.cell_laws.proofs.CallerLemmas.{made_joined, nothing_made}

@@ -22,11 +22,11 @@ use Rattle.cell_model.specs.Seen.{Seen, Fits}
 use Rattle.cell_model.specs.Deeds.{Made}
 use Rattle.cell_laws.proofs.CallerLemmas.{first_lawful, first_fits, seen_widths, made_joined, itself}
 use Rattle.uid_table.specs.PlacedPoints.{key_at}
-use Rattle.query_run.specs.declared.fault.AskFault.{AskFault}
-use Rattle.query_run.specs.declared.fault.AskFault.TheVariants as ask
-use Rattle.query_run.specs.Parts.{IsQueryStep, AreQuerySteps, FirstUnknown}
-use Rattle.query_run.specs.RowNames.{AreReads}
-use Rattle.query_run.specs.ResolvedIds.{AreResolved, IsUnresolved, UnresolvedBy}
+use Rattle.metric_scan.specs.declared.fault.AskFault.{AskFault}
+use Rattle.metric_scan.specs.declared.fault.AskFault.TheVariants as ask
+use Rattle.metric_scan.specs.Parts.{IsQueryStep, AreQuerySteps, FirstUnknown}
+use Rattle.metric_scan.specs.RowNames.{AreReads}
+use Rattle.metric_scan.specs.ResolvedIds.{AreResolved, IsUnresolved, UnresolvedBy}
 use Rattle.series_meta.specs.HourWalks.{LatestAt, ReadsRow, HasPassed, WalkedTo, WalkedAll, WalkIs, WalkSays}
 use Rattle.series_meta.specs.SeriesRows.{IsShownKey, series_id}
 use Rattle.series_meta.specs.LatestPoints.{Asking, InReach, HadTime, StoppedLast, IsLast, IsNone, HasTwo, FoundSays, names_asked}

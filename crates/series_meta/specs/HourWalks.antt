@@ -16,9 +16,9 @@ use Rattle.cell_model.specs.Readings.{point_row}
 use Rattle.cell_model.specs.Seen.{Seen}
 use Rattle.cell_model.specs.Deeds.{Made, Did}
 use Rattle.uid_table.specs.PlacedPoints.{key_at}
-use Rattle.query_run.specs.RowNames.{AreReads}
-use Rattle.query_run.specs.declared.fault.AskFault.{AskFault}
-use Rattle.query_run.specs.declared.fault.AskFault.TheVariants as ask
+use Rattle.metric_scan.specs.RowNames.{AreReads}
+use Rattle.metric_scan.specs.declared.fault.AskFault.{AskFault}
+use Rattle.metric_scan.specs.declared.fault.AskFault.TheVariants as ask
 
 -- the entries are reads, and at most so many
 abbrev pub AreFewReads : ℕ → List Placed → Type 0

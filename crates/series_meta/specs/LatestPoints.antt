@@ -17,8 +17,8 @@ use Rattle.cell_model.specs.Layout.{base_time}
 use Rattle.cell_model.specs.Readings.{Reading, Named, Accepted, point_row}
 use Rattle.cell_model.specs.Seen.{Seen, InEach}
 use Rattle.cell_model.specs.Deeds.{Made, Did}
-use Rattle.query_run.specs.Parts.{AreQuerySteps, FirstUnknown}
-use Rattle.query_run.specs.declared.fault.AskFault.{AskFault}
+use Rattle.metric_scan.specs.Parts.{AreQuerySteps, FirstUnknown}
+use Rattle.metric_scan.specs.declared.fault.AskFault.{AskFault}
 use Rattle.series_meta.specs.MetaFaults.{IsOfSteps, meta_fault}
 use Rattle.series_meta.specs.HourWalks.{LatestAt}
 use Rattle.series_meta.specs.SeriesRows.{series_names, series_id}

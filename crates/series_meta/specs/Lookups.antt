@@ -16,9 +16,9 @@ use Rattle.cell_model.specs.Seen.{Seen, InEach}
 use Rattle.cell_model.specs.Deeds.{Made}
 use Rattle.query_text.specs.declared.queries.Sub.{Sub}
 use Rattle.tag_match.specs.Patterns.{passes}
-use Rattle.query_run.specs.Parts.{AreQuerySteps, FirstUnknown, IsShort}
+use Rattle.metric_scan.specs.Parts.{AreQuerySteps, FirstUnknown, IsShort}
 use Rattle.query_run.specs.AskedQueries.{names_in}
-use Rattle.query_run.specs.declared.fault.AskFault.{AskFault}
+use Rattle.metric_scan.specs.declared.fault.AskFault.{AskFault}
 use Rattle.series_meta.specs.MetaFaults.{IsOfSteps, meta_fault}
 use Rattle.series_meta.specs.SeriesRows.{series_id}
 use Rattle.series_meta.specs.declared.meta_answers.Line.{Line}

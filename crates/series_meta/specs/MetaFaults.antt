@@ -2,8 +2,8 @@
 use Rattle.std.specs.Prelude.{Bool, true, false}
 use Rattle.query_text.specs.declared.queries.QueryFault.{QueryFault}
 use Rattle.query_text.specs.declared.queries.QueryFault.TheVariants as query
-use Rattle.query_run.specs.declared.fault.AskFault.{AskFault}
-use Rattle.query_run.specs.declared.fault.AskFault.TheVariants as ask
+use Rattle.metric_scan.specs.declared.fault.AskFault.{AskFault}
+use Rattle.metric_scan.specs.declared.fault.AskFault.TheVariants as ask
 use Rattle.series_meta.specs.declared.meta_faults.SeriesFault.{SeriesFault}
 use Rattle.series_meta.specs.declared.meta_faults.SeriesFault.TheVariants as text
 use Rattle.series_meta.specs.declared.meta_faults.MetaFault.{MetaFault}

@@ -7,8 +7,8 @@ use Rattle.tsd_base.specs.TagList.{tags_cmp}
 use Rattle.row_key.specs.declared.widths.Widths.{Widths}
 use Rattle.row_key.specs.Key.{IsId, id_bytes, pair_bytes}
 use Rattle.cell_model.specs.Readings.{Named}
-use Rattle.query_run.specs.RowNames.{Names}
-use Rattle.query_run.specs.SeriesTags.{ArePairs}
+use Rattle.metric_scan.specs.RowNames.{Names}
+use Rattle.metric_scan.specs.RowTags.{ArePairs}
 use Rattle.series_meta.specs.declared.meta_answers.Line.{Line}
 
 -- ids of a metric and of 1 to 8 tags, rising by their keys' ids

@@ -10,11 +10,11 @@ use Rattle.cell_model.specs.declared.row.Found.{Found}
 use Rattle.cell_model.specs.declared.events.Placed.{Placed}
 use Rattle.cell_model.specs.Seen.{Seen}
 use Rattle.span_merge.specs.Spans.{pairs_cmp}
-use Rattle.query_run.specs.declared.fault.AskFault.{AskFault}
-use Rattle.query_run.specs.declared.fault.AskFault.TheVariants as ask
-use Rattle.query_run.specs.RowNames.{Names}
-use Rattle.query_run.specs.RowTurns.{TurnCut}
-use Rattle.query_run.specs.Walks.{Picks, KeyOf, RowRange, WalkedAll}
+use Rattle.metric_scan.specs.declared.fault.AskFault.{AskFault}
+use Rattle.metric_scan.specs.declared.fault.AskFault.TheVariants as ask
+use Rattle.metric_scan.specs.RowNames.{Names}
+use Rattle.metric_scan.specs.RowTurns.{TurnCut}
+use Rattle.metric_scan.specs.Walks.{Picks, KeyOf, RowRange, WalkedAll}
 use Rattle.series_meta.specs.declared.series_counts.SeriesCounts.{SeriesCounts}
 
 -- the times of each series, by its ids

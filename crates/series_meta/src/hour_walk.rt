@@ -5,14 +5,14 @@ ghost use Rattle.qual_codec.specs.CellDots.{Reads};
 ghost use Rattle.cell_model.specs.Calls.{Leaves};
 ghost use Rattle.cell_model.specs.Deeds.{MadeSo};
 ghost use Rattle.cell_model.specs.Seen.{IsPossible};
-ghost use Rattle.query_run.specs.AskFaults.{is_stop};
+ghost use Rattle.metric_scan.specs.AskFaults.{is_stop};
 ghost use Rattle.series_meta.specs.HourWalks.{GivesPoint, RowSays, WalkSays, row_fault, row_point};
 
 use crate::latest_dot::latest_dot;
 use cell_model::{Cells, Rows};
+use metric_scan::AskFault;
 use point_put::point_cell::row_of;
 use qual_codec::{Dot, MergeFault};
-use query_run::AskFault;
 use row_hours::{HOUR, LAST_OFFSET};
 use row_key::RowKey;
 use std::alloc::Global;

@@ -2,7 +2,7 @@
 ghost use Rattle.std.specs.Prelude.{◌≡◌, ◌≤◌};
 ghost use Rattle.tsd_base.specs.declared.times.TheConstants.{LAST_TIME};
 ghost use Rattle.cell_model.specs.Calls.{Leaves};
-ghost use Rattle.query_run.specs.AskFaults as steps;
+ghost use Rattle.metric_scan.specs.AskFaults as steps;
 ghost use Rattle.series_meta.specs.MetaFaults.{is_stop};
 ghost use Rattle.series_meta.specs.LatestPoints.{FoundSays, LastSays};
 
@@ -11,8 +11,8 @@ use crate::meta_answers::Last;
 use crate::meta_faults::{MetaFault, meta_fault};
 use crate::series_row::{series_id, series_key};
 use cell_model::Rows;
+use metric_scan::AskFault;
 use qual_codec::Bytes;
-use query_run::AskFault;
 use std::alloc::Global;
 use tsd_base::names::Name;
 use tsd_base::tags::Tags;

@@ -3,7 +3,7 @@ ghost use Rattle.std.specs.Prelude.{◌≡◌};
 ghost use Rattle.series_meta.specs.MetaFaults.{IsOfSteps, meta_fault, text_fault};
 ghost use Rattle.series_meta.specs.declared.meta_faults.SeriesFault.TheVariants as text;
 
-use query_run::AskFault;
+use metric_scan::AskFault;
 use query_text::queries::QueryFault;
 use std::alloc::{AllocError, AllocFailed};
 use tsd_base::kinds::Kind;

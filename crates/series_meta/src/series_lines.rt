@@ -3,14 +3,14 @@ ghost use Rattle.std.specs.Prelude.{◌≡◌, List, IfOk, Some, ℕ};
 ghost use Rattle.std.specs.BTreeMap.{IsOrdered, get};
 ghost use Rattle.std.specs.List.{AllZip};
 ghost use Rattle.span_merge.specs.Spans.{pairs_cmp};
-ghost use Rattle.query_run.specs.SeriesTags.{OneToOne};
-ghost use Rattle.query_run.specs.Walks.{names_of};
+ghost use Rattle.metric_scan.specs.RowTags.{OneToOne};
+ghost use Rattle.metric_scan.specs.Walks.{names_of};
 ghost use Rattle.series_meta.specs.SeriesLines.{AreFirst, CanTell, IsLine};
 
 use crate::meta_answers::Line;
 use crate::series_ids::SeriesIds;
 use crate::series_row::series_id;
-use query_run::MetricRows;
+use metric_scan::MetricRows;
 use row_key::{RowKey, Widths};
 use std::alloc::{AllocError, Global};
 use std::collections::BTreeMap;

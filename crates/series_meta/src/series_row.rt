@@ -11,14 +11,14 @@ ghost use Rattle.cell_model.specs.Seen.{IsPossible};
 ghost use Rattle.uid_table.specs.Shown.{HasShown};
 ghost use Rattle.uid_table.specs.ShownKeys.{IdsShown, PairsShown, Rising};
 ghost use Rattle.point_put.specs.ShownIds.{StandsAt};
-ghost use Rattle.query_run.specs.AskFaults.{is_stop};
-ghost use Rattle.query_run.specs.ResolvedIds.{Resolves};
+ghost use Rattle.metric_scan.specs.AskFaults.{is_stop};
+ghost use Rattle.metric_scan.specs.ResolvedIds.{Resolves};
 ghost use Rattle.series_meta.specs.SeriesRows.{IsShownKey, series_id, series_names};
 
 use arrayvec::ArrayVec;
 use cell_model::Rows;
+use metric_scan::AskFault;
 use qual_codec::Bytes;
-use query_run::AskFault;
 use row_hours::base_of;
 use row_key::{RowKey, Widths, write_key};
 use std::alloc::{AllocError, Global};

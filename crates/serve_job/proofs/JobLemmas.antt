@@ -5,7 +5,7 @@ use Rattle.std.proofs.lemmas.List.{append_assoc}
 use Rattle.std.specs.Io.KnownBytes.{Appends}
 use Rattle.std.proofs.KnownBytes.{Appends-nil, Appends-trans}
 use Rattle.tsd_io.specs.Causes.{Rose}
-use Rattle.link_workers.specs.Accepting.{IsNoneLeft}
+use Rattle.link_acceptor.specs.Accepting.{IsNoneLeft}
 use Rattle.cell_model.specs.declared.answers.Tally.{Tally}
 use Rattle.cell_model.specs.Store.{Store}
 use Rattle.cell_region.specs.DividedStore.{DividedStore}

@@ -3,7 +3,7 @@ use Rattle.std.specs.Prelude.{◌≡◌, ◌≢◌, ◌≤◌, ◌⊎◌, ℕ, B
 use Rattle.std.specs.List.{list_any}
 use Rattle.std.specs.Io.KnownBytes.{Appends}
 use Rattle.tsd_io.specs.Causes.{Rose}
-use Rattle.link_workers.specs.Accepting.{IsNoneLeft}
+use Rattle.link_acceptor.specs.Accepting.{IsNoneLeft}
 use Rattle.cell_model.specs.declared.answers.Tally.{Tally}
 use Rattle.cell_model.specs.declared.row.Listing.{Listing}
 use Rattle.cell_model.specs.Store.{Store}

@@ -9,8 +9,8 @@ ghost use Rattle.serve_job.specs.FleetRuns.{FinishesJob, FleetCauses, RunsFleet,
 use crate::last_lines::last_lines;
 use cell_model::Tally;
 use cell_region::Regions;
-use cell_store::NoGate;
 use point_put::Config;
+use region_locks::NoGate;
 use std::alloc::Global;
 use std::sync::Wait;
 use std::thread::Threads;

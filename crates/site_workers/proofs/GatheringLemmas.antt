@@ -12,9 +12,9 @@ use Rattle.list_lemmas.proofs.ListMembers.{here, there, in_map, not_in, pairs_in
 use Rattle.list_lemmas.proofs.ListParts.{length_push, pairs_front, pairs_push}
 use Rattle.tsd_io.specs.Causes.{Rose, joined}
 use Rattle.tsd_doors.specs.Links.{Counts, Shut}
-use Rattle.link_workers.specs.declared.accept_loop.AcceptEnd.{AcceptEnd}
-use Rattle.link_workers.specs.declared.accept_loop.AcceptEnd.TheVariants as accept_end
-use Rattle.link_workers.specs.Accepting.{HasReason, IsNoneLeft, links_between, lost_by}
+use Rattle.link_acceptor.specs.declared.accept_loop.AcceptEnd.{AcceptEnd}
+use Rattle.link_acceptor.specs.declared.accept_loop.AcceptEnd.TheVariants as accept_end
+use Rattle.link_acceptor.specs.Accepting.{HasReason, IsNoneLeft, links_between, lost_by}
 use Rattle.link_workers.specs.Returns.{AccountsFor, AllEnd, many_returned}
 use Rattle.cell_model.specs.declared.events.Entry.{Entry}
 use Rattle.cell_model.specs.History.{History, entry_at}
@@ -22,7 +22,7 @@ use Rattle.cell_model.specs.Seen.{Seen, Fits, InEach, IsOwn}
 use Rattle.cell_model.specs.Deeds.{Extends}
 use Rattle.step_count.specs.CounterRule.{AreDifferent}
 use Rattle.step_count.proofs.CallerLemmas.{none_different, one_different, different_among}
-use Rattle.cell_store.specs.CallerViews.{MadeNoMore, numbers_of}
+use Rattle.region_locks.specs.CallerViews.{MadeNoMore, numbers_of}
 use Rattle.point_put.specs.Admissions.{Admission}
 use Rattle.tsd_daemon.specs.declared.served.Served.{Served}
 use Rattle.conn_workers.specs.ServedLinks.{OnlyServed, ServedLink, WorkerServed, clock_fault_count, is_clock_fault}

@@ -1,8 +1,8 @@
 -- What the workers of one site served, caller by caller, and what their connections were given back as.
 use Rattle.std.specs.Prelude.{◌≡◌, Bool, true, cond, ℕ, ◌+◌, ◌-◌, ◌^◌, ◌≤◌, min, All, Contains, List, [], length, map, flat_map, Option, Some}
 use Rattle.tsd_doors.specs.Links.{Counts, Shut, accepted}
-use Rattle.link_workers.specs.declared.accept_loop.AcceptEnd.{AcceptEnd}
-use Rattle.link_workers.specs.Accepting.{lost_by}
+use Rattle.link_acceptor.specs.declared.accept_loop.AcceptEnd.{AcceptEnd}
+use Rattle.link_acceptor.specs.Accepting.{lost_by}
 use Rattle.link_workers.specs.Returns.{AllEnd}
 use Rattle.cell_model.specs.declared.events.Entry.{Entry}
 use Rattle.cell_model.specs.History.{History, entry_at}

@@ -2,10 +2,10 @@
 use Rattle.std.specs.Prelude.{◌≡◌, ℕ, Bool, List, length, Option}
 use Rattle.atomic_table.specs.Seated.{TableId}
 use Rattle.tsd_doors.specs.Links.{Counts}
-use Rattle.link_workers.specs.Accepting.{AsksHalt, HasReason}
+use Rattle.link_acceptor.specs.Accepting.{AsksHalt, HasReason}
 use Rattle.step_count.specs.declared.view.Named.{Named}
 use Rattle.step_count.specs.Tokens.{counter_of_pass, view_of_pass}
-use Rattle.cell_store.specs.CallerViews.{IsCaller}
+use Rattle.region_locks.specs.CallerViews.{IsCaller}
 use Rattle.site_workers.specs.declared.site_service.SiteServed.{SiteServed}
 use Rattle.site_workers.specs.GatheredLinks.{SiteCounts}
 

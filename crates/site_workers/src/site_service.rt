@@ -2,23 +2,24 @@
 ghost use Rattle.std.specs.Prelude.{◌≡◌, ◌⊎◌, ℕ, ◌≤◌, ◌+◌, true, [], All, IfOk, OnErr, length, map, vec_len};
 ghost use Rattle.std.specs.List.{sum_by};
 ghost use Rattle.step_count.specs.Tokens.{counter_of_pass, view_of_pass};
-ghost use Rattle.cell_store.specs.CallerViews.{IsCaller, numbers_of, seen_of};
+ghost use Rattle.region_locks.specs.CallerViews.{IsCaller, numbers_of, seen_of};
 ghost use Rattle.point_put.specs.Admissions.{admission};
 ghost use Rattle.conn_workers.specs.ServedLinks.{AllTell, WorkerServed};
 ghost use Rattle.site_workers.specs.GatheredLinks.{Gathered, TakenBack};
 ghost use Rattle.site_workers.specs.ServedSites.{SiteLeft};
 
 use crate::worker_return::take_all_back;
-use cell_store::{Gate, Openings, Site, SitePass, StepNames};
+use cell_store::{Openings, Site, SitePass};
 use compactor::queue::Queue;
 use conn_workers::conn_service::serve_rows;
 use conn_workers::conn_terms::ConnTerms;
 use conn_workers::conn_worker::ConnWorker;
 use conn_workers::worker_seats::{make_worker, make_workers};
 use crossbeam_channel::Sender;
-use link_workers::accept_loop::AcceptEnd;
+use link_acceptor::accept_loop::AcceptEnd;
 use link_workers::link_ends::{LinkEnds, give_back};
 use point_put::Config;
+use region_locks::{Gate, StepNames};
 use row_compactors::row_compactor::ToCompactor;
 use std::alloc::{AllocError, Global};
 use std::marker::Model;

@@ -6,15 +6,16 @@ ghost use Rattle.tsd_doors.specs.Links.{Shut};
 ghost use Rattle.cell_model.specs.Deeds.{Extends};
 ghost use Rattle.cell_model.specs.Seen.{IsOwn};
 ghost use Rattle.step_count.specs.CounterRule.{AreDifferent};
-ghost use Rattle.cell_store.specs.CallerViews.{MadeNoMore, numbers_of};
+ghost use Rattle.region_locks.specs.CallerViews.{MadeNoMore, numbers_of};
 ghost use Rattle.point_put.specs.Admissions.{admission};
 ghost use Rattle.conn_workers.specs.ServedLinks.{AllTell, WorkerServed};
 ghost use Rattle.site_workers.specs.GatheredLinks.{Gathered, TakenBack};
 
-use cell_store::{Gate, SitePass, StepNames};
+use cell_store::SitePass;
 use conn_workers::conn_terms::ConnTerms;
 use conn_workers::conn_worker::ConnWorker;
 use link_workers::link_ends::{LinkEnds, give_back};
+use region_locks::{Gate, StepNames};
 use row_compactors::row_compactor::ToCompactor;
 use std::marker::Model;
 use std::sync::Wait;

@@ -3,7 +3,7 @@ ghost use Rattle.std.specs.Prelude.{◌≡◌, ◌≤◌, ⊤, All, length, IfOk
 ghost use Rattle.std.specs.List.{sum_by};
 ghost use Rattle.tsd_doors.specs.MemLinks.{IsFresh};
 
-use link_workers::accept_loop::AcceptEnd;
+use link_acceptor::accept_loop::AcceptEnd;
 use link_workers::link_ends::{LinkEnds, give_back};
 use link_workers::link_service::serve_links;
 use link_workers::link_work::LinkWork;

@@ -3,8 +3,8 @@ ghost use Rattle.std.specs.Prelude.{◌≡◌, ◌≤◌, ◌<◌, All, IfOk};
 ghost use Rattle.tsd_doors.specs.MemLinks.{IsFresh};
 ghost use Rattle.tsd_hooks.specs.AllowedNames.{allowed};
 
-use cell_store::{Gate, NoGate};
 use point_put::Config;
+use region_locks::{Gate, NoGate};
 use std::alloc::{AllocError, Global};
 use std::hint::spin_loop;
 use std::sync::Wait;

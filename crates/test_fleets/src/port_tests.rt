@@ -14,8 +14,8 @@ use tsd_io::clock::MemClock;
 use tsd_io::halt::MemHalt;
 use tsd_io::memory::MemSource;
 use tsd_io::standard::WriteSink;
+use tsd_run::Status;
 use tsd_run::run::run;
-use tsd_run::status::Status;
 
 /// This machine.
 const HOST: IpAddr = IpAddr::V4(Ipv4Addr::LOCALHOST);

@@ -1,6 +1,5 @@
 //! The calls of caller 1 by the lines of a case.
 
-use crate::calls::{call, load};
 use crate::case_roles::{Role, role_of};
 use cell_model::Rows;
 use compactor::Queue;
@@ -9,6 +8,7 @@ use test_readers::case_lines::Line;
 use test_readers::report::Report;
 use test_readers::text::Bad;
 use test_readers::told::Told;
+use test_verbs::calls::{call, load};
 use tsd_hooks::UidRule;
 use uid_table::Uids;
 

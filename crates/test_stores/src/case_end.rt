@@ -1,6 +1,5 @@
 //! What is left at the end of a case, and what differs in it.
 
-use crate::acts::tell_acted;
 use crate::case_base::table;
 use crate::case_roles::{Role, role_of};
 use cell_model::{Body, ListLine, Listing, Tally};
@@ -15,6 +14,7 @@ use test_rows::act::Acted;
 use test_rows::script::Part;
 use test_rows::scripted::Scripted;
 use test_rows::sharing::Shared;
+use test_verbs::acts::tell_acted;
 
 /// How many entries each of four callers made.
 pub type Steps = [u64; 4];

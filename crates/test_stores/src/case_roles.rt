@@ -1,11 +1,11 @@
 //! What the lines of a case are, and in which order its callers step.
 
-use crate::acts::act;
 use row_key::Widths;
 use std::alloc::Global;
 use test_readers::case_lines::Line;
 use test_readers::text::{Bad, number, small, widths};
 use test_rows::script::{Part, Script};
+use test_verbs::acts::act;
 
 /// What a line is in a case.
 #[derive(Clone, Copy, PartialEq, Eq)]

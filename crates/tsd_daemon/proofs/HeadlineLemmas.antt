@@ -31,13 +31,13 @@ use Rattle.point_put.proofs.CallerLemmas.{step_puts}
 use Rattle.json_reply.specs.Replies.{Group}
 use Rattle.query_text.specs.declared.queries.Query.{Query}
 use Rattle.query_text.specs.declared.queries.Sub.{Sub}
-use Rattle.query_run.specs.declared.fault.AskFault.{AskFault}
-use Rattle.query_run.specs.declared.fault.AskFault.TheVariants.{TooManyBuckets, BadFilter, Unknown, Duplicate, Overflow, OutOfMemory, Stopped}
+use Rattle.metric_scan.specs.declared.fault.AskFault.{AskFault}
+use Rattle.metric_scan.specs.declared.fault.AskFault.TheVariants.{TooManyBuckets, BadFilter, Unknown, Duplicate, Overflow, OutOfMemory, Stopped}
 use Rattle.query_run.specs.Asked.{Answers}
 use Rattle.query_run.specs.Asked.Answers.{none, more}
 use Rattle.query_run.specs.AskedQueries.{answer_over, barred, names_in, wanted, IsFew, QueryAsked}
 use Rattle.query_run.specs.Invisible.{AcceptedFor, IsOneValued}
-use Rattle.query_run.specs.Parts.{Part, all_own, PartStands}
+use Rattle.metric_scan.specs.Parts.{Part, all_own, PartStands}
 use Rattle.query_run.proofs.CallerLemmas.{StandIn, no_conflict_of}
 use Rattle.http_api.specs.CallWork.{Work}
 use Rattle.http_api.specs.HttpAnswers.{Done}

@@ -9,8 +9,8 @@ use Rattle.cell_model.specs.Readings.{Reading, Accepted, reading_of}
 use Rattle.query_text.specs.declared.queries.Query.{Query}
 use Rattle.query_text.specs.declared.queries.Sub.{Sub}
 use Rattle.json_reply.specs.Replies.{Group}
-use Rattle.query_run.specs.declared.fault.AskFault.{AskFault}
-use Rattle.query_run.specs.declared.fault.AskFault.TheVariants.{Duplicate}
+use Rattle.metric_scan.specs.declared.fault.AskFault.{AskFault}
+use Rattle.metric_scan.specs.declared.fault.AskFault.TheVariants.{Duplicate}
 use Rattle.query_run.specs.AskedQueries.{answer_over}
 use Rattle.query_run.specs.Invisible.{AcceptedFor, IsOneValued}
 use Rattle.http_api.specs.CallWork.{work_of}

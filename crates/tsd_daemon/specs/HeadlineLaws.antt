@@ -6,7 +6,7 @@ use Rattle.cell_model.specs.Readings.{Reading, Accepted}
 use Rattle.json_reply.specs.Replies.{Group}
 use Rattle.point_put.specs.Admissions.{Admission}
 use Rattle.query_text.specs.declared.queries.Query.{Query}
-use Rattle.query_run.specs.declared.fault.AskFault.{AskFault}
+use Rattle.metric_scan.specs.declared.fault.AskFault.{AskFault}
 use Rattle.query_run.specs.AskedQueries.{QueryAsked}
 use Rattle.query_run.specs.Invisible.{IsOneValued}
 use Rattle.tsd_daemon.specs.declared.served.Served.{Served}

@@ -2,7 +2,7 @@
 use Rattle.std.proofs.Common.{◌≡◌, ◌≢◌, ◌⊎◌, inl, inr, ⊎_elim, ℕ, suc, ◌+◌, ◌<◌, ◌≤◌, true, false, Bool, List, [], ◌∷◌, ◌++◌, length, refl, sym, ap, ◌∙◌, subst, length-append, rules, arith}
 use Rattle.std.specs.Prelude.{Contains, Option, None, Some, nat_le}
 use Rattle.std.proofs.lemmas.Bool.{true≢false}
-use Rattle.std.proofs.lemmas.List.Elements.{All-nil, Contains-append_cases, Contains-append_left, Contains-append_right}
+use Rattle.std.proofs.lemmas.List.Elements.{All-nil, Contains-append_cases}
 use lib.ListN.{length-map}
 use Rattle.list_lemmas.proofs.ListMembers.{all_in, here, there, in_map, map_in, not_in, pairs_in, pairs_tail, split}
 use Rattle.tsd_doors.specs.Links.{Shut}
@@ -13,18 +13,20 @@ use Rattle.cell_model.specs.History.History.{Base}
 use Rattle.cell_model.specs.Lawful.{IsLawful}
 use Rattle.cell_model.specs.Seen.{Seen, Saw, IsOwn, Fits}
 use Rattle.step_count.specs.CounterRule.{AreDifferent, opening}
-use Rattle.step_count.proofs.CallerLemmas.{none_different, different_among}
-use Rattle.cell_store.specs.CallerViews.{numbers_of}
+use Rattle.step_count.proofs.CallerLemmas.{none_different}
+use Rattle.region_locks.specs.CallerViews.{numbers_of}
 use Rattle.point_put.specs.Admissions.{Admission}
 use Rattle.tsd_daemon.specs.declared.served.Served.{Served}
-use Rattle.row_compactors.specs.Upkeep.{TakesPlaces, brings_new}
+use Rattle.row_compactors.specs.Upkeep.{brings_new}
 use Rattle.conn_workers.specs.ServedLinks.{IsWithin, OnlyServed, ServedInTurn, ServedLink}
 use Rattle.conn_workers.specs.ServedLinks.ServedInTurn.{none_yet, then_served}
 use Rattle.link_workers.specs.Returns.{AllEnd}
 use Rattle.site_workers.specs.GatheredLinks.{CallerLinks, Gathered, GivenBack, callers_of, links_of}
-use Rattle.site_workers.proofs.CallerLemmas.{gathered_later, none_end}
+use Rattle.site_workers.proofs.CallerLemmas.{none_end}
 use Rattle.tsd_fleet.specs.Devices.{DoorsTold, FleetDevices, Terms}
-use Rattle.tsd_fleet.specs.FleetStands.{FleetStands, MadeServing, SiteWorked}
+use Rattle.fleet_threads.specs.WorkedSites.{SiteWorked}
+use Rattle.fleet_threads.proofs.CallerLemmas.{own_number}
+use Rattle.tsd_fleet.specs.FleetStands.{FleetStands, MadeServing}
 
 -- ---- all that opened
 
@@ -86,9 +88,6 @@ serves_one (then_served {before = before} {n = n} {n2 = n2} link earlier up1 up2
     (within_or_behind place before)
 
 -- ---- the history
-
-own_number : (s : Seen) (number : ℕ) → Contains (numbers_of s) number → IsOwn s number
-own_number s number has = ⊎_elim (λ (is : s.caller ≡ number). inl (sym is)) (λ i. inr i) (split s.caller number s.absorbed has)
 
 -- no connection was served in a history without an entry
 pub none_back : (terms : Terms) (before after : FleetDevices) (ends : List Served) → IsLawful (Base terms.base) → after.doors.back ≡ before.doors.back → after.clock.faults ≡ before.clock.faults → ends ≡ [] → FleetStands terms before after terms.base ends
@@ -156,30 +155,3 @@ stands_from terms b before after d store ends same still f = record {
   given = subst (λ (o : Option (List Shut)). GivenBack o after.doors.back before.clock.faults after.clock.faults ends (links_of f.callers)) still f.given;
   nothing_else = f.nothing_else;
 }
-
--- what was gathered, and then the places of those taken that only compacted
-pub worked : (T U : Type 0) (c : Admission) (moments : Option (List ℕ)) (opened : List ℕ) (s s' : Seen) (count others : ℕ) (back back' : Option (List Shut)) (faults n n' : ℕ) (ends : List Served) → length opened ≡ count + others → AreDifferent (numbers_of s') → n ≤ n'
-    → Gathered T U c moments s (numbers_of s) count back back' faults n ends → TakesPlaces s others s' → SiteWorked T U c moments opened s' back back' faults n' ends
-worked T U c moments opened s s' count others back back' faults n n' ends all apart later g t = record {
-  count = count;
-  gathered = record {
-    callers = still.callers;
-    count_is = still.count_is;
-    different = still.different;
-    among = λ number has. subst (λ (l : List ℕ). Contains l number) (sym t.numbers) (first number (still.among number has));
-    served = still.served;
-    none_behind = still.none_behind;
-    given = still.given;
-  };
-  others = t.callers;
-  all = all ∙ ap (λ m. count + m) (sym t.count_is);
-  different = different_among (numbers_of s) t.behind (callers_of still.callers) t.callers (subst AreDifferent t.numbers apart) still.different t.different still.among t.among;
-  among = λ number has. subst (λ (l : List ℕ). Contains l number) (sym t.numbers) (Contains-append_right (numbers_of s) t.behind number (t.among number has));
-  nothing_new = t.nothing_new;
-}
-  where
-    still : Gathered T U c moments s' (numbers_of s) count back back' faults n' ends
-    still = gathered_later T U c moments s s' (numbers_of s) (numbers_of s) count back back' faults n n' ends (λ number has. has) (own_number s) t.later t.made later g
-
-    first : (number : ℕ) → Contains (numbers_of s) number → Contains (numbers_of s ++ t.behind) number
-    first number has = Contains-append_left (numbers_of s) t.behind number has

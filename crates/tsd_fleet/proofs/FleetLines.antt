@@ -12,9 +12,9 @@ use Rattle.tsd_io.specs.Causes.{Rose}
 use Rattle.tsd_doors.specs.Links.{Counts, accepted}
 use Rattle.tsd_base.specs.declared.kinds.Kind.{Kind}
 use Rattle.tsd_base.specs.declared.kinds.Kind.TheVariants.{Metric, TagKey, TagValue}
-use Rattle.link_workers.specs.declared.accept_loop.AcceptEnd.{AcceptEnd}
-use Rattle.link_workers.specs.declared.accept_loop.AcceptEnd.TheVariants as accept_end
-use Rattle.link_workers.specs.Accepting.{AsksEach, AsksHalt, HasReason, IsNoneLeft, lost_by}
+use Rattle.link_acceptor.specs.declared.accept_loop.AcceptEnd.{AcceptEnd}
+use Rattle.link_acceptor.specs.declared.accept_loop.AcceptEnd.TheVariants as accept_end
+use Rattle.link_acceptor.specs.Accepting.{AsksEach, AsksHalt, HasReason, IsNoneLeft, lost_by}
 use Rattle.cell_model.specs.declared.answers.Tally.{Tally}
 use Rattle.cell_model.specs.declared.row.Row.{Row}
 use Rattle.cell_model.specs.PlaceOrder.{place_cmp}
@@ -28,7 +28,7 @@ use Rattle.cell_model.specs.Seen.{Seen}
 use Rattle.cell_region.specs.DividedStore.{DividedStore}
 use Rattle.step_count.specs.declared.view.Named.{Named}
 use Rattle.step_count.specs.CounterRule.{store_in}
-use Rattle.cell_store.specs.SiteEnds.{EndsAt}
+use Rattle.region_locks.specs.SiteEnds.{EndsAt}
 use Rattle.cell_model.specs.Sound.{IsBase}
 use Rattle.cell_laws.proofs.CallerLemmas.{no_cell}
 use Rattle.point_put.specs.Admissions.{Admission}
@@ -37,7 +37,8 @@ use Rattle.tsd_fleet.specs.declared.fleet_end.FleetEnd.{FleetEnd}
 use Rattle.tsd_fleet.specs.declared.fleet_end.FleetEnd.TheVariants as end
 use Rattle.site_workers.specs.GatheredLinks.{SiteCounts}
 use Rattle.tsd_fleet.specs.Devices.{DoorsTold, FleetDevices, NoneFalls, Terms}
-use Rattle.tsd_fleet.specs.FleetStands.{FleetStands, SiteWorked}
+use Rattle.fleet_threads.specs.WorkedSites.{SiteWorked}
+use Rattle.tsd_fleet.specs.FleetStands.{FleetStands}
 use Rattle.tsd_fleet.specs.FleetServes.{AsksAccepts, BeginsToListen, BindsAsked, CountsLinks, FleetDoes, FleetKeeps, HasFleetReason, HasListened, IsListenFault, IsTally, KeepsRows, Listens, Outcome, ServesKept, is_die, listening_line, outcome_none}
 use Rattle.tsd_fleet.proofs.FleetHistories.{none_back, stands, stands_from}
 

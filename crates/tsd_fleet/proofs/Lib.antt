@@ -1,3 +1,2 @@
 mod FleetHistories
-mod SiteWorks
 mod FleetLines

@@ -4,9 +4,9 @@ use Rattle.std.specs.List.{list_any}
 use Rattle.std.specs.Io.KnownBytes.{Appends}
 use Rattle.tsd_io.specs.Causes.{Rose}
 use Rattle.tsd_doors.specs.Links.{Counts, accepted}
-use Rattle.link_workers.specs.declared.accept_loop.AcceptEnd.{AcceptEnd}
-use Rattle.link_workers.specs.declared.accept_loop.AcceptEnd.TheVariants.{NoneLeft, Stopped, DoorFault}
-use Rattle.link_workers.specs.Accepting.{AsksEach, IsNoneLeft}
+use Rattle.link_acceptor.specs.declared.accept_loop.AcceptEnd.{AcceptEnd}
+use Rattle.link_acceptor.specs.declared.accept_loop.AcceptEnd.TheVariants.{NoneLeft, Stopped, DoorFault}
+use Rattle.link_acceptor.specs.Accepting.{AsksEach, IsNoneLeft}
 use Rattle.cell_model.specs.declared.answers.Tally.{Tally}
 use Rattle.cell_model.specs.Store.{Store}
 use Rattle.cell_model.specs.Counts.{counters_of, point_entries, point_rows}

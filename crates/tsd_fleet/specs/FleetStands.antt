@@ -1,29 +1,16 @@
 -- What the connections of a fleet were served in: one history, which the store that is left comes of.
-use Rattle.std.specs.Prelude.{◌≡◌, ℕ, ◌+◌, true, List, ◌++◌, length, Contains, Option, Some}
-use Rattle.tsd_doors.specs.Links.{Shut}
+use Rattle.std.specs.Prelude.{◌≡◌, ℕ, true, List, Contains, Option, Some}
 use Rattle.cell_model.specs.Store.{Store}
 use Rattle.cell_model.specs.declared.events.Entry.{Entry}
 use Rattle.cell_model.specs.History.{History, base_of, entry_at, store_after}
 use Rattle.cell_model.specs.Lawful.{IsLawful}
-use Rattle.cell_model.specs.Seen.{Seen}
 use Rattle.step_count.specs.CounterRule.{AreDifferent}
-use Rattle.cell_store.specs.CallerViews.{numbers_of}
 use Rattle.point_put.specs.Admissions.{Admission}
 use Rattle.tsd_daemon.specs.declared.served.Served.{Served}
-use Rattle.row_compactors.specs.Upkeep.{BroughtNothing, brings_new}
+use Rattle.row_compactors.specs.Upkeep.{brings_new}
 use Rattle.conn_workers.specs.ServedLinks.{IsWithin, ServedInTurn}
-use Rattle.site_workers.specs.GatheredLinks.{AllInTurn, CallerLinks, Gathered, GivenBack, callers_of, links_of}
+use Rattle.site_workers.specs.GatheredLinks.{AllInTurn, CallerLinks, GivenBack, callers_of, links_of}
 use Rattle.tsd_fleet.specs.Devices.{FleetDevices, Terms}
-
--- Of the callers that opened, so many served connections, and the others brought nothing new. One caller has the places of all, and has seen this.
-pub record SiteWorked (inlets_tell outlets_tell : Type 0) (c : Admission) (moments : Option (List ℕ)) (opened : List ℕ) (s : Seen) (back back' : Option (List Shut)) (faults faults' : ℕ) (ends : List Served) : Type 0 where
-  pub count : ℕ
-  pub gathered : Gathered inlets_tell outlets_tell c moments s (numbers_of s) count back back' faults faults' ends
-  pub others : List ℕ
-  pub all : length opened ≡ count + length others
-  pub different : AreDifferent (callers_of gathered.callers ++ others)
-  pub among : (number : ℕ) → Contains others number → Contains (numbers_of s) number
-  pub nothing_new : (number : ℕ) → Contains others number → BroughtNothing s number
 
 -- one of these callers made the entry at this place within the lengths of a connection that it served
 abbrev pub MadeServing : Type 0 → Type 0 → Admission → Option (List ℕ) → History → List CallerLinks → ℕ → Entry → Type 0

@@ -11,12 +11,13 @@ ghost use Rattle.tsd_fleet.specs.FleetServes.{FleetDoes, FleetKeeps, IsTally, Ke
 
 use crate::fleet_end::{FleetEnd, fleet_end};
 use crate::listening::listen;
-use crate::site_threads::serve_site;
 use cell_model::{Body, Listing, Tally};
 use cell_region::Regions;
-use cell_store::{Gate, SiteParts, StepNames};
+use cell_store::SiteParts;
 use conn_workers::conn_terms::ConnTerms;
+use fleet_threads::site_threads::serve_site;
 use point_put::Config;
+use region_locks::{Gate, StepNames};
 use row_key::Widths;
 use std::alloc::{AllocError, Global};
 use std::marker::{Brand, Model};
@@ -283,7 +284,8 @@ fn serve_parts<
     let served = serve_site(
         rt,
         alloc,
-        fleet,
+        fleet.daemons,
+        fleet.workers,
         &site,
         &mut openings,
         rule,

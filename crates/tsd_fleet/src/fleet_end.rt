@@ -3,7 +3,7 @@ ghost use Rattle.std.specs.Prelude.{◌≡◌, ◌≢◌, true, false};
 ghost use Rattle.std.specs.List.{list_any};
 ghost use Rattle.tsd_fleet.specs.FleetServes.{is_die};
 
-use link_workers::accept_loop::AcceptEnd;
+use link_acceptor::accept_loop::AcceptEnd;
 use tsd_daemon::Served;
 
 /// Why a fleet ended.

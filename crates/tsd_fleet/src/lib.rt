@@ -4,7 +4,6 @@
 pub mod fleet;
 pub mod fleet_end;
 mod listening;
-mod site_threads;
 
 pub use fleet::{Fleet, FleetDone, FleetKept, serve, serve_from};
 pub use fleet_end::FleetEnd;

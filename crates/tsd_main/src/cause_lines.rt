@@ -1,7 +1,7 @@
 //! What the program says on standard error: one line that names why it ended.
 use std::io;
 use std::net::IpAddr;
-use tsd_run::status::Status;
+use tsd_run::Status;
 
 /// Writes why a run ended so, where what it printed doesn't tell.
 pub fn tell_cause(rt: &impl Eprint, status: Status) {

@@ -10,7 +10,7 @@ use std::net::IpAddr;
 use std::rt::{Clock, Env};
 use std::sync::Wait;
 use std::thread::Threads;
-use tsd_run::status::Status;
+use tsd_run::Status;
 
 /// The variable of the environment that names the address of a fleet.
 const ADDRESS: &str = "TSD_ADDRESS";

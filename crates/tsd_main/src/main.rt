@@ -15,8 +15,8 @@ use std::process::ExitCode;
 use tsd_doors::tcp_doors::TcpDoors;
 use tsd_io::halt::MemHalt;
 use tsd_io::standard::{ReadSource, SystemClock, WriteSink};
+use tsd_run::Status;
 use tsd_run::run::run;
-use tsd_run::status::Status;
 
 /// The size in bytes of the block that [`keep_freed`] takes.
 const BLOCK: usize = 16 * 1024 * 1024;

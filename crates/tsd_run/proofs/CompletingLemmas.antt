@@ -1,19 +1,11 @@
 -- A run whose devices don't fail ends by itself.
-use Rattle.std.proofs.Common.{◌≡◌, ◌^◌, ◌<◌, ◌⊎◌, inl, inr, ⊎_elim, ℕ, Bool, true, false, List, [], ◌++◌, refl, ap, arith}
-use Rattle.std.specs.Prelude.{length, Option, Some, Result, Ok, Err}
+use Rattle.std.proofs.Common.{◌≡◌, ◌^◌, ◌<◌, ◌⊎◌, inl, inr, ⊎_elim, ℕ, Bool, true, false, List, refl, arith}
+use Rattle.std.specs.Prelude.{length, Option, Some, Err}
 use Rattle.row_key.specs.declared.widths.Widths.{Widths}
-use Rattle.tsd_base.specs.Points.{DataPoint}
-use Rattle.query_text.specs.Subs.{sub_of}
-use Rattle.query_text.specs.declared.queries.QueryFault.{QueryFault}
-use Rattle.query_text.specs.declared.queries.Sub.{Sub}
-use Rattle.json_reply.specs.Replies.{Group}
-use Rattle.query_run.specs.declared.fault.AskFault.{AskFault}
-use Rattle.batch_job.specs.PointLines.{points_of}
-use Rattle.batch_job.specs.JobAnswers.{answered}
 use Rattle.tsd_daemon.specs.declared.served.Served.{Served}
 use Rattle.tsd_daemon.specs.declared.served.Served.TheVariants as served
 use Rattle.tsd_daemon.specs.ServedConns.{Fills}
-use Rattle.command_words.specs.CommandWords.{Asked, Batch, Serve}
+use Rattle.command_words.specs.CommandWords.{Asked, Serve}
 use Rattle.command_words.specs.CommandWords.Asked.{BatchAsked, StdioAsked, ServeAsked, ImportAsked, DumpAsked, FsckAsked, FixAsked, WeaveAsked, PackAsked, UnpackAsked}
 use Rattle.import_job.specs.declared.import_end.ImportEnd.{ImportEnd}
 use Rattle.import_job.specs.declared.import_end.ImportEnd.TheVariants as imported
@@ -27,14 +19,13 @@ use Rattle.listing_job.specs.ListingJobs.{OverListing, Told}
 use Rattle.image_job.specs.ImageJobs.{GivesRefusal, LoadsImage, OverImage, Unpacked}
 use Rattle.tsd_fleet.specs.declared.fleet_end.FleetEnd.{FleetEnd}
 use Rattle.tsd_fleet.specs.declared.fleet_end.FleetEnd.TheVariants as end
-use Rattle.tsd_run.specs.declared.status.Status.TheVariants.{Done, Usage, Refused, ReadFault, WriteFault, Memory, Stopped, DoorFault, SessionFull, ClockFault}
-use Rattle.tsd_run.specs.BatchQueries.{query_of}
+use Rattle.batch_run.specs.declared.status.Status.TheVariants.{Done, Usage, Refused, ReadFault, WriteFault, Memory, Stopped, DoorFault, SessionFull, ClockFault}
+use Rattle.batch_run.proofs.CallerLemmas.{batch_usage}
 use Rattle.tsd_run.specs.FleetStatuses.{LacksStore, ServesFleet, fleet_status}
-use Rattle.tsd_run.specs.Outcomes.{Outcome, outcome, over_input, over_points, replied}
 use Rattle.tsd_run.specs.RunCompletes.{IsShort, RunCompletes}
 use Rattle.tsd_run.specs.RunDevices.{Devices, InputTold}
 use Rattle.tsd_run.specs.RunPromises.{Runs}
-use Rattle.tsd_run.specs.Runs.{HasStatus, Decides, import_status, listing_status}
+use Rattle.tsd_run.specs.Runs.{HasStatus, import_status, listing_status}
 
 -- ---- statuses that none of the ends has
 
@@ -84,24 +75,6 @@ fleet_full end.Stopped false is = cc
 fleet_full end.DoorFault false is = cc
 fleet_full end.WriteFault false is = cc
 fleet_full end.OutOfMemory false is = cc
-
--- ---- the outcome of a batch is no usage
-
-replied_usage : (r : Result (List Group) AskFault) → (replied r).status ≡ Usage → ⊥
-replied_usage (Ok groups) is = cc
-replied_usage (Err why) is = cc
-
-points_usage : (b : Batch) (s : Sub) (r : Result (List DataPoint) (ℕ × List ℕ)) → (over_points b s r).status ≡ Usage → ⊥
-points_usage b s (Ok points) is = replied_usage (answered (query_of b s) s points) is
-points_usage b s (Err line) is = cc
-
-input_usage : (b : Batch) (r : Result Sub QueryFault) (input : List ℕ) → (over_input b r input).status ≡ Usage → ⊥
-input_usage b (Ok s) input is = points_usage b s (points_of input) is
-input_usage b (Err why) input is = cc
-
-batch_usage : (b : Batch) (input output : List ℕ) (ended : Bool) → Decides (Some b) input ended (record { status = Usage; text = output }) → ⊥
-batch_usage b input output true is = input_usage b (sub_of b.ms b.query) input (ap (λ (o : Outcome). o.status) is)
-batch_usage b input output false is = input_usage b (sub_of b.ms b.query) (input ++ []) (ap (λ (o : Outcome). o.status) (is []))
 
 -- ---- 2^40 bytes aren't short
 

@@ -18,8 +18,8 @@ use Rattle.serve_job.specs.FleetRuns.{FleetCauses, RunsFleet, has_no_more, is_to
 use Rattle.command_words.specs.CommandWords.{Serve, Asked, fleet_asked}
 use Rattle.command_words.specs.CommandWords.Asked.{BatchAsked, StdioAsked, ServeAsked, ImportAsked, DumpAsked, FsckAsked, FixAsked, WeaveAsked, PackAsked, UnpackAsked}
 use Rattle.image_job.specs.ImageJobs.{LoadsImage}
-use Rattle.tsd_run.specs.declared.status.Status.{Status}
-use Rattle.tsd_run.specs.declared.status.Status.TheVariants.{Done, ReadFault, WriteFault, Memory, Stopped, DoorFault, ClockFault}
+use Rattle.batch_run.specs.declared.status.Status.{Status}
+use Rattle.batch_run.specs.declared.status.Status.TheVariants.{Done, ReadFault, WriteFault, Memory, Stopped, DoorFault, ClockFault}
 use Rattle.tsd_run.specs.FleetStatuses.{BeginsWith, LacksStore, ServesFleet, ServesOver, asks_clock, fleet_status}
 use Rattle.tsd_run.specs.RunCauses.{HasCauses, HasFleetEnd, HasLoneCauses}
 use Rattle.tsd_run.specs.RunDevices.{Devices, InputTold, LoneDevices, fleet, lone}

@@ -1,9 +1,4 @@
 mod FleetLemmas
-mod InputEnds
-mod InputLemmas
-mod QueryLemmas
-mod RunLemmas
 mod StdioLemmas
-mod PlainBatches
 mod RunHeadlineLemmas
 mod CompletingLemmas

@@ -34,14 +34,14 @@ use Rattle.tsd_fleet.specs.declared.fleet_end.FleetEnd.TheVariants as end
 use Rattle.serve_job.specs.FleetRuns.{RunsFleet, has_no_more, last_lines}
 use Rattle.command_words.specs.CommandWords.{Asked, Serve, Stdio, fleet_asked}
 use Rattle.command_words.specs.CommandWords.Asked.{BatchAsked, StdioAsked, ServeAsked, ImportAsked, DumpAsked, FsckAsked, FixAsked, WeaveAsked, PackAsked, UnpackAsked}
-use Rattle.tsd_run.specs.declared.status.Status.{Status}
-use Rattle.tsd_run.specs.declared.status.Status.TheVariants.{Done, Memory}
+use Rattle.batch_run.specs.declared.status.Status.{Status}
+use Rattle.batch_run.specs.declared.status.Status.TheVariants.{Done, Memory}
 use Rattle.tsd_run.specs.FleetStatuses.{BeginsWith, LacksStore, ServesFleet, TakesStore, fleet_status, terms_of}
 use Rattle.tsd_run.specs.RunDevices.{Devices, LoneDevices, fleet, lone}
 use Rattle.tsd_run.specs.RunHeadlines.{BeginsSo, FleetHeadline, IsOwnHistory, LinkHeadline, LoneHeadline, RunHeadline, StdioHeadline}
 use Rattle.tsd_run.specs.RunPromises.{RanAlone, Runs}
 use Rattle.tsd_run.specs.Runs.{RunsAlone, ServesStdio, admission_of}
-use Rattle.tsd_run.proofs.PlainBatches.{batch_headline}
+use Rattle.batch_run.proofs.PlainBatches.{batch_headline}
 
 -- ---- a store of one's own
 

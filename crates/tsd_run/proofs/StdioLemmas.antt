@@ -1,5 +1,5 @@
 -- Connections that are served as the words say, and runs whose words, or whose rule for new names, had no memory.
-use Rattle.std.proofs.Common.{◌≡◌, inl, ℕ, Bool, List, [], false, refl, subst, ap, ◌∙◌}
+use Rattle.std.proofs.Common.{◌≡◌, inl, ℕ, Bool, List, [], refl, subst, ap, ◌∙◌}
 use Rattle.std.specs.Prelude.{Option, None, Some}
 use Rattle.std.proofs.KnownBytes.{Appends-nil, Consumes-nil}
 use Rattle.command_words.specs.CommandWords.{Batch, NameOptions, Stdio, Asked}
@@ -19,11 +19,12 @@ use Rattle.listing_job.specs.ListingJobs.{Checked, Dumped, Fixed, Told}
 use Rattle.image_job.specs.ImageJobs.{Packed}
 use Rattle.import_job.specs.declared.import_end.ImportEnd.TheVariants as imported
 use Rattle.import_job.proofs.CallerLemmas.{not_begun}
-use Rattle.tsd_run.specs.declared.status.Status.{Status}
-use Rattle.tsd_run.specs.declared.status.Status.TheVariants.{Memory}
+use Rattle.batch_run.specs.declared.status.Status.{Status}
+use Rattle.batch_run.specs.declared.status.Status.TheVariants.{Memory}
 use Rattle.tsd_run.specs.RunDevices.{LoneDevices}
-use Rattle.tsd_run.specs.Runs.{HasStatus, RunsAlone, RunsOver, RunsPrinted, RunsUnpack, ServesStdio, admission_of}
-use Rattle.tsd_run.proofs.RunLemmas.{nothing_taken}
+use Rattle.batch_run.specs.BatchRuns.{RunsPrinted}
+use Rattle.tsd_run.specs.Runs.{HasStatus, RunsAlone, RunsOver, RunsUnpack, ServesStdio, admission_of}
+use Rattle.batch_run.proofs.CallerLemmas.{unread_printed}
 
 -- of these kinds and with these patterns names are given ids as the words say
 pub admitted : (s : NameOptions) (appends : Bool) (config : Config) (patterns : Patterns) → config ≡ (admission_of s appends).config → patterns ≡ s.patterns → admission config patterns ≡ admission_of s appends
@@ -44,9 +45,6 @@ served_by s c taken taken' left left' held held' moments moments' result status 
 }
 
 module _ (taken left held moments : Option (List ℕ)) where
-  unread_printed : (batch : Option Batch) → RunsPrinted batch taken taken left left held held Memory
-  unread_printed batch = record { input = []; ended = false; output = []; bytes = nothing_taken taken left batch; gives = Appends-nil held; answers = refl }
-
   -- there was no memory to serve a connection
   pub unserved : (s : Stdio) (status : Status) → status ≡ Memory → Passes taken taken left left held held moments moments (ServesStdio s status)
   unserved s status is = served_by s (admission_of s.names s.appends) taken taken left left held held moments moments served.OutOfMemory status refl is
@@ -62,7 +60,7 @@ module _ (taken left held moments : Option (List ℕ)) where
 
 module _ (d : LoneDevices) where
   printed_none : (batch : Option Batch) → RunsPrinted batch d.input.taken d.input.taken d.input.left d.input.left d.output.held d.output.held Memory
-  printed_none batch = unread_printed d.input.taken d.input.left d.output.held d.clock.moments batch
+  printed_none batch = unread_printed d.input.taken d.input.left d.output.held batch
 
   listing_none : (Tells : ListingRead → Told → Type 0) (widths : Widths) → RunsOver Tells widths d.input.taken d.input.taken d.input.left d.input.left d.output.held d.output.held Memory
   listing_none Tells widths = unread_listing d.input.taken d.input.left d.output.held d.clock.moments Tells widths

@@ -15,8 +15,8 @@ use Rattle.tsd_fleet.specs.declared.fleet_end.FleetEnd.TheVariants as end
 use Rattle.serve_job.specs.FleetRuns.{RunsFleet}
 use Rattle.command_words.specs.CommandWords.{Serve, Asked}
 use Rattle.command_words.specs.CommandWords.Asked.{StdioAsked, ServeAsked}
-use Rattle.tsd_run.specs.declared.status.Status.{Status}
-use Rattle.tsd_run.specs.declared.status.Status.TheVariants.{Done, Refused, WriteFault, Memory, Stopped, DoorFault}
+use Rattle.batch_run.specs.declared.status.Status.{Status}
+use Rattle.batch_run.specs.declared.status.Status.TheVariants.{Done, Refused, WriteFault, Memory, Stopped, DoorFault}
 use Rattle.tsd_run.specs.RunDevices.{Devices, InputTold, fleet}
 use Rattle.tsd_run.specs.Runs.{admission_of, listing_status}
 

@@ -1,12 +1,6 @@
-pub mod RunFaults
-pub mod Inputs
-pub mod Outcomes
-pub mod OutputText
-pub mod BatchQueries
 pub mod RunDevices
 pub mod RunCauses
 pub mod Runs
-pub mod Statuses
 pub mod FleetStatuses
 pub mod RunPromises
 pub mod RunHeadlines

@@ -1,9 +1,9 @@
 -- The causes of how a run ends.
 use Rattle.std.specs.Prelude.{◌≡◌, ◌≢◌, ◌≤◌}
 use Rattle.tsd_io.specs.Causes.{Rose}
-use Rattle.link_workers.specs.Accepting.{IsNoneLeft}
-use Rattle.tsd_run.specs.declared.status.Status.{Status}
-use Rattle.tsd_run.specs.declared.status.Status.TheVariants.{Done, ReadFault, WriteFault, Memory, Stopped, DoorFault, ClockFault}
+use Rattle.link_acceptor.specs.Accepting.{IsNoneLeft}
+use Rattle.batch_run.specs.declared.status.Status.{Status}
+use Rattle.batch_run.specs.declared.status.Status.TheVariants.{Done, ReadFault, WriteFault, Memory, Stopped, DoorFault, ClockFault}
 use Rattle.tsd_run.specs.RunDevices.{Devices, LoneDevices, lone}
 
 -- No count of faults or of stops falls, and a status that tells of one comes only where it rose.

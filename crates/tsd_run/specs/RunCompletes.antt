@@ -3,8 +3,8 @@ use Rattle.std.specs.Prelude.{ℕ, ◌^◌, ◌<◌, List, length, Some}
 use Rattle.std.specs.Io.KnownBytes.{Appends}
 use Rattle.tsd_io.specs.Causes.{Rose}
 use Rattle.command_words.specs.CommandWords.{Asked}
-use Rattle.tsd_run.specs.declared.status.Status.{Status}
-use Rattle.tsd_run.specs.declared.status.Status.TheVariants.{Done, Refused, Memory}
+use Rattle.batch_run.specs.declared.status.Status.{Status}
+use Rattle.batch_run.specs.declared.status.Status.TheVariants.{Done, Refused, Memory}
 use Rattle.tsd_run.specs.RunDevices.{Devices, InputTold}
 use Rattle.tsd_run.specs.RunPromises.{Ran}
 

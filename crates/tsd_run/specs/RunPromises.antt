@@ -1,7 +1,7 @@
 -- What a run promises but for its headline.
 use Rattle.std.specs.Prelude.{Option, MatchOption, IsSome}
 use Rattle.command_words.specs.CommandWords.{Asked, Serve, fleet_asked}
-use Rattle.tsd_run.specs.declared.status.Status.{Status}
+use Rattle.batch_run.specs.declared.status.Status.{Status}
 use Rattle.tsd_run.specs.FleetStatuses.{ServesFleet}
 use Rattle.tsd_run.specs.RunCauses.{HasCauses, HasFleetEnd, HasLoneCauses}
 use Rattle.tsd_run.specs.RunDevices.{Devices, LoneDevices, lone}

@@ -7,7 +7,7 @@ ghost use Rattle.command_words.specs.PlainAsked.{IsFleet};
 ghost use Rattle.tsd_run.specs.FleetStatuses.{BeginsWith, LacksStore};
 
 use crate::on_listing::status_of;
-use crate::status::Status;
+use batch_run::Status;
 use cell_model::Listing;
 use cell_region::Regions;
 use command_words::Serve;

@@ -5,7 +5,7 @@ ghost use Rattle.image_job.specs.ImageJobs.{Packed};
 ghost use Rattle.tsd_run.specs.Runs.{RunsOver, RunsUnpack};
 
 use crate::on_listing::status_of;
-use crate::status::Status;
+use batch_run::Status;
 use image_job::{pack_listing, unpack_image};
 use row_key::Widths;
 use std::alloc::Global;

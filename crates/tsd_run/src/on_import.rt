@@ -4,8 +4,7 @@ ghost use Rattle.tsd_io.specs.Causes.{Rose};
 ghost use Rattle.command_words.specs.PlainAsked.{plain_import};
 ghost use Rattle.tsd_run.specs.Runs.{RunsImport, import_status};
 
-use crate::run_alone::Ended;
-use crate::status::Status;
+use batch_run::{Ended, Status};
 use command_words::Import;
 use import_job::{ImportEnd, Imported, import_alone};
 use std::alloc::Global;

@@ -4,7 +4,7 @@ ghost use Rattle.tsd_io.specs.Causes.{Rose};
 ghost use Rattle.listing_job.specs.ListingJobs.{Checked, Dumped, Fixed};
 ghost use Rattle.tsd_run.specs.Runs.{RunsOver, listing_status};
 
-use crate::status::Status;
+use batch_run::Status;
 use listing_job::{ListingEnd, check_listing, dump_listing, fix_listing};
 use row_key::Widths;
 use std::alloc::Global;

@@ -11,8 +11,8 @@ ghost use Rattle.tsd_run.specs.RunPromises.{Ran, RanFleet};
 
 use crate::fleet_base::first_store;
 use crate::new_names::{config_of, patterns_of};
-use crate::run_alone::{Ended, no_memory, run_alone};
-use crate::status::Status;
+use crate::run_alone::{no_memory, run_alone};
+use batch_run::{Ended, Status};
 use command_words::{Serve, read_fleet};
 use serve_job::{Finished, serve_fleet};
 use std::alloc::{AllocError, Global};

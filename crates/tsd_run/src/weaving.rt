@@ -5,7 +5,7 @@ ghost use Rattle.weave_script.specs.declared.script_counts.Woven.{Woven};
 ghost use Rattle.weave_script.specs.WovenCounts.{CountsWoven, woven_text};
 ghost use Rattle.tsd_run.specs.Runs.{Weaves};
 
-use crate::status::Status;
+use batch_run::Status;
 use listing_print::give_text;
 use std::alloc::{AllocError, Global};
 use tsd_io::ports::{Failed, Sink};

@@ -1,9 +1,5 @@
-use Rattle.std.proofs.Common.{◌∙◌}
-use Rattle.clap.specs.Simple.{app_of}
 use Rattle.command_grammar.proofs.GrammarLemmas.{made_as, with_commands}
 use Rattle.command_grammar.proofs.grammar.with_images.Goals as goal
 
 pub returns-clause-app : goal.returns-clause-app
-returns-clause-app c =
-    let first = c.in_ok-command.ensures.app ∙ with_commands (λ _. app_of c.args.command) c.in_ok-pack.ensures.shape in
-    made_as c.with_command-2.result (with_commands first c.unpack_grammar-unpack.ensures.shape) c.with_command-2.ensures.app
+returns-clause-app c = made_as c.with_command.result (with_commands c.in_ok-command.ensures.app c.unpack_grammar.ensures.shape) c.with_command.ensures.app

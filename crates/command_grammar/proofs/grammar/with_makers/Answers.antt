@@ -5,5 +5,5 @@ use Rattle.command_grammar.proofs.grammar.with_makers.Goals as goal
 
 pub returns-clause-app : goal.returns-clause-app
 returns-clause-app c =
-    let first = c.in_ok-command.ensures.app ∙ with_commands (λ _. app_of c.args.command) c.in_ok-import.ensures.shape in
-    made_as c.with_command-2.result (with_commands first c.in_ok-weave.ensures.shape) c.with_command-2.ensures.app
+    let first = c.in_ok-command.ensures.app ∙ with_commands (λ _. app_of c.args.command) c.in_ok-import_grammar.ensures.shape in
+    made_as c.with_command-2.result (with_commands first c.in_ok-weave_grammar.ensures.shape) c.with_command-2.ensures.app

@@ -1,6 +1,6 @@
 use Rattle.std.proofs.Common.{◌∙◌, ap, subst, sym}
 use Rattle.cell_model.specs.Seen.{HasSeenOpening}
-use Rattle.cell_store.specs.CallerViews.{SawOpeningsAlone}
+use Rattle.region_locks.specs.CallerViews.{SawOpeningsAlone}
 use Rattle.conn_workers.proofs.ServedTurns.{none_served}
 use Rattle.conn_workers.proofs.worker_seats.make_worker.Goals as goal
 

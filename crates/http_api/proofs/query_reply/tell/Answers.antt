@@ -4,7 +4,7 @@ use Rattle.http_reply.specs.declared.reply_status.Status.TheVariants as status
 use Rattle.json_reply.specs.Replies.{plain, text_of}
 use Rattle.json_reply.specs.declared.reply.Reply.{Reply}
 use Rattle.query_run.specs.AskedQueries.{plain_result}
-use Rattle.query_run.specs.declared.fault.AskFault.{AskFault}
+use Rattle.metric_scan.specs.declared.fault.AskFault.{AskFault}
 use Rattle.http_api.specs.HttpAnswers.{IsReplyTo, told}
 use Rattle.http_api.proofs.Answering.{with_bytes}
 use Rattle.http_api.proofs.query_reply.tell.Goals as goal

@@ -2,7 +2,7 @@ use Rattle.http_reply.specs.ReplyBytes.{reply_bytes}
 use Rattle.http_reply.specs.ReplyStatuses.{code_of}
 use Rattle.http_reply.specs.declared.reply_status.Status.TheVariants as status
 use Rattle.json_reply.specs.ErrorBodies.{error_body}
-use Rattle.query_run.specs.AskFaultTexts.{ask_fault_text}
+use Rattle.metric_scan.specs.AskFaultTexts.{ask_fault_text}
 use Rattle.http_api.proofs.QueryTellings.{fault_told, not_stopped}
 use Rattle.http_api.proofs.query_reply.tell_fault.Goals as goal
 

@@ -1,6 +1,7 @@
 use Rattle.std.proofs.Common.{inl, inr, length, ap, arith, refl}
-use Rattle.link_workers.proofs.LinkLemmas.{accounts, accounts_few, accounts_none, asked_in_all, none_asked, none_served}
-use Rattle.link_workers.specs.declared.accept_loop.AcceptEnd.TheVariants.{OutOfMemory}
+use Rattle.link_workers.proofs.LinkLemmas.{accounts, accounts_few, accounts_none, asked_in_all, none_served}
+use Rattle.link_acceptor.proofs.CallerLemmas.{none_asked}
+use Rattle.link_acceptor.specs.declared.accept_loop.AcceptEnd.TheVariants.{OutOfMemory}
 use Rattle.link_workers.proofs.link_service.serve_counted.Goals as goal
 
 pub returns-in_default-clause-counted : goal.returns-in_default-clause-counted

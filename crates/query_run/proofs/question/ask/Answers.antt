@@ -4,9 +4,9 @@ use Rattle.std.specs.Prelude.{All}
 use Rattle.json_reply.specs.Replies.{IsReady}
 use Rattle.json_reply.specs.declared.reply.Group.{Group}
 use Rattle.query_text.specs.declared.queries.Sub.{Sub}
-use Rattle.query_run.specs.declared.fault.AskFault.TheVariants.{OutOfMemory}
+use Rattle.metric_scan.specs.declared.fault.AskFault.TheVariants.{OutOfMemory}
 use Rattle.query_run.specs.AskedQueries.{QuerySays}
-use Rattle.query_run.proofs.NameReads.{passed_on}
+use Rattle.metric_scan.proofs.NameReads.{passed_on}
 use Rattle.query_run.proofs.AllSubs.{progress_none, all_done, done_more, one_refused, no_room, cut_at, at_subs, all_answered}
 use Rattle.query_run.proofs.question.ask.Goals as goal
 

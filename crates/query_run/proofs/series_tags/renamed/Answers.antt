@@ -1,7 +1,7 @@
 use Rattle.std.proofs.Common.{ℕ, List, subst, refl, ap, length, arith}
 use Rattle.std.specs.Vec.Iter.{into_iter_items}
 use Rattle.cell_model.specs.Readings.{Named}
-use Rattle.query_run.specs.RowNames.{known}
+use Rattle.metric_scan.specs.RowNames.{known}
 use Rattle.query_run.proofs.Titles.{titled_more}
 use Rattle.query_run.proofs.series_tags.renamed.Goals as goal
 

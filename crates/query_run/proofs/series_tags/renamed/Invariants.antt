@@ -1,7 +1,7 @@
 use Rattle.std.proofs.Common.{◌≡◌, ◌++◌, length}
 use Rattle.std.specs.Vec.Iter.{into_iter_items, into_iter_len}
 use Rattle.std.specs.List.{AllZip}
-use Rattle.query_run.specs.RowNames.{known}
+use Rattle.metric_scan.specs.RowNames.{known}
 use Rattle.query_run.specs.SeriesTags.{IsRenamed}
 use Rattle.query_run.proofs.series_tags.renamed.Given as goal
 

@@ -5,7 +5,7 @@ use Rattle.std.proofs.lemmas.List.Sorted.{answers_always}
 use Rattle.tsd_base.specs.TagList.{tags_cmp}
 use Rattle.tsd_base.specs.TagOrder.{tags_cmp_total}
 use Rattle.series_groups.specs.declared.named_series.Series.{Series}
-use Rattle.query_run.specs.RowNames.{known}
+use Rattle.metric_scan.specs.RowNames.{known}
 use Rattle.query_run.proofs.Titles.{pairs_of_each, titles_kept}
 use Rattle.query_run.proofs.series_tags.titled.Goals as goal
 

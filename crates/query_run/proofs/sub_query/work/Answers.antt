@@ -1,11 +1,11 @@
 use Rattle.std.proofs.Common.{List, subst, ◌∙◌, arith}
 use Rattle.query_text.specs.declared.queries.Filter.{Filter}
-use Rattle.query_run.specs.declared.fault.AskFault.TheVariants.{OutOfMemory}
-use Rattle.query_run.specs.RowNames.{known}
+use Rattle.metric_scan.specs.declared.fault.AskFault.TheVariants.{OutOfMemory}
+use Rattle.metric_scan.specs.RowNames.{known}
 use Rattle.query_run.specs.Collection.{WasCut, KeepsCollected}
 use Rattle.query_run.specs.SubQuery.{SubSays}
-use Rattle.query_run.specs.Walks.{row_range}
-use Rattle.query_run.proofs.NameReads.{passed_on}
+use Rattle.metric_scan.specs.Walks.{row_range}
+use Rattle.metric_scan.proofs.NameReads.{passed_on}
 use Rattle.query_run.proofs.OneSub.{sub_unbuilt, judges_as_many, names_refused, begun, collect_refused, are_collected, groups_answered, groups_stops}
 use Rattle.query_run.proofs.sub_query.work.Goals as goal
 

@@ -1,5 +1,5 @@
 use Rattle.std.proofs.Common.{rules}
-use Rattle.query_run.specs.RowNames.{known}
+use Rattle.metric_scan.specs.RowNames.{known}
 use Rattle.query_run.proofs.ValueJudging.{same_key_ok}
 use Rattle.query_run.proofs.value_judges.passes_pair.Goals as goal
 

@@ -1,6 +1,6 @@
 use Rattle.std.proofs.Common.{◌≡◌, true}
 use Rattle.query_text.specs.FilterTexts.{is_of_text}
-use Rattle.query_run.specs.RowNames.{known}
+use Rattle.metric_scan.specs.RowNames.{known}
 use Rattle.query_run.proofs.ValueJudging.{passed_here, passed_more, passed_all}
 use Rattle.query_run.proofs.value_judges.suits_one.Goals as goal
 

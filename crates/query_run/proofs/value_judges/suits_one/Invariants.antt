@@ -1,4 +1,4 @@
-use Rattle.query_run.specs.RowNames.{known}
+use Rattle.metric_scan.specs.RowNames.{known}
 use Rattle.query_run.proofs.ValueJudging.{Passed}
 use Rattle.query_run.proofs.value_judges.suits_one.Given as goal
 

@@ -3,8 +3,8 @@ use Rattle.row_key.specs.declared.widths.Widths.{Widths}
 use Rattle.row_key.specs.Key.{key_bytes}
 use Rattle.cell_model.specs.Readings.{point_row}
 use Rattle.cell_model.specs.Deeds.{MadeSo}
-use Rattle.query_run.specs.AskFaults.{ask_fault}
-use Rattle.query_run.specs.declared.fault.AskFault.TheVariants.{OutOfMemory}
+use Rattle.metric_scan.specs.AskFaults.{ask_fault}
+use Rattle.metric_scan.specs.declared.fault.AskFault.TheVariants.{OutOfMemory}
 use Rattle.series_meta.specs.HourWalks.{RowSays}
 use Rattle.series_meta.proofs.NameLooks.{passed_on}
 use Rattle.series_meta.proofs.HourSteps.{cells_read, row_lost, row_unread, row_read, read_leaves}

@@ -1,7 +1,7 @@
 use Rattle.std.proofs.Common.{ℕ, sym, ap, subst, ◌∙◌}
 use Rattle.std.specs.Prelude.{ℤ, Option, Some, Ok}
 use Rattle.row_key.specs.declared.widths.Widths.{Widths}
-use Rattle.query_run.specs.declared.fault.AskFault.TheVariants.{OutOfMemory}
+use Rattle.metric_scan.specs.declared.fault.AskFault.TheVariants.{OutOfMemory}
 use Rattle.series_meta.specs.declared.meta_answers.Last.{Last}
 use Rattle.series_meta.specs.HourWalks.{WalkSays}
 use Rattle.series_meta.specs.SeriesRows.{series_id}

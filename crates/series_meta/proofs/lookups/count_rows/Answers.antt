@@ -1,9 +1,9 @@
 use Rattle.std.proofs.Common.{Ok, rules, sym, subst, arith}
-use Rattle.query_run.specs.declared.row_turn.RowTurn.{RowTurn}
-use Rattle.query_run.specs.declared.fault.AskFault.TheVariants.{OutOfMemory}
-use Rattle.query_run.specs.AskFaults.{ask_fault}
-use Rattle.query_run.specs.Walks.{names_of, picks_of}
-use Rattle.query_run.specs.RowTurns.{TurnSays}
+use Rattle.metric_scan.specs.declared.row_turn.RowTurn.{RowTurn}
+use Rattle.metric_scan.specs.declared.fault.AskFault.TheVariants.{OutOfMemory}
+use Rattle.metric_scan.specs.AskFaults.{ask_fault}
+use Rattle.metric_scan.specs.Walks.{names_of, picks_of}
+use Rattle.metric_scan.specs.RowTurns.{TurnSays}
 use Rattle.query_run.proofs.WalkLemmas.{passed_on}
 use Rattle.series_meta.specs.SeriesTimes.{CountSays}
 use Rattle.series_meta.specs.declared.series_counts.SeriesCounts.{SeriesCounts}

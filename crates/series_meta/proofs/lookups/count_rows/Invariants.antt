@@ -1,6 +1,6 @@
 use Rattle.std.proofs.Common.{[], ◌≤◌}
 use Rattle.cell_model.specs.Seen.{IsPossible}
-use Rattle.query_run.specs.Walks.{HasWalked, RowRange, picks_of}
+use Rattle.metric_scan.specs.Walks.{HasWalked, RowRange, picks_of}
 use Rattle.series_meta.proofs.CountLoop.{Counting}
 use Rattle.series_meta.proofs.lookups.count_rows.Given as goal
 

@@ -1,8 +1,8 @@
 use Rattle.std.proofs.Common.{◌≡◌, Bool, false, List, refl, sym, ap, ◌∙◌}
 use Rattle.tsd_base.specs.declared.times.TheConstants.{LAST_TIME}
 use Rattle.query_text.specs.declared.queries.Filter.{Filter}
-use Rattle.query_run.specs.declared.fault.AskFault.TheVariants.{OutOfMemory}
-use Rattle.query_run.specs.Walks.{names_of, row_range}
+use Rattle.metric_scan.specs.declared.fault.AskFault.TheVariants.{OutOfMemory}
+use Rattle.metric_scan.specs.Walks.{names_of, row_range}
 use Rattle.query_run.proofs.WalkLemmas.{passed_on}
 use Rattle.series_meta.specs.LookupTexts.{has_text_test}
 use Rattle.series_meta.specs.Lookups.{SeriesAsked, FindSays}

@@ -5,7 +5,7 @@ use Rattle.std.proofs.lemmas.List.{append-nil}
 use Rattle.std.proofs.lemmas.List.Elements.{Contains-append_right}
 use Rattle.std.proofs.lemmas.Map.Views.{btree_map_get_iff}
 use Rattle.list_lemmas.proofs.ListMembers.{here}
-use Rattle.query_run.specs.Walks.{names_of}
+use Rattle.metric_scan.specs.Walks.{names_of}
 use Rattle.series_meta.specs.SeriesLines.{IsLine}
 use Rattle.series_meta.specs.PairsOrder.{pairs_cmp_total}
 use Rattle.series_meta.proofs.TimeLists.{pairs_exact}

@@ -1,6 +1,6 @@
 use Rattle.std.proofs.Common.{◌≡◌, ◌++◌}
 use Rattle.std.specs.List.{AllZip}
-use Rattle.query_run.specs.Walks.{names_of}
+use Rattle.metric_scan.specs.Walks.{names_of}
 use Rattle.series_meta.specs.SeriesLines.{IsLine}
 use Rattle.series_meta.proofs.series_lines.all_lines.Given as goal
 

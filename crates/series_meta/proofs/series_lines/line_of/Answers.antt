@@ -2,7 +2,7 @@ use Rattle.std.proofs.Common.{◌≡◌, ℕ, List, ◌++◌, refl, ap, subst, �
 use Rattle.std.specs.List.{flat_map}
 use Rattle.row_key.specs.Key.{id_bytes, pair_bytes}
 use Rattle.cell_model.specs.Readings.{Named}
-use Rattle.query_run.specs.Walks.{names_of}
+use Rattle.metric_scan.specs.Walks.{names_of}
 use Rattle.series_meta.proofs.series_lines.line_of.Goals as goal
 
 pub returns : goal.returns

@@ -4,7 +4,7 @@ use Rattle.arrayvec.specs.ArrayVec.{ArrayVec}
 use Rattle.tsd_base.specs.TagList.{Pair, RiseByKey}
 use Rattle.cell_model.specs.Layout.{tag_names}
 use Rattle.uid_table.specs.ShownKeys.{PairsShown}
-use Rattle.query_run.specs.ResolvedIds.{AreResolved, Resolves}
+use Rattle.metric_scan.specs.ResolvedIds.{AreResolved, Resolves}
 use Rattle.series_meta.proofs.NameLooks.{passed_on, resolved_none, tags_more, tags_fail}
 use Rattle.series_meta.proofs.TagPairs.{about, taken, pairs_none, pairs_more, new_id}
 use Rattle.series_meta.proofs.series_row.pairs_of.Goals as goal

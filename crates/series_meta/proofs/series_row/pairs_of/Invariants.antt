@@ -2,7 +2,7 @@ use Rattle.std.proofs.Common.{◌≤◌, take}
 use Rattle.cell_model.specs.Layout.{tag_names}
 use Rattle.cell_model.specs.Seen.{IsPossible}
 use Rattle.uid_table.specs.ShownKeys.{PairsShown}
-use Rattle.query_run.specs.ResolvedIds.{AreResolved}
+use Rattle.metric_scan.specs.ResolvedIds.{AreResolved}
 use Rattle.series_meta.proofs.series_row.pairs_of.Given as goal
 
 -- the tags that were passed were resolved, and the pairs are their ids

@@ -1,6 +1,6 @@
 use Rattle.std.proofs.Common.{List, [], ◌∷◌, ℕ, sym, subst}
-use Rattle.query_run.specs.declared.fault.AskFault.TheVariants.{Unknown}
-use Rattle.query_run.specs.ResolvedIds.{IsUnresolved}
+use Rattle.metric_scan.specs.declared.fault.AskFault.TheVariants.{Unknown}
+use Rattle.metric_scan.specs.ResolvedIds.{IsUnresolved}
 use Rattle.series_meta.proofs.NameLooks.{name_unknown}
 use Rattle.series_meta.proofs.series_row.resolve_name.Goals as goal
 

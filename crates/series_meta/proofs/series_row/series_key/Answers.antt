@@ -1,5 +1,5 @@
 use Rattle.row_key.specs.declared.keys.RowKey.{RowKey}
-use Rattle.query_run.specs.ResolvedIds.{Resolves}
+use Rattle.metric_scan.specs.ResolvedIds.{Resolves}
 use Rattle.series_meta.specs.SeriesRows.{IsShownKey, series_names}
 use Rattle.series_meta.proofs.NameLooks.{passed_on, metric_unresolved, tags_unresolved, series_resolved}
 use Rattle.series_meta.proofs.series_row.series_key.Goals as goal

@@ -1,7 +1,7 @@
 use Rattle.std.proofs.Common.{ℕ, [], ◌∷◌}
 use Rattle.cell_model.specs.Layout.{tag_names}
 use Rattle.uid_table.specs.ShownKeys.{IdsShown}
-use Rattle.query_run.specs.ResolvedIds.{Resolves}
+use Rattle.metric_scan.specs.ResolvedIds.{Resolves}
 use Rattle.series_meta.proofs.NameLooks.{passed_on, key_unresolved, value_unresolved, tag_resolved}
 use Rattle.series_meta.proofs.series_row.tag_ids.Goals as goal
 

@@ -1,7 +1,7 @@
 use Rattle.std.proofs.Common.{◌≤◌, ◌+◌, ◌∙◌, length, sym, ap, subst, arith}
 use Rattle.std.specs.List.{sum_by}
 use Rattle.cell_model.specs.Deeds.{Extends}
-use Rattle.cell_store.specs.CallerViews.{MadeNoMore, numbers_of}
+use Rattle.region_locks.specs.CallerViews.{MadeNoMore, numbers_of}
 use Rattle.conn_workers.specs.ServedLinks.{AllTell}
 use Rattle.site_workers.specs.GatheredLinks.{Gathered}
 use Rattle.site_workers.proofs.GatheringLemmas.{absorbed_own, extends_same, from_none, gathered_either, made_same, none_gathered, one_taken, own_new, taken_from_none}

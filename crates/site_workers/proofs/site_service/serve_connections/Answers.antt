@@ -1,7 +1,7 @@
 use Rattle.std.proofs.Common.{rules, vec_len, ◌≡◌, ◌+◌, ◌∙◌, ap, subst, sym, length, inl, inr, ⊎_elim}
 use Rattle.link_workers.proofs.CallerLemmas.{asks_told}
 use Rattle.step_count.specs.Tokens.{view_of_pass}
-use Rattle.cell_store.specs.CallerViews.{numbers_of, seen_of}
+use Rattle.region_locks.specs.CallerViews.{numbers_of, seen_of}
 use Rattle.conn_workers.specs.ServedLinks.{AllTell}
 use Rattle.site_workers.specs.GatheredLinks.{Gathered}
 use Rattle.site_workers.proofs.GatheringLemmas.{callers_counted, counted_links, reasons}

@@ -1,5 +1,5 @@
 use Rattle.std.proofs.Common.{subst}
-use Rattle.cell_store.specs.CallerViews.{MadeNoMore}
+use Rattle.region_locks.specs.CallerViews.{MadeNoMore}
 use Rattle.site_workers.proofs.worker_return.absorb_worker.Goals as goal
 
 pub returns-clause-theirs_made : goal.returns-clause-theirs_made

@@ -4,7 +4,7 @@ use Rattle.std.specs.Vec.Iter.{into_iter_items, into_iter_len}
 use Rattle.tsd_doors.specs.Links.{Shut}
 use Rattle.cell_model.specs.Seen.{IsOwn}
 use Rattle.cell_model.specs.Deeds.{Extends}
-use Rattle.cell_store.specs.CallerViews.{MadeNoMore}
+use Rattle.region_locks.specs.CallerViews.{MadeNoMore}
 use Rattle.point_put.specs.Admissions.{admission}
 use Rattle.conn_workers.specs.ServedLinks.{AllTell, WorkerServed}
 use Rattle.site_workers.specs.GatheredLinks.{Gathered, TakenBack}

@@ -1,5 +1,5 @@
 use Rattle.std.proofs.Common.{◌≤◌, subst}
-use Rattle.cell_store.proofs.JoinedEnds.{opened_all, ends}
+use Rattle.region_locks.proofs.CallerLemmas.{ends, opened_all}
 use Rattle.cell_store.proofs.site.Site.end.Goals as goal
 
 pub joined-requires : goal.joined-requires

@@ -1,8 +1,7 @@
 use Rattle.std.proofs.Common.{◌∙◌, ◌++◌, ◌∷◌, [], sym, subst}
 use Rattle.cell_model.specs.Seen.{IsPossible}
-use Rattle.cell_store.specs.CallerViews.{SawOpeningsAlone}
-use Rattle.cell_store.proofs.SeenViews.{possible}
-use Rattle.cell_store.proofs.GreaterViews.{did_open}
+use Rattle.region_locks.specs.CallerViews.{SawOpeningsAlone}
+use Rattle.region_locks.proofs.CallerLemmas.{did_open, possible}
 use Rattle.cell_store.proofs.site.Site.open_pass.Goals as goal
 
 pub invariant_of-openings-2 : goal.invariant_of-openings-2

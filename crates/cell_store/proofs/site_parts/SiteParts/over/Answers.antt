@@ -1,8 +1,7 @@
 use Rattle.std.proofs.Common.{rules, ap}
 use Rattle.step_count.specs.declared.view.View.{View}
 use Rattle.step_count.specs.FirstViews.{name_in}
-use Rattle.cell_store.proofs.GreaterViews.{opener_first}
-use Rattle.cell_store.proofs.UnopenedRegions.{all_unopened}
+use Rattle.region_locks.proofs.CallerLemmas.{all_unopened, opener_first}
 use Rattle.cell_store.proofs.site_parts.SiteParts.over.Goals as goal
 
 pub invariant_of-result : goal.invariant_of-result

@@ -1,6 +1,5 @@
 use Rattle.std.proofs.Common.{◌∙◌, refl}
-use Rattle.cell_store.proofs.SeenViews.{possible}
-use Rattle.cell_store.proofs.GreaterViews.{absorbed_made, caller_absorbed, extends_from, made_from, numbers_as}
+use Rattle.region_locks.proofs.CallerLemmas.{absorbed_made, caller_absorbed, extends_from, made_from, numbers_as, possible}
 use Rattle.cell_store.proofs.site_pass.SitePass.absorb.Goals as goal
 
 pub invariant_of-self : goal.invariant_of-self

@@ -1,6 +1,5 @@
 use Rattle.std.proofs.Common.{◌∙◌}
-use Rattle.cell_store.proofs.SeenViews.{possible}
-use Rattle.cell_store.proofs.GreaterViews.{caller_learned}
+use Rattle.region_locks.proofs.CallerLemmas.{caller_learned, possible}
 use Rattle.cell_store.proofs.site_pass.SitePass.learn.Goals as goal
 
 pub invariant_of-self : goal.invariant_of-self

@@ -1,4 +1,4 @@
-use Rattle.cell_store.proofs.GreaterViews.{different_as}
+use Rattle.region_locks.proofs.CallerLemmas.{different_as}
 use Rattle.cell_store.proofs.site_pass.SitePass.part.Goals as goal
 
 pub returns-clause-different : goal.returns-clause-different

@@ -1,0 +1,6 @@
+pub mod CallerLemmas
+mod InputEnds
+mod InputLemmas
+pub mod PlainBatches
+mod QueryLemmas
+mod RunLemmas

@@ -1,0 +1,2 @@
+mod AcceptLemmas
+pub mod CallerLemmas

@@ -1,0 +1,12 @@
+pub mod Parts
+pub mod AskFaults
+pub mod AskFaultTexts
+pub mod IdSets
+pub mod IdFilters
+pub mod SubNames
+pub mod RowNames
+pub mod RowTags
+pub mod Walks
+pub mod RowTurns
+pub mod KeyJumps
+pub mod ResolvedIds

@@ -1,5 +1,0 @@
-use Rattle.test_stores.proofs.Known.{shown_named}
-use Rattle.test_stores.proofs.calls.there_and_back.Goals as goal
-
-pub name_of-requires : goal.name_of-requires
-name_of-requires g c = shown_named _ _ c.args.name.now _ c.in_ok-id.ensures.id
