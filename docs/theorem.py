@@ -19,7 +19,8 @@ BEGIN, END = "<!-- the list of docs/theorem.py -->", "<!-- the list ends -->"
 
 # each module with its definitions, in the order of reading
 PATH = [
-    ("tsd_run", "RunHeadlines", "RunHeadline LoneHeadline FleetHeadline BeginsSo IsOwnHistory LinkHeadline StdioHeadline BatchHeadline PrintsPlainly IsPlainOver reads_in"),
+    ("tsd_run", "RunHeadlines", "RunHeadline LoneHeadline FleetHeadline BeginsSo IsOwnHistory LinkHeadline StdioHeadline"),
+    ("batch_run", "BatchHeadlines", "BatchHeadline PrintsPlainly IsPlainOver reads_in"),
     ("command_words", "CommandWords", "fleet_asked"),
     ("tsd_daemon", "Headline", "Headline OneIdEach RepliedPlainly IsPlain ArePlain AnsweredFrom"),
     ("tsd_daemon", "TakenInTurn", "TakenInTurn InTurn answers_all"),
@@ -36,8 +37,8 @@ PATH = [
     ("link_workers", "Returns", "AllEnd"),
     ("tsd_fleet", "FleetServes", "IsTally"),
     ("tsd_run", "Runs", "HasStatus"),
-    ("tsd_run", "BatchQueries", "query_of"),
-    ("tsd_run", "Outcomes", "replied refused_query refused Outcome"),
+    ("batch_run", "BatchQueries", "query_of"),
+    ("batch_run", "Outcomes", "replied refused_query refused Outcome"),
 ]
 
 # what isn't read further, by the name of its paragraph
@@ -49,7 +50,7 @@ LEAVES = {
     "The reply's text": [
         ("json_reply", "Replies", "Group text_of"),
         ("json_reply", "ErrorBodies", "error_body"),
-        ("query_run", "AskFaultTexts", "ask_fault_text"),
+        ("metric_scan", "AskFaultTexts", "ask_fault_text"),
         ("http_reply", "ReplyBytes", "reply_bytes"),
         ("http_reply", "ReplyStatuses", "code_of"),
     ],
