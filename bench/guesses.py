@@ -32,7 +32,7 @@ WITHOUT = [
     ("next of batch", [ROUND + "guess", ROUND + "came"], "pending::"),
     ("last row", ["row_pages::page_places::is_at"], "page_places::place_again"),
     ("row by hash", HASHES, "hints::Hints::"),
-    ("pauses", ["cell_store::region_lock::pause"], "region_lock::locked"),
+    ("pauses", ["region_locks::region_lock::pause"], "region_lock::locked"),
 ]
 SWITCH = """extern char *getenv(const char *);
 int tsd_without;

@@ -30,7 +30,7 @@ PATH = [
     ("http_api", "HttpAnswers", "IsReplyTo QueryTells Told told"),
     ("tsd_daemon", "Exchanges", "Exchange requests_in replies_in moments_in moment_by moment_for"),
     ("tsd_daemon", "ConnRequests", "ConnRequest asks_clock point_asked conn_requests begins_http is_capital telnet_asks http_asks"),
-    ("tsd_daemon", "ServedConns", "Passes"),
+    ("tsd_daemon", "ServedConns", "ConnTold Passes"),
     ("tsd_daemon", "ConnClocks", "Gave"),
     ("conn_workers", "ServedLinks", "ServedLink GaveSome AllTell"),
     ("site_workers", "GatheredLinks", "CallerLinks links_of returned_by"),
@@ -63,7 +63,7 @@ LEAVES = {
         ("batch_job", "PointLines", "points_of"),
     ],
     "What devices tell": [
-        ("tsd_run", "RunDevices", "Devices LoneDevices InputTold lone"),
+        ("tsd_run", "RunDevices", "Devices LoneDevices InputTold lone conn_told"),
         ("tsd_io", "Ticks", "Ticks"),
         ("tsd_doors", "Links", "Shut"),
     ],

@@ -14,8 +14,8 @@ use Rattle.point_put.specs.Admissions.{Admission}
 use Rattle.tsd_daemon.specs.declared.served.Served.{Served}
 use Rattle.tsd_daemon.specs.declared.served.Served.TheVariants as answer
 use Rattle.tsd_daemon.specs.ConnClocks.{Gave}
-use Rattle.tsd_daemon.specs.ServedConns.{ConnCauses, Fills, IsServed, Passes, Serves, ServesBytes}
-use Rattle.conn_workers.specs.ServedLinks.{AllTell, ClockFaultsWithin, HasEndCause, LinkServed, MadeNone, OnlyServed, ServedLink, WorkerServed, clock_fault_count, is_clock_fault}
+use Rattle.tsd_daemon.specs.ServedConns.{ConnCauses, ConnFaults, Fills, IsServed, Passes, Serves, ServesBytes}
+use Rattle.conn_workers.specs.ServedLinks.{AllTell, ClockFaultsWithin, ClockTold, HasEndCause, LinkServed, MadeNone, OnlyServed, ServedLink, ServingTerms, WorkerServed, clock_fault_count, is_clock_fault}
 use Rattle.conn_workers.specs.ServedLinks.ServedInTurn.{none_yet, then_served}
 
 -- ---- bytes and moments
@@ -37,7 +37,8 @@ rose_above : (before now : ℕ) → Rose before now → 0 < now
 rose_above before now rose = omega (arith, rose)
 
 -- an end has its cause, where nothing had failed before and no step was stopped
-pub end_cause : (shut : Shut) (reads writes ticks ticks' count : ℕ) (end : Served) → (end ≡ answer.End → IsAtEnd shut.left) → ConnCauses reads shut.source_faults writes shut.sink_faults 0 0 ticks ticks' end → Fills end count → HasEndCause shut count end
+pub end_cause : (shut : Shut) (reads writes ticks ticks' count : ℕ) (end : Served) → (end ≡ answer.End → IsAtEnd shut.left)
+    → ConnCauses (record { reads = reads; writes = writes; stops = 0; ticks = ticks }) (record { reads = shut.source_faults; writes = shut.sink_faults; stops = 0; ticks = ticks' }) end → Fills end count → HasEndCause shut count end
 end_cause shut reads writes ticks ticks' count answer.End left causes fills = left refl
 end_cause shut reads writes ticks ticks' count answer.Exit left causes fills = tt
 end_cause shut reads writes ticks ticks' count answer.Die left causes fills = tt
@@ -49,22 +50,22 @@ end_cause shut reads writes ticks ticks' count answer.Stopped left causes fills 
 end_cause shut reads writes ticks ticks' count answer.SessionFull left causes fills = fills
 end_cause shut reads writes ticks ticks' count answer.OutOfMemory left causes fills = tt
 
-clock_rose : (reads reads' writes writes' ticks ticks' : ℕ) (end : Served) → ConnCauses reads reads' writes writes' 0 0 ticks ticks' end → is_clock_fault end ≡ true → Rose ticks ticks'
-clock_rose reads reads' writes writes' ticks ticks' answer.ClockFault causes is = causes.cause
-clock_rose reads reads' writes writes' ticks ticks' answer.End causes is = absurd (true≢false (sym is))
-clock_rose reads reads' writes writes' ticks ticks' answer.Exit causes is = absurd (true≢false (sym is))
-clock_rose reads reads' writes writes' ticks ticks' answer.Die causes is = absurd (true≢false (sym is))
-clock_rose reads reads' writes writes' ticks ticks' answer.Closed causes is = absurd (true≢false (sym is))
-clock_rose reads reads' writes writes' ticks ticks' answer.ReadFault causes is = absurd (true≢false (sym is))
-clock_rose reads reads' writes writes' ticks ticks' answer.WriteFault causes is = absurd (true≢false (sym is))
-clock_rose reads reads' writes writes' ticks ticks' answer.Stopped causes is = absurd (true≢false (sym is))
-clock_rose reads reads' writes writes' ticks ticks' answer.SessionFull causes is = absurd (true≢false (sym is))
-clock_rose reads reads' writes writes' ticks ticks' answer.OutOfMemory causes is = absurd (true≢false (sym is))
+clock_rose : (before after : ConnFaults) (end : Served) → ConnCauses before after end → is_clock_fault end ≡ true → Rose before.ticks after.ticks
+clock_rose before after answer.ClockFault causes is = causes.cause
+clock_rose before after answer.End causes is = absurd (true≢false (sym is))
+clock_rose before after answer.Exit causes is = absurd (true≢false (sym is))
+clock_rose before after answer.Die causes is = absurd (true≢false (sym is))
+clock_rose before after answer.Closed causes is = absurd (true≢false (sym is))
+clock_rose before after answer.ReadFault causes is = absurd (true≢false (sym is))
+clock_rose before after answer.WriteFault causes is = absurd (true≢false (sym is))
+clock_rose before after answer.Stopped causes is = absurd (true≢false (sym is))
+clock_rose before after answer.SessionFull causes is = absurd (true≢false (sym is))
+clock_rose before after answer.OutOfMemory causes is = absurd (true≢false (sym is))
 
 -- the causes of an end where no step was ever stopped
-pub unstopped : (reads reads' writes writes' stops stops' ticks ticks' : ℕ) (end : Served) → stops ≡ 0 → stops' ≡ 0 → ConnCauses reads reads' writes writes' stops stops' ticks ticks' end → ConnCauses reads reads' writes writes' 0 0 ticks ticks' end
-unstopped reads reads' writes writes' stops stops' ticks ticks' end none none' causes =
-    subst (λ (n : ℕ). ConnCauses reads reads' writes writes' 0 n ticks ticks' end) none' (subst (λ (n : ℕ). ConnCauses reads reads' writes writes' n stops' ticks ticks' end) none causes)
+pub unstopped : (before after : ConnFaults) (end : Served) → before.stops ≡ 0 → after.stops ≡ 0 → ConnCauses before after end → ConnCauses (record before { stops = 0 }) (record after { stops = 0 }) end
+unstopped before after end none none' causes =
+    subst (λ (n : ℕ). ConnCauses (record before { stops = 0 }) (record after { stops = n }) end) none' (subst (λ (n : ℕ). ConnCauses (record before { stops = n }) after end) none causes)
 
 -- ---- how many connections ended because the clock failed
 
@@ -92,8 +93,8 @@ within_more links link old new within later rose =
 -- ---- one more connection
 
 -- a worker that served no connection yet, and whose clock wasn't asked
-pub none_served : (T U : Type 0) (c : Admission) (first : Option (List ℕ)) (by : Admission) (s : Seen) (now : Option (List ℕ)) (faults : ℕ) → by ≡ c → now ≡ first → HasSeenOpening s → SawOpeningsAlone s → WorkerServed T U c first by s now faults []
-none_served T U c first by s now faults is same opened alone = record {
+pub none_served : (terms : ServingTerms) (by : Admission) (s : Seen) (clock : ClockTold) → by ≡ terms.admission → clock.moments ≡ terms.moments → HasSeenOpening s → SawOpeningsAlone s → WorkerServed terms by s clock []
+none_served terms by s clock is same opened alone = record {
   same = is;
   served = λ h law fits. record {
     opened = (opened.0, fits.seen opened.0 _ opened.1);
@@ -101,41 +102,41 @@ none_served T U c first by s now faults is same opened alone = record {
     in_turn = none_yet s.length (λ place e le own at. alone place e (fits.no_other place e le (inl own) at));
   };
   times = [];
-  clock = same;
+  ticks = same;
   clock_faults = omega arith;
 }
 
 -- what is to be told of one more connection, as its serving tells it
-pub record OneServed (T U : Type 0) (c : Admission) (old : Seen) (now now' : Option (List ℕ)) (faults faults' : ℕ) (new : Seen) (link : ServedLink) : Type 0 where
+pub record OneServed (inlets_tell outlets_tell : Type 0) (c : Admission) (old new : Seen) (clock clock' : ClockTold) (link : ServedLink) : Type 0 where
   pub input : List ℕ
   pub output : List ℕ
   pub times : List ℕ
-  pub taken : T → link.0.taken ≡ Some input
-  pub given : U → link.0.held ≡ Some output
-  pub clock : Gave now times now'
+  pub taken : inlets_tell → link.0.taken ≡ Some input
+  pub given : outlets_tell → link.0.held ≡ Some output
+  pub ticks : Gave clock.moments times clock'.moments
   pub serves : Serves c old input output times link.1 new
   pub cause : HasEndCause link.0 (length input) link.1
-  pub later : faults ≤ faults'
-  pub rose : is_clock_fault link.1 ≡ true → Rose faults faults'
+  pub later : clock.faults ≤ clock'.faults
+  pub rose : is_clock_fault link.1 ≡ true → Rose clock.faults clock'.faults
 
-pub one_more_link : (T U : Type 0) (c : Admission) (first : Option (List ℕ)) (by : Admission) (now now' : Option (List ℕ)) (old new : Seen) (faults faults' : ℕ) (link : ServedLink) → OneServed T U by old now now' faults faults' new link
-    → (links : List ServedLink) → WorkerServed T U c first by old now faults links → WorkerServed T U c first by new now' faults' (links ++ link ∷ [])
-one_more_link T U c first by now now' old new faults faults' link one links w = record {
+pub one_more_link : (terms : ServingTerms) (by : Admission) (old new : Seen) (clock clock' : ClockTold) (link : ServedLink) → OneServed terms.inlets_tell terms.outlets_tell by old new clock clock' link
+    → (links : List ServedLink) → WorkerServed terms by old clock links → WorkerServed terms by new clock' (links ++ link ∷ [])
+one_more_link terms by old new clock clock' link one links w = record {
   same = w.same;
-  served = λ h law fits. subst (λ (k : ℕ). OnlyServed T U c first h k new.length (links ++ link ∷ [])) (sym one.serves.since.caller) (turn h law fits);
+  served = λ h law fits. subst (λ (k : ℕ). OnlyServed terms h k new.length (links ++ link ∷ [])) (sym one.serves.since.caller) (turn h law fits);
   times = w.times ++ one.times;
-  clock = gave_more first now now' w.times one.times w.clock one.clock;
-  clock_faults = within_more links link faults faults' w.clock_faults one.later one.rose;
+  ticks = gave_more terms.moments clock.moments clock'.moments w.times one.times w.ticks one.ticks;
+  clock_faults = within_more links link clock.faults clock'.faults w.clock_faults one.later one.rose;
 }
   where
-    here : (h : History) → IsLawful h → Fits new h → LinkServed T U c first h old.caller old.length new.length link
+    here : (h : History) → IsLawful h → Fits new h → LinkServed terms h old.caller old.length new.length link
     here h law fits = record {
       input = one.input;
       output = one.output;
       times = one.times;
       taken = one.taken;
       given = one.given;
-      clock = record { earlier = w.times; before = now; after = now'; until = w.clock; then_ = one.clock };
+      clock = record { earlier = w.times; before = clock.moments; after = clock'.moments; until = w.ticks; then_ = one.ticks };
       served = subst (λ (a : Admission). IsServed a h old.caller old.length new.length one.input one.output one.times link.1) w.same (one.serves.served h law fits);
       cause = one.cause;
     }
@@ -143,7 +144,7 @@ one_more_link T U c first by now now' old new faults faults' link one links w = 
     none_between : (h : History) (n : ℕ) → MadeNone h old.caller n n
     none_between h n place e above below own at = omega (arith, above, below)
 
-    turn : (h : History) → IsLawful h → Fits new h → OnlyServed T U c first h old.caller new.length (links ++ link ∷ [])
+    turn : (h : History) → IsLawful h → Fits new h → OnlyServed terms h old.caller new.length (links ++ link ∷ [])
     turn h law fits =
         let before = w.served h law (one.serves.since.extends.fits h fits) in
         record {
@@ -154,21 +155,21 @@ one_more_link T U c first by now now' old new faults faults' link one links w = 
 
 -- what the serving of a connection says, where it was fresh and its caller is never stopped
 pub one_served : {I O : Type 0} (taken left : I → Option (List ℕ)) (held : O → Option (List ℕ)) (c : Admission) (inlet inlet' : I) (outlet outlet' : O) (number number' reads reads' writes writes' : ℕ) (shut_number : ℕ)
-    (now now' : Option (List ℕ)) (old new : Seen) (faults faults' : ℕ) (end : Served) → AreFresh number number reads (taken inlet) number' writes (held outlet)
-    → Passes (taken inlet) (taken inlet') (left inlet) (left inlet') (held outlet) (held outlet') now now' (ServesBytes c old end new) → (end ≡ answer.End → IsAtEnd (left inlet'))
-    → ConnCauses reads reads' writes writes' 0 0 faults faults' end
-    → OneServed (AllTell taken) (AllTell held) c old now now' faults faults' new (record { number = shut_number; source_faults = reads'; sink_faults = writes'; taken = taken inlet'; left = left inlet'; held = held outlet' }, end)
-one_served taken left held c inlet inlet' outlet outlet' number number' reads reads' writes writes' shut_number now now' old new faults faults' end fresh p left_none causes = record {
+    (old new : Seen) (clock clock' : ClockTold) (end : Served) → AreFresh number number reads (taken inlet) number' writes (held outlet)
+    → Passes (record { taken = taken inlet; left = left inlet; held = held outlet; moments = clock.moments }) (record { taken = taken inlet'; left = left inlet'; held = held outlet'; moments = clock'.moments }) (ServesBytes c old end new) → (end ≡ answer.End → IsAtEnd (left inlet'))
+    → ConnCauses (record { reads = reads; writes = writes; stops = 0; ticks = clock.faults }) (record { reads = reads'; writes = writes'; stops = 0; ticks = clock'.faults }) end
+    → OneServed (AllTell taken) (AllTell held) c old new clock clock' (record { number = shut_number; source_faults = reads'; sink_faults = writes'; taken = taken inlet'; left = left inlet'; held = held outlet' }, end)
+one_served taken left held c inlet inlet' outlet outlet' number number' reads reads' writes writes' shut_number old new clock clock' end fresh p left_none causes = record {
   input = p.input;
   output = p.output;
   times = p.times;
   taken = λ tell. told_all (taken inlet) (taken inlet') p.input (tell inlet) fresh.none_taken p.takes;
   given = λ tell. told_all (held outlet) (held outlet') p.output (tell outlet) fresh.none_held p.gives;
-  clock = p.ticks;
+  ticks = p.ticks;
   serves = p.so.0;
-  cause = end_cause shut reads writes faults faults' (length p.input) end left_none causes p.so.1;
+  cause = end_cause shut reads writes clock.faults clock'.faults (length p.input) end left_none causes p.so.1;
   later = causes.clock;
-  rose = clock_rose reads reads' writes writes' faults faults' end causes;
+  rose = clock_rose _ _ end causes;
 }
   where
     shut : Shut

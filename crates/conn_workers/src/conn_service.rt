@@ -44,16 +44,16 @@ pub fn serve_rows<
     requires some { 0 < queue_count }
     requires idle { All (λ worker. worker.ends.items ≡ []) workers.old.items }
     requires own_idle { own.old.ends.items ≡ [] }
-    requires begun { All (λ worker. WorkerServed (AllTell D.Inlet.taken) (AllTell D.Outlet.held) J.admission J.moments
-        (admission worker.work.config worker.work.rule.now.patterns) (R.seen worker.work.names.rows) (C.moments worker.work.clock) (C.faults worker.work.clock) []) workers.old.items }
-    requires own_begun { WorkerServed (AllTell D.Inlet.taken) (AllTell D.Outlet.held) J.admission J.moments
-        (admission own.old.work.config own.old.work.rule.now.patterns) (R.seen own.old.work.names.rows) (C.moments own.old.work.clock) (C.faults own.old.work.clock) [] }
+    requires begun { All (λ worker. WorkerServed (record { admission = J.admission; moments = J.moments; inlets_tell = AllTell D.Inlet.taken; outlets_tell = AllTell D.Outlet.held })
+        (admission worker.work.config worker.work.rule.now.patterns) (R.seen worker.work.names.rows) (record { moments = C.moments worker.work.clock; faults = C.faults worker.work.clock }) []) workers.old.items }
+    requires own_begun { WorkerServed (record { admission = J.admission; moments = J.moments; inlets_tell = AllTell D.Inlet.taken; outlets_tell = AllTell D.Outlet.held })
+        (admission own.old.work.config own.old.work.rule.now.patterns) (R.seen own.old.work.names.rows) (record { moments = C.moments own.old.work.clock; faults = C.faults own.old.work.clock }) [] }
     ensures len { vec_len workers.new ≡ vec_len workers.old }
-    ensures served { All (λ worker. WorkerServed (AllTell D.Inlet.taken) (AllTell D.Outlet.held) J.admission J.moments
-        (admission worker.work.config worker.work.rule.now.patterns) (R.seen worker.work.names.rows) (C.moments worker.work.clock) (C.faults worker.work.clock)
+    ensures served { All (λ worker. WorkerServed (record { admission = J.admission; moments = J.moments; inlets_tell = AllTell D.Inlet.taken; outlets_tell = AllTell D.Outlet.held })
+        (admission worker.work.config worker.work.rule.now.patterns) (R.seen worker.work.names.rows) (record { moments = C.moments worker.work.clock; faults = C.faults worker.work.clock })
         (map (λ one. (D.shown one.0, one.1)) worker.ends.items)) workers.new.items }
-    ensures own_served { WorkerServed (AllTell D.Inlet.taken) (AllTell D.Outlet.held) J.admission J.moments
-        (admission own.new.work.config own.new.work.rule.now.patterns) (R.seen own.new.work.names.rows) (C.moments own.new.work.clock) (C.faults own.new.work.clock)
+    ensures own_served { WorkerServed (record { admission = J.admission; moments = J.moments; inlets_tell = AllTell D.Inlet.taken; outlets_tell = AllTell D.Outlet.held })
+        (admission own.new.work.config own.new.work.rule.now.patterns) (R.seen own.new.work.names.rows) (record { moments = C.moments own.new.work.clock; faults = C.faults own.new.work.clock })
         (map (λ one. (D.shown one.0, one.1)) own.new.ends.items) }
     ensures counted { AccountsFor result.end (D.counts doors.old) (D.counts doors.new)
         (sum_by (λ worker. length worker.ends.items) workers.new.items + length own.new.ends.items) }

@@ -72,8 +72,8 @@ impl<
 > LinkWork<I, O> for ConnWorker<'a, J, R, C, B, S> {
     type End = Served;
 
-    ghost served = { λ work links. WorkerServed (AllTell I.taken) (AllTell O.held) J.admission J.moments
-        (admission work.config work.rule.now.patterns) (R.seen work.names.rows) (C.moments work.clock) (C.faults work.clock) links };
+    ghost served = { λ work links. WorkerServed (record { admission = J.admission; moments = J.moments; inlets_tell = AllTell I.taken; outlets_tell = AllTell O.held })
+        (admission work.config work.rule.now.patterns) (R.seen work.names.rows) (record { moments = C.moments work.clock; faults = C.faults work.clock }) links };
 
     fn serve(&mut self, inlet: &mut I, outlet: &mut O) -> Served {
         R::never_stopped();

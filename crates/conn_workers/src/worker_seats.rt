@@ -22,14 +22,7 @@ use tsd_io::clock::Clock;
 use uid_table::uids::{KEPT_PAIRS, Uids};
 
 /// A worker that is a new caller of the site, with a twin of the clock and a bell of the doors. It fails only for want of memory.
-pub fn make_worker<
-    'a,
-    J: StepNames + ConnTerms,
-    G: Gate + Drop,
-    T: Wait,
-    C: Clock + Drop,
-    D: Doors,
->(
+fn make_worker<'a, J: StepNames + ConnTerms, G: Gate + Drop, T: Wait, C: Clock + Drop, D: Doors>(
     rt: &'a T,
     alloc: Global,
     site: &'a Site<J, G>,
@@ -42,8 +35,8 @@ pub fn make_worker<
 ) -> Result<ConnWorker<'a, J, SitePass<'a, J, G, T>, C, D::Bell, ToCompactor<'a, T>>, AllocError>
     requires admission { admission config.now rule.now.patterns ≡ J.admission }
     requires moments { C.moments clock.now ≡ J.moments }
-    ensures begun { IfOk result (λ work. WorkerServed (AllTell D.Inlet.taken) (AllTell D.Outlet.held) J.admission J.moments
-        (admission work.config work.rule.now.patterns) work.names.rows (C.moments work.clock) (C.faults work.clock) []) }
+    ensures begun { IfOk result (λ work. WorkerServed (record { admission = J.admission; moments = J.moments; inlets_tell = AllTell D.Inlet.taken; outlets_tell = AllTell D.Outlet.held })
+        (admission work.config work.rule.now.patterns) work.names.rows (record { moments = C.moments work.clock; faults = C.faults work.clock }) []) }
     ensures opened { IfOk result (λ _. length openings.new ≡ length openings.old + 1) }
 {
     let pass = site.open_pass(rt, openings)?;
@@ -98,8 +91,8 @@ pub fn make_workers<
     requires moments { C.moments clock.now ≡ J.moments }
     ensures len { IfOk result (λ workers. vec_len workers ≡ count) }
     ensures idle { IfOk result (λ workers. All (λ worker. worker.ends.items ≡ []) workers.items) }
-    ensures begun { IfOk result (λ workers. All (λ worker. WorkerServed (AllTell D.Inlet.taken) (AllTell D.Outlet.held) J.admission J.moments
-        (admission worker.work.config worker.work.rule.now.patterns) worker.work.names.rows (C.moments worker.work.clock) (C.faults worker.work.clock) []) workers.items) }
+    ensures begun { IfOk result (λ workers. All (λ worker. WorkerServed (record { admission = J.admission; moments = J.moments; inlets_tell = AllTell D.Inlet.taken; outlets_tell = AllTell D.Outlet.held })
+        (admission worker.work.config worker.work.rule.now.patterns) worker.work.names.rows (record { moments = C.moments worker.work.clock; faults = C.faults worker.work.clock }) []) workers.items) }
     ensures opened { IfOk result (λ _. length openings.new ≡ length openings.old + count) }
 {
     let mut workers = Vec::with_capacity(alloc, count as usize)?;

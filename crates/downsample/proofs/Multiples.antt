@@ -1,8 +1,8 @@
 -- Where buckets begin and end.
-use Rattle.std.proofs.Common.{◌≡◌, ℕ, zero, suc, ◌+◌, ◌-◌, ◌*◌, ◌/◌, ◌<◌, ◌≤◌, length, refl, sym, ap, ◌∙◌, arith}
+use Rattle.std.proofs.Common.{◌≡◌, ℕ, suc, ◌+◌, ◌-◌, ◌*◌, ◌/◌, ◌<◌, ◌≤◌, sym, ap, ◌∙◌, arith}
 use Rattle.std.proofs.Math.Nat.{mod-eq-sub-div-mul, div-mul-le_self, lt-div-mul-add, le-div_iff_mul-le, mul-div_cancel, mul-le-mul_right}
 use Rattle.std.proofs.lemmas.Nat.{div-mul-add}
-use Rattle.downsample.specs.Buckets.{bucket_of, buckets_from}
+use Rattle.downsample.specs.Buckets.{bucket_of}
 
 -- a bucket begins at a multiple of the interval
 pub bucket_is : (i t : ℕ) → bucket_of i t ≡ t / i * i
@@ -44,10 +44,6 @@ bucket_later i b t some begins from =
     let q = (le-div_iff_mul-le {k = i} {x = b / i} {y = t} (omega (arith, some))).1 (omega (arith, begins, from)) in
     let more : b / i * i ≤ t / i * i = mul-le-mul_right i q in
     omega (arith, begins, more, bucket_is i t)
-
-pub length-buckets_from : (i b n : ℕ) → length (buckets_from i b n) ≡ n
-length-buckets_from i b zero = refl
-length-buckets_from i b (suc n) = ap suc (length-buckets_from i (b + i) n)
 
 -- each of the buckets up to that of end begins at most there
 pub bucket_within : (i start end k : ℕ) → 1 ≤ i → start ≤ end → k < end / i - start / i + 1 → bucket_of i start + k * i ≤ end

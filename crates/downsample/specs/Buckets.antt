@@ -1,8 +1,9 @@
 -- Buckets of times, and what the values of one make.
-use Rattle.std.specs.Prelude.{ℕ, Bool, true, false, zero, suc, ◌+◌, ◌-◌, ◌/◌, ◌%◌, ℤ, pos, not, nat_eq, List, [], ◌∷◌, Option, Some, map, filter, fold}
+use Rattle.std.specs.Prelude.{ℕ, Bool, true, false, ◌+◌, ◌-◌, ◌/◌, ◌%◌, ℤ, pos, not, nat_eq, List, [], ◌∷◌, Option, Some, map, filter, fold}
 use Rattle.tsd_base.specs.declared.kinds.Function.{Function}
 use Rattle.tsd_base.specs.declared.kinds.Function.TheVariants as function
 use Rattle.tsd_base.specs.declared.kinds.Aggregator.TheVariants as aggregator
+use Rattle.lerp_aggregate.specs.FilledGroups.{times_from}
 use Rattle.lerp_aggregate.specs.Tally.{made_of}
 
 -- where the bucket of a time begins
@@ -14,14 +15,9 @@ abbrev pub buckets_of : ℕ → List (ℕ × ℤ) → List ℕ
 buckets_of interval [] = []
 buckets_of interval (p ∷ points) = bucket_of interval p.0 ∷ filter (λ bucket. not (nat_eq bucket (bucket_of interval p.0))) (buckets_of interval points)
 
--- so many buckets from this one on
-abbrev pub buckets_from : ℕ → ℕ → ℕ → List ℕ
-buckets_from interval bucket zero = []
-buckets_from interval bucket (suc n) = bucket ∷ buckets_from interval (bucket + interval) n
-
 -- all buckets from the one of start to that of end
 abbrev pub all_buckets : ℕ → ℕ → ℕ → List ℕ
-all_buckets interval start end = buckets_from interval (bucket_of interval start) (end / interval - start / interval + 1)
+all_buckets interval start end = times_from interval (bucket_of interval start) (end / interval - start / interval + 1)
 
 -- the values of the points in a bucket
 abbrev pub values_in : ℕ → List (ℕ × ℤ) → ℕ → List ℤ

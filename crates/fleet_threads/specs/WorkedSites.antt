@@ -1,18 +1,17 @@
 -- What the callers of a site did.
-use Rattle.std.specs.Prelude.{◌≡◌, ℕ, ◌+◌, List, ◌++◌, length, Contains, Option}
-use Rattle.tsd_doors.specs.Links.{Shut}
+use Rattle.std.specs.Prelude.{◌≡◌, ℕ, ◌+◌, List, ◌++◌, length, Contains}
 use Rattle.cell_model.specs.Seen.{Seen}
 use Rattle.step_count.specs.CounterRule.{AreDifferent}
 use Rattle.region_locks.specs.CallerViews.{numbers_of}
-use Rattle.point_put.specs.Admissions.{Admission}
 use Rattle.tsd_daemon.specs.declared.served.Served.{Served}
 use Rattle.row_compactors.specs.Upkeep.{BroughtNothing}
-use Rattle.site_workers.specs.GatheredLinks.{Gathered, callers_of}
+use Rattle.conn_workers.specs.ServedLinks.{ServingTerms}
+use Rattle.site_workers.specs.GatheredLinks.{Gathered, ReturnsTold, callers_of}
 
 -- Of the callers that opened, so many served connections, and the others brought nothing new. One caller has the places of all, and has seen this.
-pub record SiteWorked (inlets_tell outlets_tell : Type 0) (c : Admission) (moments : Option (List ℕ)) (opened : List ℕ) (s : Seen) (back back' : Option (List Shut)) (faults faults' : ℕ) (ends : List Served) : Type 0 where
+pub record SiteWorked (terms : ServingTerms) (opened : List ℕ) (s : Seen) (before after : ReturnsTold) (ends : List Served) : Type 0 where
   pub count : ℕ
-  pub gathered : Gathered inlets_tell outlets_tell c moments s (numbers_of s) count back back' faults faults' ends
+  pub gathered : Gathered terms s (numbers_of s) count before after ends
   pub others : List ℕ
   pub all : length opened ≡ count + length others
   pub different : AreDifferent (callers_of gathered.callers ++ others)

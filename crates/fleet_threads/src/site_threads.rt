@@ -54,9 +54,12 @@ pub fn serve_site<
     requires most_workers { workers ≤ 16 }
     requires admission { admission config.now rule.now.patterns ≡ J.admission }
     requires moments { C.moments clock.old ≡ J.moments }
-    ensures left { IfOk result (λ s. SiteLeft J.counter J.name D.counts D.waiting D.faults H.stops H.answers doors.old doors.new halt.old halt.new s) }
-    ensures worked { IfOk result (λ s. SiteWorked (AllTell D.Inlet.taken) (AllTell D.Outlet.held) J.admission J.moments openings.new (seen_of (view_of_pass s.pass))
-        (D.back doors.old) (D.back doors.new) (C.faults clock.old) (C.faults clock.new) s.ends.items) }
+    ensures left { IfOk result (λ s. SiteLeft H.answers J.counter J.name
+        (record { waiting = D.waiting doors.old; back = D.back doors.old; counts = D.counts doors.old; faults = D.faults doors.old })
+        (record { waiting = D.waiting doors.new; back = D.back doors.new; counts = D.counts doors.new; faults = D.faults doors.new })
+        (H.stops halt.old) (H.stops halt.new) halt.old halt.new s) }
+    ensures worked { IfOk result (λ s. SiteWorked (record { admission = J.admission; moments = J.moments; inlets_tell = AllTell D.Inlet.taken; outlets_tell = AllTell D.Outlet.held })
+        openings.new (seen_of (view_of_pass s.pass)) (record { back = D.back doors.old; clock_faults = C.faults clock.old }) (record { back = D.back doors.new; clock_faults = C.faults clock.new }) s.ends.items) }
     ensures stops_later { H.stops halt.old ≤ H.stops halt.new }
     ensures clock_later { C.faults clock.old ≤ C.faults clock.new }
     ensures doors_later { D.faults doors.old ≤ D.faults doors.new }
@@ -75,10 +78,14 @@ pub fn serve_site<
         &mut || -> Result<SiteServed, AllocError>
             requires { (1 ≤ vec_len rows_to) × (vec_len rows_to ≤ 8) × (workers ≤ 16)
                 × (admission config.now rule.now.patterns ≡ J.admission) × (C.moments clock.now ≡ J.moments) }
-            ensures left { IfOk result (λ s. SiteLeft J.counter J.name D.counts D.waiting D.faults H.stops H.answers doors.entry.now doors.exit.now halt.entry.now halt.exit.now s) }
+            ensures left { IfOk result (λ s. SiteLeft H.answers J.counter J.name
+                (record { waiting = D.waiting doors.entry.now; back = D.back doors.entry.now; counts = D.counts doors.entry.now; faults = D.faults doors.entry.now })
+                (record { waiting = D.waiting doors.exit.now; back = D.back doors.exit.now; counts = D.counts doors.exit.now; faults = D.faults doors.exit.now })
+                (H.stops halt.entry.now) (H.stops halt.exit.now) halt.entry.now halt.exit.now s) }
             ensures gathered { IfOk result (λ s. (count : ℕ) × (length openings.exit.now ≡ length openings.entry.now + count)
-                × Gathered (AllTell D.Inlet.taken) (AllTell D.Outlet.held) J.admission J.moments (seen_of (view_of_pass s.pass)) (numbers_of (seen_of (view_of_pass s.pass)))
-                count (D.back doors.entry.now) (D.back doors.exit.now) (C.faults clock.entry.now) (C.faults clock.exit.now) s.ends.items) }
+                × Gathered (record { admission = J.admission; moments = J.moments; inlets_tell = AllTell D.Inlet.taken; outlets_tell = AllTell D.Outlet.held })
+                (seen_of (view_of_pass s.pass)) (numbers_of (seen_of (view_of_pass s.pass)))
+                count (record { back = D.back doors.entry.now; clock_faults = C.faults clock.entry.now }) (record { back = D.back doors.exit.now; clock_faults = C.faults clock.exit.now }) s.ends.items) }
             ensures stops_later { H.stops halt.entry.now ≤ H.stops halt.exit.now }
             ensures clock_later { C.faults clock.entry.now ≤ C.faults clock.exit.now }
             ensures doors_later { D.faults doors.entry.now ≤ D.faults doors.exit.now }

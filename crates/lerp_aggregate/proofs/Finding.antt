@@ -91,7 +91,7 @@ some_values c (series ∷ group) t has =
       longer (Some v) rest h = omega arith
 
 -- what a tally makes of the values
-made_none : (b : Bool) (z : ℤ) → cond b None (Some z) ≡ None → b ≡ true
+pub made_none : (b : Bool) (z : ℤ) → cond b None (Some z) ≡ None → b ≡ true
 made_none true z e = refl
 made_none false z e = absurd (none-some z (sym e))
 

@@ -1,3 +1,4 @@
+pub mod CallerLemmas
 pub mod Alike
 pub mod Nearest
 pub mod Quotients
@@ -7,6 +8,7 @@ pub mod Standing
 pub mod Tallying
 pub mod Unordered
 pub mod Walking
+pub mod Filled
 pub mod Finding
 pub mod Bundling
 pub mod Placing

@@ -38,7 +38,7 @@ has_reading [] t = refl
 has_reading (series ∷ group) t = value_at-append series (readings group) t ∙ ap (λ b. is_some (value_at series t) || b) (has_reading group t)
 
 -- what stands at a time among points made at these times
-value_at_made : (f : ℕ → ℤ) (times : List ℕ) (t : ℕ) → value_at (map (λ u. (u, f u)) times) t ≡ cond (list_any (eqb t) times) (Some (f t)) None
+pub value_at_made : (f : ℕ → ℤ) (times : List ℕ) (t : ℕ) → value_at (map (λ u. (u, f u)) times) t ≡ cond (list_any (eqb t) times) (Some (f t)) None
 value_at_made f [] t = refl
 value_at_made f (u ∷ times) t =
     let at = λ (b : Bool). cond (b || list_any (eqb t) times) (Some (f t)) None in

@@ -1,13 +1,14 @@
 -- What a tally counts.
-use Rattle.std.proofs.Common.{◌≡◌, ℕ, ◌+◌, ◌-◌, ◌*◌, ◌^◌, ◌<◌, ℤ, pos, negsuc, neg_ℤ, ◌+ℤ◌, ◌≤ℤ◌, true, List, [], ◌∷◌, ◌++◌, length, refl, sym, ap, subst, ◌∙◌, fold, All, FitsSigned, w64, to_z, of_z, arith, length-append}
+use Rattle.std.proofs.Common.{◌≡◌, ℕ, ◌+◌, ◌-◌, ◌*◌, ◌^◌, ◌<◌, ℤ, pos, negsuc, neg_ℤ, ◌+ℤ◌, ◌≤ℤ◌, true, List, [], ◌∷◌, ◌++◌, length, replicate, zero, suc, refl, sym, ap, subst, ◌∙◌, fold, All, FitsSigned, w64, to_z, of_z, arith, append-nil, length-append}
 use Rattle.std.specs.Int.{w128, int_min, int_max}
 use Rattle.std.proofs.lemmas.Bool.{ltb-true, lt-ltb}
 use Rattle.std.proofs.lemmas.Int.{ints, clamps, to_z-of_z}
-use Rattle.std.proofs.lemmas.List.Elements.{All-head, All-tail, All-push}
-use Rattle.std.proofs.lemmas.List.Sums.{fold_push}
+use Rattle.std.proofs.lemmas.List.Elements.{All-append, All-head, All-tail, All-push, All-replicate}
+use Rattle.std.proofs.lemmas.List.{length-replicate}
+use Rattle.std.proofs.lemmas.List.Sums.{fold-append, fold_push}
 use Rattle.lerp_aggregate.specs.declared.tally.Tally.{Tally}
 use Rattle.lerp_aggregate.specs.Aggregation.{fits, total, least, greatest}
-use Rattle.lerp_aggregate.specs.Tally.{Counts, HasRoom}
+use Rattle.lerp_aggregate.specs.Tally.{Adds, Counts, HasRoom}
 
 -- the values of an i64 are those that fit
 pub fits-from_range : (z : ℤ) → FitsSigned w64 z → fits z ≡ true
@@ -75,3 +76,42 @@ sum_within tally n room =
     let few = room.few in
     let count = room.counts.count in
     (subst (λ (m : ℕ). IsWithin m tally.sum) (sym count) (subst (IsWithin (length room.values)) (sym room.counts.sum) (total_within room.values room.counts.fit)), omega (arith, few, count))
+
+-- zeros
+add_zeros : (a : ℤ) (n : ℕ) → fold ◌+ℤ◌ a (replicate n (pos 0)) ≡ a
+add_zeros a zero = refl
+add_zeros a (suc n) = let same : a +ℤ pos 0 ≡ a = omega (arith, ints) in ap (λ b. fold ◌+ℤ◌ b (replicate n (pos 0))) same ∙ add_zeros a n
+
+min_zeros : (a : ℤ) (n : ℕ) → a ≤ℤ pos 0 → fold int_min a (replicate n (pos 0)) ≡ a
+min_zeros a zero low = refl
+min_zeros a (suc n) low = let same : int_min a (pos 0) ≡ a = omega (arith, ints, clamps, low) in ap (λ b. fold int_min b (replicate n (pos 0))) same ∙ min_zeros a n low
+
+max_zeros : (a : ℤ) (n : ℕ) → pos 0 ≤ℤ a → fold int_max a (replicate n (pos 0)) ≡ a
+max_zeros a zero high = refl
+max_zeros a (suc n) high = let same : int_max a (pos 0) ≡ a = omega (arith, ints, clamps, high) in ap (λ b. fold int_max b (replicate n (pos 0))) same ∙ max_zeros a n high
+
+fit_zeros : (values : List ℤ) (n : ℕ) → All (λ v. fits v ≡ true) values → All (λ v. fits v ≡ true) (values ++ replicate n (pos 0))
+fit_zeros values n all = All-append (λ v. fits v ≡ true) values (replicate n (pos 0)) all (All-replicate (λ v. fits v ≡ true) n (pos 0) refl)
+
+-- so many zeros more, of which there is one
+pub counts_zeros : (old new : Tally) (values : List ℤ) (n : ℕ) → Counts old values → new.count ≡ old.count + suc n → new.sum ≡ old.sum → new.least ≡ int_min old.least (pos 0) → new.greatest ≡ int_max old.greatest (pos 0) → Counts new (values ++ replicate (suc n) (pos 0))
+counts_zeros old new values n h count sum least greatest = record {
+  fit = fit_zeros values (suc n) h.fit;
+  count = let is = h.count in omega (arith, count, is, length-append values (replicate (suc n) (pos 0)), length-replicate (suc n) (pos 0));
+  sum = sum ∙ h.sum ∙ sym (fold-append ◌+ℤ◌ (pos 0) values (replicate (suc n) (pos 0)) ∙ add_zeros (total values) (suc n));
+  least = least ∙ ap (λ z. int_min z (pos 0)) h.least ∙ sym (fold-append int_min (pos (2 ^ 63 - 1)) values (replicate (suc n) (pos 0)) ∙ min_zeros (int_min (fold int_min (pos (2 ^ 63 - 1)) values) (pos 0)) n (omega (arith, ints, clamps)));
+  greatest = greatest ∙ ap (λ z. int_max z (pos 0)) h.greatest ∙ sym (fold-append int_max (negsuc (2 ^ 63 - 1)) values (replicate (suc n) (pos 0)) ∙ max_zeros (int_max (fold int_max (negsuc (2 ^ 63 - 1)) values) (pos 0)) n (omega (arith, ints, clamps)));
+}
+
+-- no value more
+pub counts_no_more : (tally : Tally) (n : ℕ) → n ≡ 0 → Adds tally tally (replicate n (pos 0))
+counts_no_more tally n none = record { adds = λ values h. subst (Counts tally) (sym (append-nil values) ∙ ap (λ k. values ++ replicate k (pos 0)) (sym none)) h }
+
+-- zeros up to so many values
+pub fills : (old new : Tally) (count : ℕ) → old.count < count → new.count ≡ count → new.sum ≡ old.sum → new.least ≡ int_min old.least (pos 0) → new.greatest ≡ int_max old.greatest (pos 0) → Adds old new (replicate (count - old.count) (pos 0))
+fills old new count more is sum least greatest = record {
+  adds = λ values h.
+      let n : ℕ = count - old.count - 1 in
+      let some : suc n ≡ count - old.count = omega (arith, more) in
+      subst (λ (k : ℕ). Counts new (values ++ replicate k (pos 0))) some (counts_zeros old new values n h (omega (arith, more, is)) sum least greatest);
+}

@@ -86,7 +86,7 @@ total_same : (vs ws : List ℤ) → ((part : ℤ → ℕ) → sum_by part vs ≡
 total_same vs ws same = same_in _ _ (omega (arith, fold_parts vs (pos 0), fold_parts ws (pos 0), same up, same down))
 
 -- values with the same sums and tests make the same
-combined_same : (how : Aggregator) (vs ws : List ℤ) → ((part : ℤ → ℕ) → sum_by part vs ≡ sum_by part ws) → ((test : ℤ → Bool) → list_any test vs ≡ list_any test ws) → combined how vs ≡ combined how ws
+pub combined_same : (how : Aggregator) (vs ws : List ℤ) → ((part : ℤ → ℕ) → sum_by part vs ≡ sum_by part ws) → ((test : ℤ → Bool) → list_any test vs ≡ list_any test ws) → combined how vs ≡ combined how ws
 combined_same Sum vs ws sums tests = total_same vs ws sums
 combined_same Min vs ws sums tests = least_same vs ws (λ m. tests (λ v. int_le v m))
 combined_same Max vs ws sums tests = greatest_same vs ws (λ m. tests (λ v. int_le m v))

@@ -4,3 +4,4 @@ pub mod Laws
 pub mod Tally
 pub mod Walks
 pub mod EqualTimes
+pub mod FilledGroups

@@ -4,6 +4,7 @@
 pub mod aggregation;
 mod cursors;
 mod equal_times;
+pub mod filled_groups;
 pub mod interpolation;
 pub mod laws;
 pub mod tally;

@@ -1,5 +1,5 @@
 //! What the values of a group make at one time.
-ghost use Rattle.std.specs.Prelude.{◌≡◌, ◌<◌, [], ◌∷◌, List, ℤ, int_div, pos};
+ghost use Rattle.std.specs.Prelude.{◌≡◌, ◌<◌, ◌≤◌, ◌-◌, ◌^◌, [], ◌∷◌, List, ℤ, int_div, pos, replicate};
 ghost use Rattle.lerp_aggregate.specs.Tally.{Adds, Counts, HasRoom, made_of};
 
 use tsd_base::kinds::Aggregator;
@@ -36,6 +36,19 @@ impl Tally {
         self.greatest = self.greatest.max(value);
         self.sum += i128::from(value);
         self.count += 1;
+    }
+
+    /// Counts zeros, until it counts so many values.
+    pub fn fill(&mut self, count: u64)
+        requires few { self.old.count ≤ count }
+        requires room { count < 2 ^ 63 }
+        ensures { Adds self.old self.new (replicate (count - self.old.count) (pos 0)) }
+    {
+        if self.count < count {
+            self.least = self.least.min(0);
+            self.greatest = self.greatest.max(0);
+            self.count = count;
+        }
     }
 
     /// What the aggregator makes of the values. It is nothing exactly where that is a sum that leaves `i64`.

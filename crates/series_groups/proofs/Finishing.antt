@@ -1,20 +1,24 @@
 -- What was kept of series, finished one after the other.
 use Rattle.std.proofs.Common.{◌≡◌, ℕ, ℤ, ◌≤◌, List, [], ◌∷◌, map, get_or, sym, ap, subst, ◌∙◌, arith}
 use Rattle.std.specs.Global.{Box}
-use Rattle.std.specs.Prelude.{All, IfSome, box_value, Option, Some, None, Result}
+use Rattle.std.specs.Prelude.{All, box_value, Option, Some, None, Result}
 use Rattle.std.proofs.lemmas.List.Elements.{All-head, All-tail, All-map}
 use Rattle.tsd_base.specs.declared.times.TheConstants.{LAST_TIME}
 use Rattle.tsd_base.specs.declared.kinds.Down.{Down}
 use Rattle.downsample.specs.Downsampling.{GivesDown}
 use Rattle.downsample.specs.declared.downsampling.DownFault.{DownFault}
 use Rattle.downsample.specs.declared.bucket_fold.BucketFold.{BucketFold}
-use Rattle.span_merge.specs.KeptPoints.{FoldsBy, FoldsFor}
+use Rattle.downsample.specs.BucketFolds.{Folds}
+use Rattle.downsample.specs.Folding.{in_buckets}
+use Rattle.downsample.proofs.Filling.{not_filled}
+use Rattle.span_merge.specs.KeptPoints.{FoldsFor}
 use Rattle.span_merge.specs.KeptPoints as kept_points
 use Rattle.span_merge.specs.declared.kept_points.Kept.{Kept}
 use Rattle.span_merge.specs.declared.kept_points.Kept.TheVariants.{Points, Buckets}
 use Rattle.series_groups.specs.declared.named_series.Series as kept
+use Rattle.series_groups.specs.FilledSeries.{IsUnfilled}
 use Rattle.series_groups.specs.QueryAnswers.{all_or_least, down_to}
-use Rattle.series_groups.specs.SeriesGroups.{IsDown, Keeps}
+use Rattle.series_groups.specs.SeriesGroups.{Keeps}
 use Rattle.series_groups.specs.KeptSeries.{PointsOf, dots_kept, KeepsWithin, KeepsEach}
 use Rattle.series_groups.specs.NamedSeries.{AreEarly}
 use Rattle.series_groups.proofs.Lists.{joined, joined_none, joined_more}
@@ -26,16 +30,17 @@ pub same_points : (how : Option Down) (kept : Kept) (dots points : List (ℕ × 
 same_points how kept dots points is keeps = subst (λ (k : Kept). kept_points.Keeps how k points) is keeps
 
 -- the buckets are those of the points
-pub folds_by : (how : Option Down) (kept : Kept) (down : Down) (boxed : Box BucketFold) (fold : BucketFold) (points : List (ℕ × ℤ)) → fold ≡ box_value boxed → kept ≡ Buckets boxed → how ≡ Some down → kept_points.Keeps how kept points → FoldsBy down fold points
-folds_by how kept down boxed fold points same is how_is keeps =
-    subst (λ (f : BucketFold). FoldsBy down f points) (sym same) (subst (λ (h : Option Down). FoldsFor h (box_value boxed) points) how_is (subst (λ (k : Kept). kept_points.Keeps how k points) is keeps))
+pub folded : (how : Option Down) (kept : Kept) (boxed : Box BucketFold) (fold : BucketFold) (points : List (ℕ × ℤ)) → fold ≡ box_value boxed → kept ≡ Buckets boxed → kept_points.Keeps how kept points → FoldsFor how fold points
+folded how kept boxed fold points same is keeps = subst (λ (f : BucketFold). FoldsFor how f points) (sym same) (subst (λ (k : Kept). kept_points.Keeps how k points) is keeps)
 
--- without a downsample there are none
-pub no_buckets : (how : Option Down) (kept : Kept) (fold : Box BucketFold) (points : List (ℕ × ℤ)) → kept ≡ Buckets fold → how ≡ None → kept_points.Keeps how kept points → ⊥
-no_buckets how kept fold points is how_is keeps = subst (λ (h : Option Down). FoldsFor h (box_value fold) points) how_is (subst (λ (k : Kept). kept_points.Keeps how k points) is keeps)
+pub folds_points : (how : Option Down) (fold : BucketFold) (points : List (ℕ × ℤ)) → FoldsFor how fold points → Folds fold points
+folds_points None fold points folds = absurd folds
+folds_points (Some down) fold points folds = folds.folds
 
-pub is_down : (how : Option Down) (down : Down) (start end : ℕ) → how ≡ Some down → IfSome how (IsDown start end) → IsDown start end down
-is_down how down start end is can = subst (λ (h : Option Down). IfSome h (IsDown start end)) is can
+-- they are the downsampled series
+pub fold_ends : (how : Option Down) (start end : ℕ) (fold : BucketFold) (points : List (ℕ × ℤ)) (result : Result (List (ℕ × ℤ)) DownFault) → IsUnfilled how → FoldsFor how fold points → GivesDown result (in_buckets fold.function fold.interval points) → GivesDown result (down_to how start end points)
+fold_ends None start end fold points result plain folds gives = absurd folds
+fold_ends (Some down) start end fold points result plain folds gives = not_filled down start end points result plain folds.folds.0 (subst (GivesDown result) (λ j. in_buckets (folds.function j) (folds.interval j) points) gives)
 
 early_all : (end : ℕ) (points : List (ℕ × ℤ)) → end ≤ LAST_TIME → All (λ (d : ℕ × ℤ). d.0 ≤ end) points → AreEarly points
 early_all end points most high k d within = let up : (get_or points k d).0 ≤ end = high k d within in omega (arith, most, up)

@@ -16,7 +16,8 @@ use Rattle.tsd_base.specs.declared.kinds.Function.{Function}
 use Rattle.tsd_base.specs.declared.kinds.Down.{Down}
 use Rattle.query_text.specs.declared.queries.Query.{Query}
 use Rattle.query_text.specs.declared.queries.Sub.{Sub}
-use Rattle.downsample.specs.Buckets.{all_buckets, bucket_of, buckets_from, buckets_of, value_of, values_in}
+use Rattle.downsample.specs.Buckets.{all_buckets, bucket_of, buckets_of, value_of, values_in}
+use Rattle.lerp_aggregate.specs.FilledGroups.{times_from}
 use Rattle.downsample.specs.declared.downsampling.DownFault.{DownFault}
 use Rattle.downsample.specs.declared.downsampling.DownFault.TheVariants as down
 use Rattle.downsample.specs.Downsampling.{GivesDown, buckets_for, downsampled, in_order, point_before, valued}
@@ -145,14 +146,14 @@ buckets_are interval some (p ∷ points) early =
     (bucket_is interval p.0 some (All-head (λ (d : ℕ × ℤ). d.0 < 2 ^ 43) p points early))
     (All-filter (λ bucket. not (nat_eq bucket (bucket_of interval p.0))) (IsBucket interval) (buckets_of interval points) (buckets_are interval some points (All-tail (λ (d : ℕ × ℤ). d.0 < 2 ^ 43) p points early)))
 
-buckets_up_to : (interval m n last : ℕ) → last < 2 ^ 43 → interval * (m + n) ≤ last + interval → (bucket : ℕ) → bucket ≡ interval * m → All (IsBucket interval) (buckets_from interval bucket n)
+buckets_up_to : (interval m n last : ℕ) → last < 2 ^ 43 → interval * (m + n) ≤ last + interval → (bucket : ℕ) → bucket ≡ interval * m → All (IsBucket interval) (times_from interval bucket n)
 buckets_up_to interval m zero last low le bucket is = All-nil (IsBucket interval)
 buckets_up_to interval m (suc n) last low le bucket is =
-    All-cons (IsBucket interval) bucket (buckets_from interval (bucket + interval) n)
+    All-cons (IsBucket interval) bucket (times_from interval (bucket + interval) n)
     (record { multiple = m; is = is; early = omega (arith, is, le, low) })
     (buckets_up_to interval (m + 1) n last low (omega (arith, le)) (bucket + interval) (omega (arith, is)))
 
-all_buckets_are : (interval start end : ℕ) → 1 ≤ interval → start ≤ end → end < 2 ^ 43 → All (IsBucket interval) (all_buckets interval start end)
+pub all_buckets_are : (interval start end : ℕ) → 1 ≤ interval → start ≤ end → end < 2 ^ 43 → All (IsBucket interval) (all_buckets interval start end)
 all_buckets_are interval start end some order low =
     buckets_up_to interval (start / interval) (end / interval - start / interval + 1) end low (at (below_or (start / interval) (end / interval))) (bucket_of interval start) (omega (arith, cut start))
   where
@@ -191,7 +192,7 @@ keys_are P es all =
     let d = map_in (λ (d : ℕ × ℤ). d.0) es w.0 w.1 in
     subst P (d.2 ∙ sym (equal_is t w.0 (nat_cmp t w.0) refl w.2)) (All-contains (λ (d : ℕ × ℤ). P d.0) es d.0 all d.1))
 
-ordered_are : (P : ℕ → Type 0) (es : Dots) → All (λ (d : ℕ × ℤ). P d.0) es → All (λ (d : ℕ × ℤ). P d.0) (in_order es)
+pub ordered_are : (P : ℕ → Type 0) (es : Dots) → All (λ (d : ℕ × ℤ). P d.0) es → All (λ (d : ℕ × ℤ). P d.0) (in_order es)
 ordered_are P es all =
     all_of (λ (d : ℕ × ℤ). P d.0) (in_order es)
     (λ d c. All-contains P (keys (from_entries {R = nat_cmp} es)) d.0 (keys_are P es all) (in_map (λ (e : ℕ × ℤ). e.0) (in_order es) d c))

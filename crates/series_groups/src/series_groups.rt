@@ -3,20 +3,25 @@ ghost use Rattle.std.specs.Prelude.{◌≡◌, ◌≤◌, ◌++◌, ◌∷◌, [
 ghost use Rattle.tsd_base.specs.declared.times.TheConstants.{LAST_TIME};
 ghost use Rattle.tsd_base.specs.declared.kinds.Aggregator.TheVariants.{NoneOf};
 ghost use Rattle.json_reply.specs.Replies.{IsReady, plain};
+ghost use Rattle.lerp_aggregate.specs.Aggregation.{aggregated, GivesAggregate};
+ghost use Rattle.lerp_aggregate.specs.FilledGroups.{IsOn, filled};
+ghost use Rattle.downsample.specs.Buckets.{all_buckets};
 ghost use Rattle.downsample.specs.Downsampling.{GivesDown};
+ghost use Rattle.series_groups.specs.FilledSeries.{AreOn, GivesUnfilled, IsUnfilled, filled_to, unfilled};
 ghost use Rattle.series_groups.specs.QueryAnswers.{all_or_least, answer, down_by, down_to, function_of, group_of};
 ghost use Rattle.series_groups.specs.SeriesGroups.{AddsMember, AreGroups, AreSeriesFor, AreWhole, GivesGroup, GivesGroups, GivesLists, IsDown, IsWorkable, Keeps, KeepsFor, earliest, group_with};
 ghost use Rattle.series_groups.specs.KeptSeries.{KeepsEach, KeepsWithin, PointsOf, all_with_points, dots_kept};
-ghost use Rattle.series_groups.specs.NamedSeries.{points_in};
+ghost use Rattle.series_groups.specs.NamedSeries.{AreEarly, points_in};
 
 use crate::group_key::GroupKey;
 use crate::named_series::Series;
 use downsample::DownFault;
-use downsample::fold_ends::finish_by;
+use downsample::intervals::{bucket_of, buckets};
 use downsample::own_buckets::down_owned;
 use group_by::shared_tags::shared;
 use json_reply::reply::Group;
 use lerp_aggregate::aggregation::{AggFault, aggregate};
+use lerp_aggregate::filled_groups::aggregate_filled;
 use query_text::queries::{Query, Sub};
 use span_merge::kept_points::Kept;
 use std::alloc::{AllocError, Global};
@@ -105,8 +110,8 @@ fn group_with(
     ensures ready { IfOk result IsReady }
 {
     let how = down_of(query, sub);
-    let (tags, lists) = apart(alloc, how, query, series)?;
-    match aggregate(alloc, &lists, sub.how) {
+    let (tags, lists) = unfilled_lists(alloc, how, query, series)?;
+    match aggregate_with_fill(alloc, &lists, sub.how, how, query) {
         Ok(dps) => Ok(tagged(alloc, query.ms, &sub.metric, &tags, dps)?),
         Err(fault) => Err(fault),
     }
@@ -146,6 +151,36 @@ fn function_of(how: Aggregator) -> Function
     }
 }
 
+/// The tags of series, and their points without those of a fill. Of the overflows of all series the least time is told.
+fn unfilled_lists(
+    alloc: Global,
+    how: Option<Down>,
+    query: &Query,
+    series: Vec<Series>,
+) -> Result<(Vec<Tags>, Vec<Dots>), AggFault>
+    requires order { query.now.start ≤ query.now.end }
+    requires most { query.now.end ≤ LAST_TIME }
+    requires down { IfSome how (IsDown query.now.start query.now.end) }
+    requires kept { (of : PointsOf) × KeepsEach how query.now.start query.now.end of series.items }
+    ensures { (of : PointsOf) → KeepsEach how query.now.start query.now.end of series.items → GivesUnfilled how query.now.start query.now.end result series.items (all_or_least (map (down_to how query.now.start query.now.end) (dots_kept of series.items))) }
+{
+    apart(alloc, unfilled(how), query, series)
+}
+
+/// A downsample without its fill.
+fn unfilled(how: Option<Down>) -> Option<Down>
+    ensures { result ≡ unfilled how }
+{
+    match how {
+        Some(how) => Some(Down {
+            interval: how.interval,
+            function: how.function,
+            fill: Fill::NoFill,
+        }),
+        None => None,
+    }
+}
+
 /// The tags and the points of series, which are downsampled where that is asked. Of the overflows of all series the least time is told.
 fn apart(
     alloc: Global,
@@ -156,6 +191,7 @@ fn apart(
     requires order { query.now.start ≤ query.now.end }
     requires most { query.now.end ≤ LAST_TIME }
     requires down { IfSome how (IsDown query.now.start query.now.end) }
+    requires unfilled { IsUnfilled how }
     requires kept { (of : PointsOf) × KeepsEach how query.now.start query.now.end of series.items }
     ensures { (of : PointsOf) → KeepsEach how query.now.start query.now.end of series.items → GivesLists result series.items (all_or_least (map (down_to how query.now.start query.now.end) (dots_kept of series.items))) }
 {
@@ -212,15 +248,13 @@ fn finish(
     requires order { start ≤ end }
     requires most { end ≤ LAST_TIME }
     requires down { IfSome how (IsDown start end) }
+    requires unfilled { IsUnfilled how }
     requires kept { (points : List (ℕ × ℤ)) × KeepsWithin how start end kept points }
     ensures { (points : List (ℕ × ℤ)) → KeepsWithin how start end kept points → GivesDown result (down_to how start end points) }
 {
     match kept {
         Kept::Points { dots } => down_to(alloc, dots, how, start, end),
-        Kept::Buckets { fold } => match how {
-            Some(how) => finish_by(alloc, Box::into_inner(fold), how, start, end),
-            None => unreachable!(),
-        },
+        Kept::Buckets { fold } => Box::into_inner(fold).finish(),
     }
 }
 
@@ -241,6 +275,50 @@ fn down_to(
         Some(how) => down_owned(alloc, dots, how, start, end),
         None => Ok(dots),
     }
+}
+
+/// The one value that series make at each time. Under a fill of zeros each of them has a value in all buckets.
+fn aggregate_with_fill(
+    alloc: Global,
+    lists: &[Dots],
+    how: Aggregator,
+    down: Option<Down>,
+    query: &Query,
+) -> Result<Dots, AggFault>
+    requires order { query.now.start ≤ query.now.end }
+    requires most { query.now.end ≤ LAST_TIME }
+    requires down { IfSome down (IsDown query.now.start query.now.end) }
+    requires early { All AreEarly lists.now }
+    requires on { AreOn down query.now.start query.now.end lists.now }
+    requires alone { how ≡ NoneOf → length lists.now ≡ 1 }
+    ensures { GivesAggregate result (aggregated how (filled_to down query.now.start query.now.end lists.now)) }
+{
+    match down {
+        Some(down) => match down.fill {
+            Fill::NoFill => aggregate(alloc, lists, how),
+            Fill::Zero => aggregate_in(alloc, lists, how, down.interval, query),
+        },
+        None => aggregate(alloc, lists, how),
+    }
+}
+
+/// The one value that series make in each bucket, where each of them has a value in all.
+fn aggregate_in(
+    alloc: Global,
+    lists: &[Dots],
+    how: Aggregator,
+    interval: u64,
+    query: &Query,
+) -> Result<Dots, AggFault>
+    requires interval { 1 ≤ interval }
+    requires order { query.now.start ≤ query.now.end }
+    requires most { query.now.end ≤ LAST_TIME }
+    requires on { All (IsOn (all_buckets interval query.now.start query.now.end)) lists.now }
+    ensures { GivesAggregate result (aggregated how (map (filled (all_buckets interval query.now.start query.now.end)) lists.now)) }
+{
+    let first = bucket_of(interval, query.start);
+    let count = buckets(query.start, query.end, interval);
+    aggregate_filled(alloc, lists, how, first, interval, count)
 }
 
 /// The group of these points, with the tags that all of its series have.

@@ -1,9 +1,9 @@
 -- Connections that are given back worker by worker.
 use Rattle.std.proofs.Common.{◌≡◌, ◌≢◌, ℕ, ◌+◌, ◌-◌, ◌^◌, ◌≤◌, Bool, true, false, ◌&&◌, List, [], ◌∷◌, ◌++◌, length, ◌⊎◌, inl, inr, ⊎_elim, refl, sym, subst, ap, ◌∙◌, append_assoc, append-nil, length-append, arith}
 use Rattle.std.specs.List.{sum_by}
-use Rattle.std.specs.Prelude.{Option, None, Some, Result, Ok, Err, IfOk, OnErr, is_ok, min, filter, All, Contains, map}
+use Rattle.std.specs.Prelude.{Option, None, Some, Result, Ok, Err, IfOk, IfSome, OnErr, is_ok, option_to_list, min, filter, All, Contains, map}
 use Rattle.std.proofs.lemmas.Bool.{true≢false}
-use Rattle.std.proofs.lemmas.List.Elements.{All-head, All-nil, All-push, All-tail, Contains-append_cases, Contains-append_left, Contains-append_right, filter-append}
+use Rattle.std.proofs.lemmas.List.Elements.{All-head, All-nil, All-pop, All-push, All-tail, Contains-append_cases, Contains-append_left, Contains-append_right, filter-append}
 use Rattle.std.proofs.lemmas.List.Sums.{sum_by-cons, sum_by_push}
 use Rattle.std.proofs.lemmas.Grind.{flat_map-append}
 use mathlib.Core.List.{map-append, map-map}
@@ -25,8 +25,8 @@ use Rattle.step_count.proofs.CallerLemmas.{none_different, one_different, differ
 use Rattle.region_locks.specs.CallerViews.{MadeNoMore, numbers_of}
 use Rattle.point_put.specs.Admissions.{Admission}
 use Rattle.tsd_daemon.specs.declared.served.Served.{Served}
-use Rattle.conn_workers.specs.ServedLinks.{OnlyServed, ServedLink, WorkerServed, clock_fault_count, is_clock_fault}
-use Rattle.site_workers.specs.GatheredLinks.{CallerLinks, Gathered, GivenBack, SiteCounts, TakenBack, callers_of, links_of, returned_by}
+use Rattle.conn_workers.specs.ServedLinks.{ClockTold, OnlyServed, ServedLink, ServingTerms, WorkerServed, clock_fault_count, is_clock_fault}
+use Rattle.site_workers.specs.GatheredLinks.{CallerLinks, Gathered, GivenBack, ReturnsTold, SiteCounts, TakenBack, callers_of, links_of, returned_by}
 
 -- a list that is told, and then more
 ends_more : (a b c : Option (List Shut)) (xs ys : List Shut) → AllEnd a b xs → AllEnd b c ys → AllEnd a c (xs ++ ys)
@@ -75,15 +75,15 @@ own_new own s same different = record {
 }
 
 -- nothing was given back yet
-pub none_gathered : (T U : Type 0) (c : Admission) (moments : Option (List ℕ)) (s : Seen) (numbers : List ℕ) (back : Option (List Shut)) (faults : ℕ) (ends : List Served) → ends ≡ [] → Gathered T U c moments s numbers 0 back back faults faults ends
-none_gathered T U c moments s numbers back faults ends none = record {
+pub none_gathered : (terms : ServingTerms) (s : Seen) (numbers : List ℕ) (told : ReturnsTold) (ends : List Served) → ends ≡ [] → Gathered terms s numbers 0 told told ends
+none_gathered terms s numbers told ends none = record {
   callers = [];
   count_is = refl;
   different = none_different;
   among = λ number has. absurd (not_in number has);
-  served = λ h law fits. All-nil (λ (k : CallerLinks). OnlyServed T U c moments h k.caller k.last k.links);
+  served = λ h law fits. All-nil (λ (k : CallerLinks). OnlyServed terms h k.caller k.last k.links);
   none_behind = λ k has. absurd (not_in k has);
-  given = record { doors = none_end back; ends_are = none; clock_faults = omega arith };
+  given = record { doors = none_end told.back; ends_are = none; clock_faults = omega arith };
 }
 
 -- none made an entry behind what one had seen, nor behind what is seen later
@@ -94,10 +94,10 @@ behind_later s s' caller last later made mine before h fits place e le own at =
     before h (later.fits h fits) place e saw.0 own at
 
 -- more was seen, and the clock's count rose
-pub gathered_later : (T U : Type 0) (c : Admission) (moments : Option (List ℕ)) (s s' : Seen) (numbers numbers' : List ℕ) (count : ℕ) (back back' : Option (List Shut)) (faults n n' : ℕ) (ends : List Served)
-    → ((number : ℕ) → Contains numbers number → Contains numbers' number) → ((number : ℕ) → Contains numbers number → IsOwn s number) → Extends s s' → MadeNoMore s s' → n ≤ n' → Gathered T U c moments s numbers count back back' faults n ends
-    → Gathered T U c moments s' numbers' count back back' faults n' ends
-gathered_later T U c moments s s' numbers numbers' count back back' faults n n' ends more_numbers own_are later made le g = record {
+pub gathered_later : (terms : ServingTerms) (s s' : Seen) (numbers numbers' : List ℕ) (count : ℕ) (first told : ReturnsTold) (n : ℕ) (ends : List Served)
+    → ((number : ℕ) → Contains numbers number → Contains numbers' number) → ((number : ℕ) → Contains numbers number → IsOwn s number) → Extends s s' → MadeNoMore s s' → told.clock_faults ≤ n → Gathered terms s numbers count first told ends
+    → Gathered terms s' numbers' count first (record told { clock_faults = n }) ends
+gathered_later terms s s' numbers numbers' count first told n ends more_numbers own_are later made le g = record {
   callers = g.callers;
   count_is = g.count_is;
   different = g.different;
@@ -107,20 +107,20 @@ gathered_later T U c moments s s' numbers numbers' count back back' faults n n' 
   given = record { doors = g.given.doors; ends_are = g.given.ends_are; clock_faults = more g.given.clock_faults };
 }
   where
-    more : min (faults + clock_fault_count (links_of g.callers)) (2 ^ 64 - 1) ≤ n → min (faults + clock_fault_count (links_of g.callers)) (2 ^ 64 - 1) ≤ n'
+    more : min (first.clock_faults + clock_fault_count (links_of g.callers)) (2 ^ 64 - 1) ≤ told.clock_faults → min (first.clock_faults + clock_fault_count (links_of g.callers)) (2 ^ 64 - 1) ≤ n
     more few = omega (arith, few, le)
 
 -- one caller more, whatever was given back
-caller_more : (T U : Type 0) (c : Admission) (moments : Option (List ℕ)) (s s' : Seen) (numbers numbers' : List ℕ) (count : ℕ) (one : CallerLinks) (back b b' : Option (List Shut)) (faults n n' : ℕ) (ends ends' : List Served)
-    → IsNew numbers numbers' one.caller → ((number : ℕ) → Contains numbers number → IsOwn s number) → Extends s s' → MadeNoMore s s' → InEach s' (λ h. OnlyServed T U c moments h one.caller one.last one.links)
-    → ((h : History) → Fits s' h → (place : ℕ) (e : Entry) → place ≤ s'.length → e.caller ≡ one.caller → entry_at h place ≡ Some e → place ≤ one.last) → (g : Gathered T U c moments s numbers count back b faults n ends)
-    → GivenBack back b' faults n' ends' (links_of g.callers ++ returned_by one) → Gathered T U c moments s' numbers' (count + 1) back b' faults n' ends'
-caller_more T U c moments s s' numbers numbers' count one back b b' faults n n' ends ends' new own_are later made served behind g given = record {
+caller_more : (terms : ServingTerms) (s s' : Seen) (numbers numbers' : List ℕ) (count : ℕ) (one : CallerLinks) (first told told' : ReturnsTold) (ends ends' : List Served)
+    → IsNew numbers numbers' one.caller → ((number : ℕ) → Contains numbers number → IsOwn s number) → Extends s s' → MadeNoMore s s' → InEach s' (λ h. OnlyServed terms h one.caller one.last one.links)
+    → ((h : History) → Fits s' h → (place : ℕ) (e : Entry) → place ≤ s'.length → e.caller ≡ one.caller → entry_at h place ≡ Some e → place ≤ one.last) → (g : Gathered terms s numbers count first told ends)
+    → GivenBack first told' ends' (links_of g.callers ++ returned_by one) → Gathered terms s' numbers' (count + 1) first told' ends'
+caller_more terms s s' numbers numbers' count one first told told' ends ends' new own_are later made served behind g given = record {
   callers = g.callers ++ one ∷ [];
   count_is = length_push g.callers one ∙ ap (λ k. k + 1) g.count_is;
   different = subst AreDifferent (sym numbers_are) (different_among numbers (one.caller ∷ []) (callers_of g.callers) (one.caller ∷ []) new.different g.different (one_different one.caller) g.among (λ number has. has));
   among = λ number has. new.among number (more_in number (subst (λ (l : List ℕ). Contains l number) numbers_are has));
-  served = λ h law fits. All-push (λ (k : CallerLinks). OnlyServed T U c moments h k.caller k.last k.links) g.callers one (g.served h law (later.fits h fits)) (served h law fits);
+  served = λ h law fits. All-push (λ (k : CallerLinks). OnlyServed terms h k.caller k.last k.links) g.callers one (g.served h law (later.fits h fits)) (served h law fits);
   none_behind = λ k has. ⊎_elim
       (λ i. behind_later s s' k.caller k.last later made (own_are k.caller (g.among k.caller (in_map (λ (k : CallerLinks). k.caller) g.callers k i))) (g.none_behind k i))
       (λ i. ⊎_elim
@@ -128,7 +128,7 @@ caller_more T U c moments s s' numbers numbers' count one back b b' faults n n' 
       (λ none. absurd (not_in k none))
       (split one k [] i))
       (Contains-append_cases g.callers (one ∷ []) k has);
-  given = subst (GivenBack back b' faults n' ends') (sym (links_more g.callers one)) given;
+  given = subst (GivenBack first told' ends') (sym (links_more g.callers one)) given;
 }
   where
     numbers_are : callers_of (g.callers ++ one ∷ []) ≡ callers_of g.callers ++ one.caller ∷ []
@@ -142,14 +142,13 @@ worker_behind : (w s' : Seen) → MadeNoMore w s' → (h : History) → Fits s' 
 worker_behind w s' made h fits place e le own at = (made h fits place e le (inl own) at).0
 
 -- the connections that a worker served were given back
-gathered_more : {K : Type 0} (shown : K → Shut) (T U : Type 0) (c : Admission) (moments : Option (List ℕ)) (by : Admission) (s s' w : Seen) (numbers numbers' : List ℕ) (count : ℕ) (now : Option (List ℕ)) (back b b' : Option (List Shut)) (faults n n' twin : ℕ)
-    (ends ends' : List Served) (served : List (K × Served)) → IsNew numbers numbers' w.caller → ((number : ℕ) → Contains numbers number → IsOwn s number) → Extends s s' → MadeNoMore s s' → Extends w s' → MadeNoMore w s' → n' ≡ joined n twin
-    → WorkerServed T U c moments by w now twin (map (λ one. (shown one.0, one.1)) served)
-    → AllEnd b b' (map (λ one. shown one.0) served) → ends' ≡ ends ++ map (λ one. one.1) served → Gathered T U c moments s numbers count back b faults n ends → Gathered T U c moments s' numbers' (count + 1) back b' faults n' ends'
-gathered_more {K = K} shown T U c moments by s s' w numbers numbers' count now back b b' faults n n' twin ends ends' served new own_are mine made theirs theirs_made rose ws backs are g =
-    caller_more T U c moments s s' numbers numbers' count (record { caller = w.caller; last = w.length; links = links; returned = true }) back b b' faults n n' ends ends' new own_are mine made (λ h law fits. ws.served h law (theirs.fits h fits)) (worker_behind w s' theirs_made) g (record {
-      doors = subst (AllEnd back b') (ap (λ l. map (λ (l : ServedLink). l.0) (links_of g.callers) ++ l) (sym (map-map (λ (l : ServedLink). l.0) pair served)) ∙ sym (map-append (λ (l : ServedLink). l.0) (links_of g.callers) links))
-          (ends_more back b b' _ _ g.given.doors backs);
+gathered_more : {K : Type 0} (shown : K → Shut) (terms : ServingTerms) (by : Admission) (s s' w : Seen) (numbers numbers' : List ℕ) (count : ℕ) (twin : ClockTold) (first told told' : ReturnsTold) (ends ends' : List Served) (served : List (K × Served)) → IsNew numbers numbers' w.caller → ((number : ℕ) → Contains numbers number → IsOwn s number) → Extends s s' → MadeNoMore s s' → Extends w s' → MadeNoMore w s' → told'.clock_faults ≡ joined told.clock_faults twin.faults
+    → WorkerServed terms by w twin (map (λ one. (shown one.0, one.1)) served)
+    → AllEnd told.back told'.back (map (λ one. shown one.0) served) → ends' ≡ ends ++ map (λ one. one.1) served → Gathered terms s numbers count first told ends → Gathered terms s' numbers' (count + 1) first told' ends'
+gathered_more {K = K} shown terms by s s' w numbers numbers' count twin first told told' ends ends' served new own_are mine made theirs theirs_made rose ws backs are g =
+    caller_more terms s s' numbers numbers' count (record { caller = w.caller; last = w.length; links = links; returned = true }) first told told' ends ends' new own_are mine made (λ h law fits. ws.served h law (theirs.fits h fits)) (worker_behind w s' theirs_made) g (record {
+      doors = subst (AllEnd first.back told'.back) (ap (λ l. map (λ (l : ServedLink). l.0) (links_of g.callers) ++ l) (sym (map-map (λ (l : ServedLink). l.0) pair served)) ∙ sym (map-append (λ (l : ServedLink). l.0) (links_of g.callers) links))
+          (ends_more first.back told.back told'.back _ _ g.given.doors backs);
       ends_are = are ∙ ap (λ l. l ++ map (λ (o : K × Served). o.1) served) g.given.ends_are ∙ ap (λ l. map (λ (l : ServedLink). l.1) (links_of g.callers) ++ l) (sym (map-map (λ (l : ServedLink). l.1) pair served))
           ∙ sym (map-append (λ (l : ServedLink). l.1) (links_of g.callers) links);
       clock_faults = counts (clock_fault_count (links_of g.callers ++ links)) (clock_fault_count (links_of g.callers)) (clock_fault_count links) (count_joined (links_of g.callers) links) g.given.clock_faults ws.clock_faults;
@@ -161,32 +160,31 @@ gathered_more {K = K} shown T U c moments by s s' w numbers numbers' count now b
     links : List ServedLink
     links = map pair served
 
-    counts : (all k j : ℕ) → all ≡ k + j → min (faults + k) (2 ^ 64 - 1) ≤ n → min j (2 ^ 64 - 1) ≤ twin → min (faults + all) (2 ^ 64 - 1) ≤ n'
+    counts : (all k j : ℕ) → all ≡ k + j → min (first.clock_faults + k) (2 ^ 64 - 1) ≤ told.clock_faults → min j (2 ^ 64 - 1) ≤ twin.faults → min (first.clock_faults + all) (2 ^ 64 - 1) ≤ told'.clock_faults
     counts all k j is few within = omega (arith, is, few, within, rose)
 
 -- for want of memory none of them was, and yet they were served
-gathered_lost : {K : Type 0} (shown : K → Shut) (T U : Type 0) (c : Admission) (moments : Option (List ℕ)) (by : Admission) (s s' w : Seen) (numbers numbers' : List ℕ) (count : ℕ) (now : Option (List ℕ)) (back b : Option (List Shut)) (faults n n' twin : ℕ)
-    (ends : List Served) (served : List (K × Served)) → IsNew numbers numbers' w.caller → ((number : ℕ) → Contains numbers number → IsOwn s number) → Extends s s' → MadeNoMore s s' → Extends w s' → MadeNoMore w s' → n ≤ n'
-    → WorkerServed T U c moments by w now twin (map (λ one. (shown one.0, one.1)) served) → Gathered T U c moments s numbers count back b faults n ends → Gathered T U c moments s' numbers' (count + 1) back b faults n' ends
-gathered_lost {K = K} shown T U c moments by s s' w numbers numbers' count now back b faults n n' twin ends served new own_are mine made theirs theirs_made later ws g =
-    caller_more T U c moments s s' numbers numbers' count (record { caller = w.caller; last = w.length; links = map (λ (one : K × Served). (shown one.0, one.1)) served; returned = false }) back b b faults n n' ends ends new own_are mine made
+gathered_lost : {K : Type 0} (shown : K → Shut) (terms : ServingTerms) (by : Admission) (s s' w : Seen) (numbers numbers' : List ℕ) (count : ℕ) (twin : ClockTold) (first told : ReturnsTold) (n : ℕ) (ends : List Served) (served : List (K × Served)) → IsNew numbers numbers' w.caller → ((number : ℕ) → Contains numbers number → IsOwn s number) → Extends s s' → MadeNoMore s s' → Extends w s' → MadeNoMore w s' → told.clock_faults ≤ n
+    → WorkerServed terms by w twin (map (λ one. (shown one.0, one.1)) served) → Gathered terms s numbers count first told ends → Gathered terms s' numbers' (count + 1) first (record told { clock_faults = n }) ends
+gathered_lost {K = K} shown terms by s s' w numbers numbers' count twin first told n ends served new own_are mine made theirs theirs_made later ws g =
+    caller_more terms s s' numbers numbers' count (record { caller = w.caller; last = w.length; links = map (λ (one : K × Served). (shown one.0, one.1)) served; returned = false }) first told (record told { clock_faults = n }) ends ends new own_are mine made
     (λ h law fits. ws.served h law (theirs.fits h fits)) (worker_behind w s' theirs_made) g
-    (subst (GivenBack back b faults n' ends) (sym (append-nil (links_of g.callers))) (record { doors = g.given.doors; ends_are = g.given.ends_are; clock_faults = more g.given.clock_faults }))
+    (subst (GivenBack first (record told { clock_faults = n }) ends) (sym (append-nil (links_of g.callers))) (record { doors = g.given.doors; ends_are = g.given.ends_are; clock_faults = more g.given.clock_faults }))
   where
-    more : min (faults + clock_fault_count (links_of g.callers)) (2 ^ 64 - 1) ≤ n → min (faults + clock_fault_count (links_of g.callers)) (2 ^ 64 - 1) ≤ n'
+    more : min (first.clock_faults + clock_fault_count (links_of g.callers)) (2 ^ 64 - 1) ≤ told.clock_faults → min (first.clock_faults + clock_fault_count (links_of g.callers)) (2 ^ 64 - 1) ≤ n
     more few = omega (arith, few, later)
 
 -- a worker's connections were given back, or for want of memory none of them was
-pub gathered_either : {K X E : Type 0} (Q : Type 0) (shown : K → Shut) (T U : Type 0) (c : Admission) (moments : Option (List ℕ)) (by : Admission) (s s' w : Seen) (numbers numbers' : List ℕ) (count : ℕ) (now : Option (List ℕ)) (back b b' : Option (List Shut)) (faults n n' twin : ℕ)
-    (ends ends' : List Served) (served : List (K × Served)) (r : Result X E) → IsNew numbers numbers' w.caller → ((number : ℕ) → Contains numbers number → IsOwn s number) → Extends s s' → MadeNoMore s s' → Extends w s' → MadeNoMore w s' → n' ≡ joined n twin → n ≤ n'
-    → WorkerServed T U c moments by w now twin (map (λ one. (shown one.0, one.1)) served)
-    → IfOk r (λ _. AllEnd b b' (map (λ one. shown one.0) served)) → IfOk r (λ _. ends' ≡ ends ++ map (λ one. one.1) served) → OnErr r ((b' ≡ b) × Q × (ends' ≡ ends)) → Gathered T U c moments s numbers count back b faults n ends
-    → Gathered T U c moments s' numbers' (count + 1) back b' faults n' ends'
-gathered_either Q shown T U c moments by s s' w numbers numbers' count now back b b' faults n n' twin ends ends' served (Ok x) new own_are mine made theirs theirs_made rose later ws backs are none g =
-    gathered_more shown T U c moments by s s' w numbers numbers' count now back b b' faults n n' twin ends ends' served new own_are mine made theirs theirs_made rose ws backs are g
-gathered_either Q shown T U c moments by s s' w numbers numbers' count now back b b' faults n n' twin ends ends' served (Err e) new own_are mine made theirs theirs_made rose later ws backs are none g =
-    subst (λ (o : Option (List Shut)). Gathered T U c moments s' numbers' (count + 1) back o faults n' ends') (sym none.0) (subst (Gathered T U c moments s' numbers' (count + 1) back b faults n') (sym none.2)
-    (gathered_lost shown T U c moments by s s' w numbers numbers' count now back b faults n n' twin ends served new own_are mine made theirs theirs_made later ws g))
+pub gathered_either : {K X E : Type 0} (Q : Type 0) (shown : K → Shut) (terms : ServingTerms) (by : Admission) (s s' w : Seen) (numbers numbers' : List ℕ) (count : ℕ) (twin : ClockTold) (first told told' : ReturnsTold) (ends ends' : List Served) (served : List (K × Served)) (r : Result X E) → IsNew numbers numbers' w.caller → ((number : ℕ) → Contains numbers number → IsOwn s number) → Extends s s' → MadeNoMore s s' → Extends w s' → MadeNoMore w s' → told'.clock_faults ≡ joined told.clock_faults twin.faults → told.clock_faults ≤ told'.clock_faults
+    → WorkerServed terms by w twin (map (λ one. (shown one.0, one.1)) served)
+    → IfOk r (λ _. AllEnd told.back told'.back (map (λ one. shown one.0) served)) → IfOk r (λ _. ends' ≡ ends ++ map (λ one. one.1) served) → OnErr r ((told'.back ≡ told.back) × Q × (ends' ≡ ends)) → Gathered terms s numbers count first told ends
+    → Gathered terms s' numbers' (count + 1) first told' ends'
+gathered_either Q shown terms by s s' w numbers numbers' count twin first told told' ends ends' served (Ok x) new own_are mine made theirs theirs_made rose later ws backs are none g =
+    gathered_more shown terms by s s' w numbers numbers' count twin first told told' ends ends' served new own_are mine made theirs theirs_made rose ws backs are g
+gathered_either Q shown terms by s s' w numbers numbers' count twin first told told' ends ends' served (Err e) new own_are mine made theirs theirs_made rose later ws backs are none g =
+    subst (λ (o : Option (List Shut)). Gathered terms s' numbers' (count + 1) first (record { back = o; clock_faults = told'.clock_faults }) ends') (sym none.0)
+    (subst (Gathered terms s' numbers' (count + 1) first (record told { clock_faults = told'.clock_faults })) (sym none.2)
+    (gathered_lost shown terms by s s' w numbers numbers' count twin first told told'.clock_faults ends served new own_are mine made theirs theirs_made later ws g))
 
 -- nobody made an entry between what was seen and the same
 pub made_same : (s : Seen) → MadeNoMore s s
@@ -224,8 +222,8 @@ from_none n = omega arith
 pub one_more_caller : {X : Type 0} (count : ℕ) (xs : List X) (x : X) → count + length xs + 1 ≡ count + length (xs ++ x ∷ [])
 one_more_caller count xs x = let one = length_push xs x in omega (arith, one)
 
-pub callers_counted : (old first now count workers : ℕ) → workers ≡ count → first ≡ old + 1 → now ≡ first + count → now ≡ old + (workers + 1)
-callers_counted old first now count workers same one more = omega (arith, same, one, more)
+pub callers_counted : (old now all workers front left : ℕ) → now ≡ old + all → workers ≡ all → workers ≡ front + 1 → left ≡ front → now ≡ old + (left + 1)
+callers_counted old now all workers front left more whole popped same = omega (arith, more, whole, popped, same)
 
 -- none was to be given back
 pub none_taken : (ends : ℕ) (counts : Counts) → TakenBack true 0 ends ends counts counts
@@ -275,6 +273,13 @@ first_holds xs rest x P are all = All-head P x rest (subst (All P) are all)
 
 pub others_hold : {X : Type 0} (xs rest : List X) (x : X) (P : X → Type 0) → xs ≡ x ∷ rest → All P xs → All P rest
 others_hold xs rest x P are all = All-tail P x rest (subst (All P) are all)
+
+-- those in front of the last, and the last
+pub front_holds : {X : Type 0} (xs front : List X) (r : Option X) (P : X → Type 0) → xs ≡ front ++ option_to_list r → All P xs → All P front
+front_holds xs front r P are all = (All-pop P xs front r are all).0
+
+pub last_holds : {X : Type 0} (xs front : List X) (r : Option X) (x : X) (P : X → Type 0) → xs ≡ front ++ option_to_list r → r ≡ Some x → All P xs → P x
+last_holds {X = X} xs front r x P are is all = subst (λ (o : Option X). IfSome o P) is (All-pop P xs front r are all).1
 
 -- the same list
 pub same_list_holds : {X : Type 0} (xs ys : List X) (P : X → Type 0) → ys ≡ xs → All P xs → All P ys

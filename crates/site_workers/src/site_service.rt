@@ -14,7 +14,7 @@ use compactor::queue::Queue;
 use conn_workers::conn_service::serve_rows;
 use conn_workers::conn_terms::ConnTerms;
 use conn_workers::conn_worker::ConnWorker;
-use conn_workers::worker_seats::{make_worker, make_workers};
+use conn_workers::worker_seats::make_workers;
 use crossbeam_channel::Sender;
 use link_acceptor::accept_loop::AcceptEnd;
 use link_workers::link_ends::{LinkEnds, give_back};
@@ -79,10 +79,14 @@ pub fn serve_connections<
     requires most_workers { workers_each ≤ 16 }
     requires admission { admission config.now rule.now.patterns ≡ J.admission }
     requires moments { C.moments clock.old ≡ J.moments }
-    ensures left { IfOk result (λ s. SiteLeft J.counter J.name D.counts D.waiting D.faults H.stops H.answers doors.old doors.new halt.old halt.new s) }
+    ensures left { IfOk result (λ s. SiteLeft H.answers J.counter J.name
+        (record { waiting = D.waiting doors.old; back = D.back doors.old; counts = D.counts doors.old; faults = D.faults doors.old })
+        (record { waiting = D.waiting doors.new; back = D.back doors.new; counts = D.counts doors.new; faults = D.faults doors.new })
+        (H.stops halt.old) (H.stops halt.new) halt.old halt.new s) }
     ensures gathered { IfOk result (λ s. (count : ℕ) × (length openings.new ≡ length openings.old + count)
-        × Gathered (AllTell D.Inlet.taken) (AllTell D.Outlet.held) J.admission J.moments (seen_of (view_of_pass s.pass)) (numbers_of (seen_of (view_of_pass s.pass)))
-        count (D.back doors.old) (D.back doors.new) (C.faults clock.old) (C.faults clock.new) s.ends.items) }
+        × Gathered (record { admission = J.admission; moments = J.moments; inlets_tell = AllTell D.Inlet.taken; outlets_tell = AllTell D.Outlet.held })
+        (seen_of (view_of_pass s.pass)) (numbers_of (seen_of (view_of_pass s.pass)))
+        count (record { back = D.back doors.old; clock_faults = C.faults clock.old }) (record { back = D.back doors.new; clock_faults = C.faults clock.new }) s.ends.items) }
     ensures stops_later { H.stops halt.old ≤ H.stops halt.new }
     ensures clock_later { C.faults clock.old ≤ C.faults clock.new }
     ensures doors_later { D.faults doors.old ≤ D.faults doors.new }
@@ -92,22 +96,13 @@ pub fn serve_connections<
     ensures halt { OnErr result (halt.new ≡ halt.old) }
 {
     let rows_to = replace(rows_to, Vec::new(alloc));
-    let work = make_worker(
-        rt,
-        alloc,
-        site,
-        openings,
-        rule,
-        config,
-        clock,
-        doors,
-        &rows_to[0],
-    )?;
-    let mut own = LinkEnds::make(alloc, work);
-    let count = rows_to.len() as u32 * workers_each;
+    let count = rows_to.len() as u32 * workers_each + 1;
     let mut workers = make_workers(
         rt, alloc, site, openings, rule, config, clock, doors, &rows_to, count,
     )?;
+    let Some(mut own) = workers.pop() else {
+        unreachable!()
+    };
     let accepted = serve_rows::<J, SitePass<'_, J, G, T>, ToCompactor<'_, T>, T, C, H, D>(
         rt,
         alloc,
@@ -161,17 +156,18 @@ fn gather<'a, J: StepNames + ConnTerms, G: Gate + Drop, T: Wait, C: Clock + Drop
         Served,
     >,
 ) -> HandedBack
-    requires served { All (λ worker. WorkerServed (AllTell D.Inlet.taken) (AllTell D.Outlet.held) J.admission J.moments
-        (admission worker.work.config worker.work.rule.now.patterns) worker.work.names.rows (C.moments worker.work.clock) (C.faults worker.work.clock)
+    requires served { All (λ worker. WorkerServed (record { admission = J.admission; moments = J.moments; inlets_tell = AllTell D.Inlet.taken; outlets_tell = AllTell D.Outlet.held })
+        (admission worker.work.config worker.work.rule.now.patterns) worker.work.names.rows (record { moments = C.moments worker.work.clock; faults = C.faults worker.work.clock })
         (map (λ one. (D.shown one.0, one.1)) worker.ends.items)) workers.items }
-    requires own_served { WorkerServed (AllTell D.Inlet.taken) (AllTell D.Outlet.held) J.admission J.moments
-        (admission own.work.config own.work.rule.now.patterns) own.work.names.rows (C.moments own.work.clock) (C.faults own.work.clock)
+    requires own_served { WorkerServed (record { admission = J.admission; moments = J.moments; inlets_tell = AllTell D.Inlet.taken; outlets_tell = AllTell D.Outlet.held })
+        (admission own.work.config own.work.rule.now.patterns) own.work.names.rows (record { moments = C.moments own.work.clock; faults = C.faults own.work.clock })
         (map (λ one. (D.shown one.0, one.1)) own.ends.items) }
     requires few { sum_by (λ worker. length worker.ends.items) workers.items + length own.ends.items ≤ (D.counts doors.old).out }
     ensures counter { counter_of_pass result.pass ≡ J.counter }
     ensures caller { IsCaller J.name (view_of_pass result.pass) }
-    ensures gathered { Gathered (AllTell D.Inlet.taken) (AllTell D.Outlet.held) J.admission J.moments (seen_of (view_of_pass result.pass)) (numbers_of (seen_of (view_of_pass result.pass)))
-        (length workers.entry.items + 1) (D.back doors.old) (D.back doors.new) (C.faults clock.old) (C.faults clock.new) result.ends.items }
+    ensures gathered { Gathered (record { admission = J.admission; moments = J.moments; inlets_tell = AllTell D.Inlet.taken; outlets_tell = AllTell D.Outlet.held })
+        (seen_of (view_of_pass result.pass)) (numbers_of (seen_of (view_of_pass result.pass)))
+        (length workers.entry.items + 1) (record { back = D.back doors.old; clock_faults = C.faults clock.old }) (record { back = D.back doors.new; clock_faults = C.faults clock.new }) result.ends.items }
     ensures returned { TakenBack result.all (sum_by (λ worker. length worker.ends.items) workers.entry.items + length own.entry.ends.items) 0 (length result.ends.items)
         (D.counts doors.old) (D.counts doors.new) }
     ensures clock_later { C.faults clock.old ≤ C.faults clock.new }

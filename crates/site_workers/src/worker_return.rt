@@ -1,15 +1,14 @@
 //! What workers hand back when they have ended.
-ghost use Rattle.std.specs.Prelude.{◌≡◌, ◌≤◌, ◌+◌, ◌++◌, ℕ, All, List, Option, length, map};
+ghost use Rattle.std.specs.Prelude.{◌≡◌, ◌≤◌, ◌+◌, ◌++◌, ℕ, All, length, map};
 ghost use Rattle.std.specs.List.{sum_by};
 ghost use Rattle.tsd_io.specs.Causes.{joined};
-ghost use Rattle.tsd_doors.specs.Links.{Shut};
 ghost use Rattle.cell_model.specs.Deeds.{Extends};
 ghost use Rattle.cell_model.specs.Seen.{IsOwn};
 ghost use Rattle.step_count.specs.CounterRule.{AreDifferent};
 ghost use Rattle.region_locks.specs.CallerViews.{MadeNoMore, numbers_of};
 ghost use Rattle.point_put.specs.Admissions.{admission};
 ghost use Rattle.conn_workers.specs.ServedLinks.{AllTell, WorkerServed};
-ghost use Rattle.site_workers.specs.GatheredLinks.{Gathered, TakenBack};
+ghost use Rattle.site_workers.specs.GatheredLinks.{Gathered, ReturnsTold, TakenBack};
 
 use cell_store::SitePass;
 use conn_workers::conn_terms::ConnTerms;
@@ -44,13 +43,15 @@ pub(crate) fn take_back<
         Served,
     >,
 ) -> bool
-    requires served { WorkerServed (AllTell D.Inlet.taken) (AllTell D.Outlet.held) J.admission J.moments
-        (admission worker.work.config worker.work.rule.now.patterns) worker.work.names.rows (C.moments worker.work.clock) (C.faults worker.work.clock)
+    requires served { WorkerServed (record { admission = J.admission; moments = J.moments; inlets_tell = AllTell D.Inlet.taken; outlets_tell = AllTell D.Outlet.held })
+        (admission worker.work.config worker.work.rule.now.patterns) worker.work.names.rows (record { moments = C.moments worker.work.clock; faults = C.faults worker.work.clock })
         (map (λ one. (D.shown one.0, one.1)) worker.ends.items) }
     requires few { length worker.ends.items ≤ (D.counts doors.old).out }
-    ensures gathered { (count : ℕ) (back : Option (List Shut)) (faults : ℕ)
-        → Gathered (AllTell D.Inlet.taken) (AllTell D.Outlet.held) J.admission J.moments own.old own.old.absorbed count back (D.back doors.old) faults (C.faults clock.old) ends.old.items
-        → Gathered (AllTell D.Inlet.taken) (AllTell D.Outlet.held) J.admission J.moments own.new own.new.absorbed (count + 1) back (D.back doors.new) faults (C.faults clock.new) ends.new.items }
+    ensures gathered { (count : ℕ) (first : ReturnsTold)
+        → Gathered (record { admission = J.admission; moments = J.moments; inlets_tell = AllTell D.Inlet.taken; outlets_tell = AllTell D.Outlet.held })
+        own.old own.old.absorbed count first (record { back = D.back doors.old; clock_faults = C.faults clock.old }) ends.old.items
+        → Gathered (record { admission = J.admission; moments = J.moments; inlets_tell = AllTell D.Inlet.taken; outlets_tell = AllTell D.Outlet.held })
+        own.new own.new.absorbed (count + 1) first (record { back = D.back doors.new; clock_faults = C.faults clock.new }) ends.new.items }
     ensures later { Extends own.old own.new }
     ensures made { MadeNoMore own.old own.new }
     ensures stays { (number : ℕ) → IsOwn own.old number → IsOwn own.new number }
@@ -87,13 +88,15 @@ pub(crate) fn take_all_back<
         >,
     >,
 ) -> bool
-    requires served { All (λ worker. WorkerServed (AllTell D.Inlet.taken) (AllTell D.Outlet.held) J.admission J.moments
-        (admission worker.work.config worker.work.rule.now.patterns) worker.work.names.rows (C.moments worker.work.clock) (C.faults worker.work.clock)
+    requires served { All (λ worker. WorkerServed (record { admission = J.admission; moments = J.moments; inlets_tell = AllTell D.Inlet.taken; outlets_tell = AllTell D.Outlet.held })
+        (admission worker.work.config worker.work.rule.now.patterns) worker.work.names.rows (record { moments = C.moments worker.work.clock; faults = C.faults worker.work.clock })
         (map (λ one. (D.shown one.0, one.1)) worker.ends.items)) workers.items }
     requires few { sum_by (λ worker. length worker.ends.items) workers.items ≤ (D.counts doors.old).out }
-    ensures gathered { (count : ℕ) (back : Option (List Shut)) (faults : ℕ)
-        → Gathered (AllTell D.Inlet.taken) (AllTell D.Outlet.held) J.admission J.moments own.old own.old.absorbed count back (D.back doors.old) faults (C.faults clock.old) ends.old.items
-        → Gathered (AllTell D.Inlet.taken) (AllTell D.Outlet.held) J.admission J.moments own.new own.new.absorbed (count + length workers.entry.items) back (D.back doors.new) faults (C.faults clock.new) ends.new.items }
+    ensures gathered { (count : ℕ) (first : ReturnsTold)
+        → Gathered (record { admission = J.admission; moments = J.moments; inlets_tell = AllTell D.Inlet.taken; outlets_tell = AllTell D.Outlet.held })
+        own.old own.old.absorbed count first (record { back = D.back doors.old; clock_faults = C.faults clock.old }) ends.old.items
+        → Gathered (record { admission = J.admission; moments = J.moments; inlets_tell = AllTell D.Inlet.taken; outlets_tell = AllTell D.Outlet.held })
+        own.new own.new.absorbed (count + length workers.entry.items) first (record { back = D.back doors.new; clock_faults = C.faults clock.new }) ends.new.items }
     ensures later { Extends own.old own.new }
     ensures made { MadeNoMore own.old own.new }
     ensures stays { (number : ℕ) → IsOwn own.old number → IsOwn own.new number }

@@ -15,7 +15,7 @@ use Rattle.tsd_daemon.specs.declared.served.Served.{Served}
 use Rattle.tsd_daemon.specs.declared.served.Served.TheVariants as answer
 use Rattle.tsd_daemon.specs.Exchanges.Ran.{start}
 use Rattle.tsd_daemon.proofs.CallerLemmas.{no_piece_yet}
-use Rattle.tsd_daemon.specs.ServedConns.{ConnCauses, Fills, IsServed, Passes, Serves}
+use Rattle.tsd_daemon.specs.ServedConns.{ConnCauses, ConnFaults, ConnTold, Fills, IsServed, Passes, Serves}
 use Rattle.point_feed.specs.FedEntries.{fed}
 use Rattle.stdio_job.specs.FedConnections.{PublishesBytes}
 use Rattle.stdio_job.specs.LoneConnections.{IsServedAlone, ServesAlone, TellsBehind}
@@ -84,14 +84,14 @@ nothing_behind w c None = (refl, refl)
 nothing_behind w c (Some prefix) = (refl, refl)
 
 -- without memory nothing was served
-pub none_alone : (w : Widths) (c : Admission) (publish : Option (List ℕ)) (taken left held moments : Option (List ℕ)) (result : Served) → result ≡ answer.OutOfMemory → Passes taken taken left left held held moments moments (ServesAlone w c publish result)
-none_alone w c publish taken left held moments result is = subst (λ (r : Served). Passes taken taken left left held held moments moments (ServesAlone w c publish r)) (sym is) record {
+pub none_alone : (w : Widths) (c : Admission) (publish : Option (List ℕ)) (told : ConnTold) (result : Served) → result ≡ answer.OutOfMemory → Passes told told (ServesAlone w c publish result)
+none_alone w c publish told result is = subst (λ (r : Served). Passes told told (ServesAlone w c publish r)) (sym is) record {
   input = [];
   output = [];
   times = [];
-  takes = Appends-nil taken;
-  leaves = Consumes-nil left;
-  gives = Appends-nil held;
+  takes = Appends-nil told.taken;
+  leaves = Consumes-nil told.left;
+  gives = Appends-nil told.held;
   ticks = refl;
   so = record { replies = []; given = []; output_is = refl; ended = answer.OutOfMemory; alone = none_served w c; fills = nothing_fills; behind = nothing_behind w c publish };
 }
@@ -104,9 +104,8 @@ plain_alone w c result input output times a fills = record { replies = output; g
     append_nil xs = search rules
 
 -- what passed for a connection over a fresh store
-pub passes_published : (w : Widths) (c : Admission) (prefix : List ℕ) (old new : Seen) (taken taken' left left' held held' moments moments' : Option (List ℕ)) (result : Served) → IsFresh w old
-    → Passes taken taken' left left' held held' moments moments' (PublishesBytes c prefix old result new) → Passes taken taken' left left' held held' moments moments' (ServesAlone w c (Some prefix) result)
-passes_published w c prefix old new taken taken' left left' held held' moments moments' result fresh p = record {
+pub passes_published : (w : Widths) (c : Admission) (prefix : List ℕ) (old new : Seen) (before after : ConnTold) (result : Served) → IsFresh w old → Passes before after (PublishesBytes c prefix old result new) → Passes before after (ServesAlone w c (Some prefix) result)
+passes_published w c prefix old new before after result fresh p = record {
   input = p.input;
   output = p.output;
   times = p.times;
@@ -118,5 +117,5 @@ passes_published w c prefix old new taken taken' left left' held held' moments m
 }
 
 -- causes, with counts of stops that are the same
-pub stops_as : (r r' w w' s s' t t' s2 s2' : ℕ) (x : Served) → s ≡ s2 → s' ≡ s2' → ConnCauses r r' w w' s s' t t' x → ConnCauses r r' w w' s2 s2' t t' x
-stops_as r r' w w' s s' t t' s2 s2' x a b c = subst (λ (p : ℕ × ℕ). ConnCauses r r' w w' p.0 p.1 t t' x) (λ i. (a i, b i)) c
+pub stops_as : (before after : ConnFaults) (stops stops' : ℕ) (x : Served) → before.stops ≡ stops → after.stops ≡ stops' → ConnCauses before after x → ConnCauses (record before { stops = stops }) (record after { stops = stops' }) x
+stops_as before after stops stops' x a b c = subst (λ (p : ℕ × ℕ). ConnCauses (record before { stops = p.0 }) (record after { stops = p.1 }) x) (λ i. (a i, b i)) c

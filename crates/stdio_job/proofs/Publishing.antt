@@ -1,7 +1,6 @@
 -- What is fed by the steps of a connection is what is published.
 use Rattle.std.proofs.Common.{◌≡◌, ◌≤◌, ◌^◌, inl, inr, ℕ, List, [], ◌++◌, refl, sym, ap, subst, ◌∙◌, arith}
 use Rattle.std.specs.Prelude.{Option, None, length}
-use Rattle.std.specs.Io.KnownBytes.{Appends}
 use Rattle.std.proofs.KnownBytes.{Appends-nil, Appends-trans, Consumes-nil}
 use Rattle.cell_model.specs.Seen.{Seen}
 use Rattle.cell_laws.proofs.CallerLemmas.{nothing_made}
@@ -11,7 +10,7 @@ use Rattle.tsd_daemon.specs.declared.served.Served.{Served}
 use Rattle.tsd_daemon.specs.declared.served.Served.TheVariants as answer
 use Rattle.tsd_daemon.specs.Exchanges.Ran.{start}
 use Rattle.tsd_daemon.proofs.CallerLemmas.{no_piece_yet}
-use Rattle.tsd_daemon.specs.ServedConns.{Fills, Passes, ServesBytes}
+use Rattle.tsd_daemon.specs.ServedConns.{ConnTold, Fills, Passes, ServesBytes}
 use Rattle.stdio_job.specs.FedConnections.{PublishesBytes}
 use Rattle.stdio_job.specs.Publications.{GavePublished, Tells, TellsAll, published, published_text}
 
@@ -45,16 +44,16 @@ fills_told answer.SessionFull result text given n tells fills = subst (λ (r : S
 fills_told answer.OutOfMemory result text given n tells fills = subst (λ (r : Served). Fills r n) (sym tells.0) fills
 
 -- the replies, and behind them what is published
-pub published_bytes : (c : Admission) (prefix : List ℕ) (first old new : Seen) (taken taken' left left' held held' held2 moments moments' : Option (List ℕ)) (ended result : Served) (lines : List ℕ) (count : ℕ)
-    → old ≡ first → Passes taken taken' left left' held held' moments moments' (ServesBytes c old ended new) → FeedsSince prefix first new lines count → GavePublished ended result (published_text count lines) held' held2
-    → Passes taken taken' left left' held held2 moments moments' (PublishesBytes c prefix first result new)
-published_bytes c prefix first old new taken taken' left left' held held' held2 moments moments' ended result lines count is p (list, made, l) (given, gives, tells) = record {
+pub published_bytes : (c : Admission) (prefix : List ℕ) (first old new : Seen) (before after : ConnTold) (held : Option (List ℕ)) (ended result : Served) (lines : List ℕ) (count : ℕ)
+    → old ≡ first → Passes before after (ServesBytes c old ended new) → FeedsSince prefix first new lines count → GavePublished ended result (published_text count lines) after.held held
+    → Passes before (record after { held = held }) (PublishesBytes c prefix first result new)
+published_bytes c prefix first old new before after held ended result lines count is p (list, made, l) (given, gives, tells) = record {
   input = p.input;
   output = p.output ++ given;
   times = p.times;
   takes = p.takes;
   leaves = p.leaves;
-  gives = Appends-trans held held' held2 p.output given p.gives gives;
+  gives = Appends-trans before.held after.held held p.output given p.gives gives;
   ticks = p.ticks;
   so = record {
     replies = p.output;
@@ -68,23 +67,23 @@ published_bytes c prefix first old new taken taken' left left' held held' held2 
 }
 
 -- so it is with what was seen and what was fed by other names
-pub published_so : (c : Admission) (prefix : List ℕ) (first old served fed_to new : Seen) (taken taken' left left' held held' held2 moments moments' : Option (List ℕ)) (ended result : Served) (lines told : List ℕ) (count : ℕ)
-    → old ≡ first → served ≡ new → fed_to ≡ new → told ≡ lines → Passes taken taken' left left' held held' moments moments' (ServesBytes c old ended served) → FeedsSince prefix first fed_to lines count
-    → GavePublished ended result (published_text count told) held' held2 → Passes taken taken' left left' held held2 moments moments' (PublishesBytes c prefix first result new)
-published_so c prefix first old served fed_to new taken taken' left left' held held' held2 moments moments' ended result lines told count is seen feeds text p f gave =
-    published_bytes c prefix first old new taken taken' left left' held held' held2 moments moments' ended result lines count is
-    (subst (λ (s : Seen). Passes taken taken' left left' held held' moments moments' (ServesBytes c old ended s)) seen p) (subst (λ (s : Seen). FeedsSince prefix first s lines count) feeds f)
-    (subst (λ (xs : List ℕ). GavePublished ended result (published_text count xs) held' held2) text gave)
+pub published_so : (c : Admission) (prefix : List ℕ) (first old served fed_to new : Seen) (before after : ConnTold) (held : Option (List ℕ)) (ended result : Served) (lines told : List ℕ) (count : ℕ)
+    → old ≡ first → served ≡ new → fed_to ≡ new → told ≡ lines → Passes before after (ServesBytes c old ended served) → FeedsSince prefix first fed_to lines count
+    → GavePublished ended result (published_text count told) after.held held → Passes before (record after { held = held }) (PublishesBytes c prefix first result new)
+published_so c prefix first old served fed_to new before after held ended result lines told count is seen feeds text p f gave =
+    published_bytes c prefix first old new before after held ended result lines count is
+    (subst (λ (s : Seen). Passes before after (ServesBytes c old ended s)) seen p) (subst (λ (s : Seen). FeedsSince prefix first s lines count) feeds f)
+    (subst (λ (xs : List ℕ). GavePublished ended result (published_text count xs) after.held held) text gave)
 
 -- no memory for the names: nothing was served
-pub none_published : (c : Admission) (prefix : List ℕ) (first new : Seen) (taken left held moments : Option (List ℕ)) → new ≡ first → Passes taken taken left left held held moments moments (PublishesBytes c prefix first answer.OutOfMemory new)
-none_published c prefix first new taken left held moments is = subst (λ (s : Seen). Passes taken taken left left held held moments moments (PublishesBytes c prefix first answer.OutOfMemory s)) (sym is) record {
+pub none_published : (c : Admission) (prefix : List ℕ) (first new : Seen) (told : ConnTold) → new ≡ first → Passes told told (PublishesBytes c prefix first answer.OutOfMemory new)
+none_published c prefix first new told is = subst (λ (s : Seen). Passes told told (PublishesBytes c prefix first answer.OutOfMemory s)) (sym is) record {
   input = [];
   output = [];
   times = [];
-  takes = Appends-nil taken;
-  leaves = Consumes-nil left;
-  gives = Appends-nil held;
+  takes = Appends-nil told.taken;
+  leaves = Consumes-nil told.left;
+  gives = Appends-nil told.held;
   ticks = refl;
   so = record {
     replies = [];

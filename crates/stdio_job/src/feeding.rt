@@ -40,10 +40,12 @@ pub fn serve_feeding<
 ) -> (Served, R)
     requires prefix { G.prefix selects ≡ J.prefix }
     requires start { R.seen rows ≡ J.start }
-    ensures served { Passes (S.taken source.old) (S.taken source.new) (S.left source.old) (S.left source.new) (K.held sink.old) (K.held sink.new) (C.moments clock.old) (C.moments clock.new)
+    ensures served { Passes (record { taken = S.taken source.old; left = S.left source.old; held = K.held sink.old; moments = C.moments clock.old })
+        (record { taken = S.taken source.new; left = S.left source.new; held = K.held sink.new; moments = C.moments clock.new })
         (PublishesBytes (admission config.now rule.now.patterns) J.prefix J.start result.0 (R.seen result.1)) }
     ensures end { result.0 ≡ Served.End → IsAtEnd (S.left source.new) }
-    ensures causes { ConnCauses (S.faults source.old) (S.faults source.new) (K.faults sink.old) (K.faults sink.new) (R.stops rows) (R.stops result.1) (C.faults clock.old) (C.faults clock.new) result.0 }
+    ensures causes { ConnCauses (record { reads = S.faults source.old; writes = K.faults sink.old; stops = R.stops rows; ticks = C.faults clock.old })
+        (record { reads = S.faults source.new; writes = K.faults sink.new; stops = R.stops result.1; ticks = C.faults clock.new }) result.0 }
 {
     let feed: Feed<R, G, F, J> = Feed::make(alloc, rows, selects, prints);
     match Uids::over(alloc, feed, KEPT_PAIRS) {
@@ -74,10 +76,12 @@ fn serve_names<
     clock: &mut C,
 ) -> (Served, R)
     requires start { R.seen names.rows.rows ≡ J.start }
-    ensures served { Passes (S.taken source.old) (S.taken source.new) (S.left source.old) (S.left source.new) (K.held sink.old) (K.held sink.new) (C.moments clock.old) (C.moments clock.new)
+    ensures served { Passes (record { taken = S.taken source.old; left = S.left source.old; held = K.held sink.old; moments = C.moments clock.old })
+        (record { taken = S.taken source.new; left = S.left source.new; held = K.held sink.new; moments = C.moments clock.new })
         (PublishesBytes (admission config.now rule.now.patterns) J.prefix J.start result.0 (R.seen result.1)) }
     ensures end { result.0 ≡ Served.End → IsAtEnd (S.left source.new) }
-    ensures causes { ConnCauses (S.faults source.old) (S.faults source.new) (K.faults sink.old) (K.faults sink.new) (R.stops names.rows.rows) (R.stops result.1) (C.faults clock.old) (C.faults clock.new) result.0 }
+    ensures causes { ConnCauses (record { reads = S.faults source.old; writes = K.faults sink.old; stops = R.stops names.rows.rows; ticks = C.faults clock.old })
+        (record { reads = S.faults source.new; writes = K.faults sink.new; stops = R.stops result.1; ticks = C.faults clock.new }) result.0 }
 {
     let mut names = names;
     let mut queue = Queue::make(alloc);

@@ -41,10 +41,12 @@ pub fn serve_alone<S: Source, K: Sink, C: Clock, H: Halt + Drop>(
     clock: &mut C,
     halt: H,
 ) -> Finished<H>
-    ensures served { Passes (S.taken source.old) (S.taken source.new) (S.left source.old) (S.left source.new) (K.held sink.old) (K.held sink.new) (C.moments clock.old) (C.moments clock.new)
+    ensures served { Passes (record { taken = S.taken source.old; left = S.left source.old; held = K.held sink.old; moments = C.moments clock.old })
+        (record { taken = S.taken source.new; left = S.left source.new; held = K.held sink.new; moments = C.moments clock.new })
         (ServesAlone widths (admission config.now rule.now.patterns) (option_map (λ prefix. prefix.now) publish.entry) result.served) }
     ensures end { result.served ≡ Served.End → IsAtEnd (S.left source.new) }
-    ensures causes { ConnCauses (S.faults source.old) (S.faults source.new) (K.faults sink.old) (K.faults sink.new) (H.stops halt) (H.stops result.halt) (C.faults clock.old) (C.faults clock.new) result.served }
+    ensures causes { ConnCauses (record { reads = S.faults source.old; writes = K.faults sink.old; stops = H.stops halt; ticks = C.faults clock.old })
+        (record { reads = S.faults source.new; writes = K.faults sink.new; stops = H.stops result.halt; ticks = C.faults clock.new }) result.served }
 {
     match publish {
         Some(prefix) => serve_published(
@@ -65,10 +67,12 @@ fn serve_plain<S: Source, K: Sink, C: Clock, H: Halt + Drop>(
     clock: &mut C,
     halt: H,
 ) -> Finished<H>
-    ensures served { Passes (S.taken source.old) (S.taken source.new) (S.left source.old) (S.left source.new) (K.held sink.old) (K.held sink.new) (C.moments clock.old) (C.moments clock.new)
+    ensures served { Passes (record { taken = S.taken source.old; left = S.left source.old; held = K.held sink.old; moments = C.moments clock.old })
+        (record { taken = S.taken source.new; left = S.left source.new; held = K.held sink.new; moments = C.moments clock.new })
         (ServesAlone widths (admission config.now rule.now.patterns) None result.served) }
     ensures end { result.served ≡ Served.End → IsAtEnd (S.left source.new) }
-    ensures causes { ConnCauses (S.faults source.old) (S.faults source.new) (K.faults sink.old) (K.faults sink.new) (H.stops halt) (H.stops result.halt) (C.faults clock.old) (C.faults clock.new) result.served }
+    ensures causes { ConnCauses (record { reads = S.faults source.old; writes = K.faults sink.old; stops = H.stops halt; ticks = C.faults clock.old })
+        (record { reads = S.faults source.new; writes = K.faults sink.new; stops = H.stops result.halt; ticks = C.faults clock.new }) result.served }
 {
     match empty(alloc, widths, halt) {
         Ok(store) => {

@@ -38,10 +38,12 @@ pub fn serve_published<S: Source, K: Sink, C: Clock, H: Halt + Drop>(
     clock: &mut C,
     halt: H,
 ) -> Finished<H>
-    ensures served { Passes (S.taken source.old) (S.taken source.new) (S.left source.old) (S.left source.new) (K.held sink.old) (K.held sink.new) (C.moments clock.old) (C.moments clock.new)
+    ensures served { Passes (record { taken = S.taken source.old; left = S.left source.old; held = K.held sink.old; moments = C.moments clock.old })
+        (record { taken = S.taken source.new; left = S.left source.new; held = K.held sink.new; moments = C.moments clock.new })
         (ServesAlone widths (admission config.now rule.now.patterns) (Some prefix.now) result.served) }
     ensures end { result.served ≡ Served.End → IsAtEnd (S.left source.new) }
-    ensures causes { ConnCauses (S.faults source.old) (S.faults source.new) (K.faults sink.old) (K.faults sink.new) (H.stops halt) (H.stops result.halt) (C.faults clock.old) (C.faults clock.new) result.served }
+    ensures causes { ConnCauses (record { reads = S.faults source.old; writes = K.faults sink.old; stops = H.stops halt; ticks = C.faults clock.old })
+        (record { reads = S.faults source.new; writes = K.faults sink.new; stops = H.stops result.halt; ticks = C.faults clock.new }) result.served }
 {
     let Ok((own, kept)) = both(alloc, prefix) else {
         return no_memory(halt);
@@ -82,10 +84,12 @@ fn serve_selected<S: Source, K: Sink, C: Clock, H: Halt + Drop>(
     clock: &mut C,
     halt: H,
 ) -> Finished<H>
-    ensures served { Passes (S.taken source.old) (S.taken source.new) (S.left source.old) (S.left source.new) (K.held sink.old) (K.held sink.new) (C.moments clock.old) (C.moments clock.new)
+    ensures served { Passes (record { taken = S.taken source.old; left = S.left source.old; held = K.held sink.old; moments = C.moments clock.old })
+        (record { taken = S.taken source.new; left = S.left source.new; held = K.held sink.new; moments = C.moments clock.new })
         (ServesAlone widths (admission config.now rule.now.patterns) (Some selects.prefix) result.served) }
     ensures end { result.served ≡ Served.End → IsAtEnd (S.left source.new) }
-    ensures causes { ConnCauses (S.faults source.old) (S.faults source.new) (K.faults sink.old) (K.faults sink.new) (H.stops halt) (H.stops result.halt) (C.faults clock.old) (C.faults clock.new) result.served }
+    ensures causes { ConnCauses (record { reads = S.faults source.old; writes = K.faults sink.old; stops = H.stops halt; ticks = C.faults clock.old })
+        (record { reads = S.faults source.new; writes = K.faults sink.new; stops = H.stops result.halt; ticks = C.faults clock.new }) result.served }
 {
     match empty(alloc, widths, halt) {
         Ok(store) => {

@@ -5,14 +5,14 @@ use Rattle.cell_model.specs.History.{History}
 use Rattle.point_put.specs.Admissions.{Admission}
 use Rattle.tsd_daemon.specs.declared.served.Served.{Served}
 use Rattle.tsd_daemon.specs.declared.served.Served.TheVariants as answer
-use Rattle.tsd_daemon.specs.ServedConns.{ConnCauses, Fills, IsServed}
+use Rattle.tsd_daemon.specs.ServedConns.{ConnCauses, ConnFaults, Fills, IsServed}
 use Rattle.tsd_daemon.specs.ConnCompletes.{ConnCompletes, EndsByItself, IsAnsweredWhole, NoneRose}
 
 too_long : (n : ℕ) → n ≡ 2 ^ 40 → n < 2 ^ 40 → ⊥
 too_long n is short = omega arith
 
-module _ (reads reads' writes writes' stops stops' ticks ticks' : ℕ) (none : NoneRose reads reads' writes writes' stops stops' ticks ticks') where
-  ends : (result : Served) (n : ℕ) → Fills result n → ConnCauses reads reads' writes writes' stops stops' ticks ticks' result → n < 2 ^ 40 → result ≢ answer.OutOfMemory → EndsByItself result
+module _ (before after : ConnFaults) (none : NoneRose before after) where
+  ends : (result : Served) (n : ℕ) → Fills result n → ConnCauses before after result → n < 2 ^ 40 → result ≢ answer.OutOfMemory → EndsByItself result
   ends answer.End n fills causes short enough = tt
   ends answer.Exit n fills causes short enough = tt
   ends answer.Die n fills causes short enough = tt
@@ -37,6 +37,6 @@ answered_whole c h caller n n2 input output times answer.SessionFull e s = absur
 answered_whole c h caller n n2 input output times answer.OutOfMemory e s = absurd e
 
 pub conn_completes : ConnCompletes
-conn_completes c old new input output times reads reads' writes writes' stops stops' ticks ticks' result s fills causes none short enough =
-    let by = ends reads reads' writes writes' stops stops' ticks ticks' none result (length input) fills causes short enough in
+conn_completes c old new input output times before after result s fills causes none short enough =
+    let by = ends before after none result (length input) fills causes short enough in
     (by, λ h l f. answered_whole c h old.caller old.length new.length input output times result by (s.served h l f))

@@ -49,7 +49,7 @@ use Rattle.tsd_daemon.specs.ConnRequests.{ConnRequest}
 use Rattle.tsd_daemon.specs.ConnRequests.ConnRequest.{Telnet, Http}
 use Rattle.tsd_daemon.specs.Exchanges.{Exchange, AnsweredBetween, AnsweredBy, Ran, counts_of, moments_in, requests_in}
 use Rattle.tsd_daemon.specs.Exchanges.Ran.{start, then_asked}
-use Rattle.tsd_daemon.specs.ServedConns.{AllAnswered, BreaksOff, Passes, ServesBytes, Table}
+use Rattle.tsd_daemon.specs.ServedConns.{AllAnswered, BreaksOff, ConnTold, Passes, ServesBytes, Table}
 use Rattle.tsd_daemon.specs.TakenInTurn.{InTurn, TakenInTurn, answers_all}
 use Rattle.tsd_daemon.specs.TakenInTurn.InTurn.{none_yet, then_one}
 use Rattle.tsd_daemon.specs.Headline.{AnsweredFrom, ArePlain, Headline, IsPlain, RepliedPlainly}
@@ -315,8 +315,8 @@ served_headline c h caller n n2 input output times result lawful s = record {
 -- ---- what a caller sees
 
 -- it holds of a connection in each history that fits what was seen
-pub passes_headline : {taken taken' left left' held held' moments moments' : Option (List ℕ)} (c : Admission) (old : Seen) (result : Served) (new : Seen) → Passes taken taken' left left' held held' moments moments' (ServesBytes c old result new)
-    → Passes taken taken' left left' held held' moments moments' (λ input output times. InEach new (λ h. Headline h old.length new.length input output times result))
+pub passes_headline : {before after : ConnTold} (c : Admission) (old : Seen) (result : Served) (new : Seen) → Passes before after (ServesBytes c old result new)
+    → Passes before after (λ input output times. InEach new (λ h. Headline h old.length new.length input output times result))
 passes_headline c old result new p = record {
   input = p.input;
   output = p.output;

@@ -52,9 +52,9 @@ pub clock_last : (c : Admission) (old : Stand) (clock clock' : ClockTells) (mome
     → Ticked clock (option_to_list moment) clock' → Replied c old.counts moment request old.seen old.queue reply how seen queue → GivesLast old.held held (old.waiting ++ reply) end result → end_of request ≡ Some end → IsNext request come come'
     → ClockMoves c clock old come clock' (record { seen = seen; held = held; queue = queue; waiting = waiting; counts = counts }) come' (Some result)
 clock_last c old clock clock' moment request seen held queue waiting counts reply how end result come come' given r (inl (g, same)) ends next from t le k =
-    subst (λ (x : Served). Ends c from t.taken t.left t.last clock' x seen held queue) (sym same) (talk_closed c from (record t { clock = clock }) clock' old seen held queue come come' moment request reply how end le k given next r g ends)
+    subst (λ (x : Served). Ends c from (record { seen = seen; source = t.source; clock = clock'; held = held; queue = queue }) x) (sym same) (talk_closed c from (record t { clock = clock }) clock' old seen held queue come come' moment request reply how end le k given next r g ends)
 clock_last c old clock clock' moment request seen held queue waiting counts reply how end result come come' given r (inr (g, same)) ends next from t le k =
-    subst (λ (x : Served). Ends c from t.taken t.left t.last clock' x seen held queue) (sym same) (talk_unsent c from (record t { clock = clock }) clock' old seen held queue come come' moment request reply how le k given next r g)
+    subst (λ (x : Served). Ends c from (record { seen = seen; source = t.source; clock = clock'; held = held; queue = queue }) x) (sym same) (talk_unsent c from (record t { clock = clock }) clock' old seen held queue come come' moment request reply how le k given next r g)
 
 -- it was begun, where no reply waits
 pub clock_begun : (c : Admission) (old : Stand) (clock clock' : ClockTells) (moment : Option ℕ) (request : ConnRequest) (seen : Seen) (queue : List Stored) (end : Served) (come come' : Requests)

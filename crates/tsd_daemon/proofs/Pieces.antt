@@ -9,11 +9,11 @@ use Rattle.point_put.specs.Admissions.{Admission}
 use Rattle.tsd_daemon.specs.declared.served.Served.{Served}
 use Rattle.tsd_daemon.specs.declared.served.Served.TheVariants as answer
 use Rattle.tsd_daemon.specs.ConnClocks.{ClockTells}
-use Rattle.tsd_daemon.specs.ConnPieces.{IsLast, PieceTaken, TakesNext}
+use Rattle.tsd_daemon.specs.ConnPieces.{IsLast, PieceTaken, SourceTells, TakesNext}
 use Rattle.tsd_daemon.specs.ConnRequests.{ConnRequest}
 use Rattle.tsd_daemon.specs.ConnRequests.ConnRequest.{Telnet}
-use Rattle.tsd_daemon.specs.ServedConns.{ConnCauses, HasConnCause}
-use Rattle.tsd_daemon.specs.Talks.{Causes, ClockCauses, Ends, Gives, HasClockCause, HasEndCause, IsNext, PieceMoves, Stand, Start, Talks, telnet_to_come}
+use Rattle.tsd_daemon.specs.ServedConns.{ConnCauses, ConnFaults, HasConnCause}
+use Rattle.tsd_daemon.specs.Talks.{Causes, ClockCauses, ConnState, Ends, Gives, HasClockCause, HasEndCause, IsNext, PieceMoves, Stand, Talks, telnet_to_come}
 use Rattle.tsd_daemon.proofs.Talking.{Quiet, talk_failed, talk_gave, talk_quiet, talk_still, talk_took}
 
 -- ---- causes
@@ -89,16 +89,16 @@ clock_causes_on a b d s s' s'' t t' t'' r x y = record {
 }
 
 -- a session ended where nothing was read
-pub conn_causes : (reads reads' a b d s s' s'' t t' t'' : ℕ) (r : Served) → reads ≤ reads' → a ≤ b → s ≤ s' → t ≤ t' → ClockCauses b d s' s'' t' t'' (Some r) → ConnCauses reads reads' a d s s'' t t'' r
-conn_causes reads reads' a b d s s' s'' t t' t'' r rle le sle tle x = record {
+pub conn_causes : (before after : ConnFaults) (b s' t' : ℕ) (r : Served) → before.reads ≤ after.reads → before.writes ≤ b → before.stops ≤ s' → before.ticks ≤ t' → ClockCauses b after.writes s' after.stops t' after.ticks (Some r) → ConnCauses before after r
+conn_causes before after b s' t' r rle le sle tle x = record {
   source = rle;
   sink = let q = x.later in omega (arith, le, q);
   rows = let q = x.grows in omega (arith, sle, q);
   clock = let q = x.asked in omega (arith, tle, q);
-  cause = at r (later_clock_cause a b d s s' s'' t t' t'' (Some r) le sle tle x.cause);
+  cause = at r (later_clock_cause before.writes b after.writes before.stops s' after.stops before.ticks t' after.ticks (Some r) le sle tle x.cause);
 }
   where
-    at : (r : Served) → HasClockCause a d s s'' t t'' (Some r) → HasConnCause reads reads' a d s s'' t t'' r
+    at : (r : Served) → HasClockCause before.writes after.writes before.stops after.stops before.ticks after.ticks (Some r) → HasConnCause before after r
     at answer.WriteFault h = h
     at answer.Stopped h = h
     at answer.Exit h = tt
@@ -110,35 +110,35 @@ conn_causes reads reads' a b d s s' s'' t t' t'' r rle le sle tle x = record {
     at answer.ClockFault h = h
     at answer.SessionFull h = tt
 
-pub taken_causes : (taken taken' left left' last last' : Option (List ℕ)) (old new : PieceTaken) (reads reads' writes writes' : ℕ) (r : Result (Unit {0}) Served) → TakesNext taken taken' left left' last last' old r new → reads ≤ reads' → writes ≤ writes' → (r ≡ Err answer.ReadFault → Rose reads reads')
-    → IfErr r (λ end. (stops ticks : ℕ) → ConnCauses reads reads' writes writes' stops stops ticks ticks end)
-taken_causes taken taken' left left' last last' old new reads reads' writes writes' (Ok x) t rle wle failed = tt
-taken_causes taken taken' left left' last last' old new reads reads' writes writes' (Err answer.End) t rle wle failed = λ stops ticks. record { source = rle; sink = wle; rows = omega arith; clock = omega arith; cause = tt }
-taken_causes taken taken' left left' last last' old new reads reads' writes writes' (Err answer.ReadFault) t rle wle failed = λ stops ticks. record { source = rle; sink = wle; rows = omega arith; clock = omega arith; cause = failed refl }
-taken_causes taken taken' left left' last last' old new reads reads' writes writes' (Err answer.SessionFull) t rle wle failed = λ stops ticks. record { source = rle; sink = wle; rows = omega arith; clock = omega arith; cause = tt }
-taken_causes taken taken' left left' last last' old new reads reads' writes writes' (Err answer.WriteFault) t rle wle failed = λ stops ticks. absurd t.next
-taken_causes taken taken' left left' last last' old new reads reads' writes writes' (Err answer.Stopped) t rle wle failed = λ stops ticks. absurd t.next
-taken_causes taken taken' left left' last last' old new reads reads' writes writes' (Err answer.Exit) t rle wle failed = λ stops ticks. absurd t.next
-taken_causes taken taken' left left' last last' old new reads reads' writes writes' (Err answer.Die) t rle wle failed = λ stops ticks. absurd t.next
-taken_causes taken taken' left left' last last' old new reads reads' writes writes' (Err answer.Closed) t rle wle failed = λ stops ticks. absurd t.next
-taken_causes taken taken' left left' last last' old new reads reads' writes writes' (Err answer.ClockFault) t rle wle failed = λ stops ticks. absurd t.next
-taken_causes taken taken' left left' last last' old new reads reads' writes writes' (Err answer.OutOfMemory) t rle wle failed = λ stops ticks. absurd t.next
+pub taken_causes : (source source' : SourceTells) (old new : PieceTaken) (reads reads' writes writes' : ℕ) (r : Result (Unit {0}) Served) → TakesNext source source' old r new → reads ≤ reads' → writes ≤ writes' → (r ≡ Err answer.ReadFault → Rose reads reads')
+    → IfErr r (λ end. (stops ticks : ℕ) → ConnCauses (record { reads = reads; writes = writes; stops = stops; ticks = ticks }) (record { reads = reads'; writes = writes'; stops = stops; ticks = ticks }) end)
+taken_causes source source' old new reads reads' writes writes' (Ok x) t rle wle failed = tt
+taken_causes source source' old new reads reads' writes writes' (Err answer.End) t rle wle failed = λ stops ticks. record { source = rle; sink = wle; rows = omega arith; clock = omega arith; cause = tt }
+taken_causes source source' old new reads reads' writes writes' (Err answer.ReadFault) t rle wle failed = λ stops ticks. record { source = rle; sink = wle; rows = omega arith; clock = omega arith; cause = failed refl }
+taken_causes source source' old new reads reads' writes writes' (Err answer.SessionFull) t rle wle failed = λ stops ticks. record { source = rle; sink = wle; rows = omega arith; clock = omega arith; cause = tt }
+taken_causes source source' old new reads reads' writes writes' (Err answer.WriteFault) t rle wle failed = λ stops ticks. absurd t.next
+taken_causes source source' old new reads reads' writes writes' (Err answer.Stopped) t rle wle failed = λ stops ticks. absurd t.next
+taken_causes source source' old new reads reads' writes writes' (Err answer.Exit) t rle wle failed = λ stops ticks. absurd t.next
+taken_causes source source' old new reads reads' writes writes' (Err answer.Die) t rle wle failed = λ stops ticks. absurd t.next
+taken_causes source source' old new reads reads' writes writes' (Err answer.Closed) t rle wle failed = λ stops ticks. absurd t.next
+taken_causes source source' old new reads reads' writes writes' (Err answer.ClockFault) t rle wle failed = λ stops ticks. absurd t.next
+taken_causes source source' old new reads reads' writes writes' (Err answer.OutOfMemory) t rle wle failed = λ stops ticks. absurd t.next
 
 -- after what came before
-pub later_causes : (r0 r1 r2 w0 w1 w2 s0 s1 t0 t1 : ℕ) (end : Served) → r0 ≤ r1 → w0 ≤ w1 → s0 ≤ s1 → t0 ≤ t1 → ConnCauses r1 r2 w1 w2 s1 s1 t1 t1 end → ConnCauses r0 r2 w0 w2 s0 s1 t0 t1 end
-later_causes r0 r1 r2 w0 w1 w2 s0 s1 t0 t1 end rle wle sle tle x = record {
+pub later_causes : (first before after : ConnFaults) (end : Served) → first.reads ≤ before.reads → first.writes ≤ before.writes → first.stops ≤ before.stops → first.ticks ≤ before.ticks → ConnCauses before after end → ConnCauses first after end
+later_causes first before after end rle wle sle tle x = record {
   source = let q = x.source in omega (arith, rle, q);
   sink = let q = x.sink in omega (arith, wle, q);
-  rows = sle;
-  clock = tle;
+  rows = let q = x.rows in omega (arith, sle, q);
+  clock = let q = x.clock in omega (arith, tle, q);
   cause = at end x.cause;
 }
   where
-    at : (end : Served) → HasConnCause r1 r2 w1 w2 s1 s1 t1 t1 end → HasConnCause r0 r2 w0 w2 s0 s1 t0 t1 end
-    at answer.ReadFault h = rose_later r0 r1 r2 rle h
-    at answer.WriteFault h = rose_later w0 w1 w2 wle h
-    at answer.Stopped h = rose_later s0 s1 s1 sle h
-    at answer.ClockFault h = rose_later t0 t1 t1 tle h
+    at : (end : Served) → HasConnCause before after end → HasConnCause first after end
+    at answer.ReadFault h = rose_later first.reads before.reads after.reads rle h
+    at answer.WriteFault h = rose_later first.writes before.writes after.writes wle h
+    at answer.Stopped h = rose_later first.stops before.stops after.stops sle h
+    at answer.ClockFault h = rose_later first.ticks before.ticks after.ticks tle h
     at answer.Exit h = tt
     at answer.Die h = tt
     at answer.OutOfMemory h = tt
@@ -148,63 +148,61 @@ later_causes r0 r1 r2 w0 w1 w2 s0 s1 t0 t1 end rle wle sle tle x = record {
 
 -- ---- pieces
 
-pub piece_moved : (taken taken' left left' last last' held held' : Option (List ℕ)) (waiting : List ℕ) (old new : PieceTaken) (r : Result (Unit {0}) Served) → Gives held held' waiting [] → TakesNext taken taken' left left' last last' old r new → PieceMoves taken taken' left left' last last' held held' waiting old r new
-piece_moved taken taken' left left' last last' held held' waiting old new (Ok x) g t = (g, t)
-piece_moved taken taken' left left' last last' held held' waiting old new (Err answer.WriteFault) g t = absurd t.next
-piece_moved taken taken' left left' last last' held held' waiting old new (Err answer.End) g t = (g, t)
-piece_moved taken taken' left left' last last' held held' waiting old new (Err answer.ReadFault) g t = (g, t)
-piece_moved taken taken' left left' last last' held held' waiting old new (Err answer.SessionFull) g t = (g, t)
-piece_moved taken taken' left left' last last' held held' waiting old new (Err answer.Stopped) g t = (g, t)
-piece_moved taken taken' left left' last last' held held' waiting old new (Err answer.Exit) g t = (g, t)
-piece_moved taken taken' left left' last last' held held' waiting old new (Err answer.Die) g t = (g, t)
-piece_moved taken taken' left left' last last' held held' waiting old new (Err answer.Closed) g t = (g, t)
-piece_moved taken taken' left left' last last' held held' waiting old new (Err answer.ClockFault) g t = (g, t)
-piece_moved taken taken' left left' last last' held held' waiting old new (Err answer.OutOfMemory) g t = (g, t)
+pub piece_moved : (source source' : SourceTells) (held held' : Option (List ℕ)) (waiting : List ℕ) (old new : PieceTaken) (r : Result (Unit {0}) Served) → Gives held held' waiting [] → TakesNext source source' old r new → PieceMoves source source' held held' waiting old r new
+piece_moved source source' held held' waiting old new (Ok x) g t = (g, t)
+piece_moved source source' held held' waiting old new (Err answer.WriteFault) g t = absurd t.next
+piece_moved source source' held held' waiting old new (Err answer.End) g t = (g, t)
+piece_moved source source' held held' waiting old new (Err answer.ReadFault) g t = (g, t)
+piece_moved source source' held held' waiting old new (Err answer.SessionFull) g t = (g, t)
+piece_moved source source' held held' waiting old new (Err answer.Stopped) g t = (g, t)
+piece_moved source source' held held' waiting old new (Err answer.Exit) g t = (g, t)
+piece_moved source source' held held' waiting old new (Err answer.Die) g t = (g, t)
+piece_moved source source' held held' waiting old new (Err answer.Closed) g t = (g, t)
+piece_moved source source' held held' waiting old new (Err answer.ClockFault) g t = (g, t)
+piece_moved source source' held held' waiting old new (Err answer.OutOfMemory) g t = (g, t)
 
 -- what waited was given, and a piece was taken
-pub talk_piece : (c : Admission) (from : Start) (taken left last taken' left' last' : Option (List ℕ)) (clock : ClockTells) (now : Stand) (held' : Option (List ℕ)) (input new : PieceTaken) (come : List ℕ → List ConnRequest)
-    → Talks c from (record { taken = taken; left = left; last = last; clock = clock; size = input.taken }) now come → come [] ≡ [] → PieceMoves taken taken' left left' last last' now.held held' now.waiting input (Ok tt) new
-    → Talks c from (record { taken = taken'; left = left'; last = last'; clock = clock; size = new.taken }) (record { seen = now.seen; held = held'; queue = now.queue; waiting = []; counts = now.counts }) (λ more. come (new.piece ++ more))
-talk_piece c from taken left last taken' left' last' clock now held' input new come k none (g, t) =
-    subst (λ (piece : List ℕ). Talks c from (record { taken = taken'; left = left'; last = last'; clock = clock; size = new.taken }) (record { seen = now.seen; held = held'; queue = now.queue; waiting = []; counts = now.counts }) (λ more. come (piece ++ more))) (sym t.next.0)
-    (talk_took c from (record { taken = taken; left = left; last = last; clock = clock; size = input.taken }) taken' left' last' new.taken _ come t.more (talk_gave c from _ now held' come k g) refl none t.takes t.leaves t.count t.within t.gave)
+pub talk_piece : (c : Admission) (from : ConnState) (source source' : SourceTells) (clock : ClockTells) (now : Stand) (held' : Option (List ℕ)) (input new : PieceTaken) (come : List ℕ → List ConnRequest)
+    → Talks c from (record { source = source; clock = clock; size = input.taken }) now come → come [] ≡ [] → PieceMoves source source' now.held held' now.waiting input (Ok tt) new
+    → Talks c from (record { source = source'; clock = clock; size = new.taken }) (record { seen = now.seen; held = held'; queue = now.queue; waiting = []; counts = now.counts }) (λ more. come (new.piece ++ more))
+talk_piece c from source source' clock now held' input new come k none (g, t) =
+    subst (λ (piece : List ℕ). Talks c from (record { source = source'; clock = clock; size = new.taken }) (record { seen = now.seen; held = held'; queue = now.queue; waiting = []; counts = now.counts }) (λ more. come (piece ++ more))) (sym t.next.0)
+    (talk_took c from (record { source = source; clock = clock; size = input.taken }) source' new.taken _ come t.more (talk_gave c from _ now held' come k g) refl none t.takes t.leaves t.count t.within t.gave)
 
 -- what waited was given, and the last take gave nothing
-quiet_end : (c : Admission) (from : Start) (taken left last taken' left' last' : Option (List ℕ)) (clock : ClockTells) (now : Stand) (held' : Option (List ℕ)) (input new : PieceTaken) (r : Result (Unit {0}) Served) (come : List ℕ → List ConnRequest)
-    → Talks c from (record { taken = taken; left = left; last = last; clock = clock; size = input.taken }) now come → come [] ≡ [] → Gives now.held held' now.waiting [] → (t : TakesNext taken taken' left left' last last' input r new) → t.more ≡ [] → IsLast last' t.more
-    → Quiet c from (record { taken = taken'; left = left'; last = last'; clock = clock; size = input.taken }) (record { seen = now.seen; held = held'; queue = now.queue; waiting = []; counts = now.counts })
-quiet_end c from taken left last taken' left' last' clock now held' input new r come k none g t nothing is =
+quiet_end : (c : Admission) (from : ConnState) (source source' : SourceTells) (clock : ClockTells) (now : Stand) (held' : Option (List ℕ)) (input new : PieceTaken) (r : Result (Unit {0}) Served) (come : List ℕ → List ConnRequest)
+    → Talks c from (record { source = source; clock = clock; size = input.taken }) now come → come [] ≡ [] → Gives now.held held' now.waiting [] → (t : TakesNext source source' input r new) → t.more ≡ [] → IsLast source'.last t.more
+    → Quiet c from (record { source = source'; clock = clock; size = input.taken }) (record { seen = now.seen; held = held'; queue = now.queue; waiting = []; counts = now.counts })
+quiet_end c from source source' clock now held' input new r come k none g t nothing is =
     let grows : input.taken ≡ input.taken + length t.more = sym (ap (λ (m : List ℕ). input.taken + length m) nothing ∙ add-zero input.taken) in
-    talk_quiet c from (record { taken = taken'; left = left'; last = last'; clock = clock; size = input.taken }) (record { seen = now.seen; held = held'; queue = now.queue; waiting = []; counts = now.counts }) (λ more. come (t.more ++ more))
-    (talk_took c from (record { taken = taken; left = left; last = last; clock = clock; size = input.taken }) taken' left' last' input.taken _ come t.more (talk_gave c from _ now held' come k g) refl none t.takes t.leaves grows t.within is)
+    talk_quiet c from (record { source = source'; clock = clock; size = input.taken }) (record { seen = now.seen; held = held'; queue = now.queue; waiting = []; counts = now.counts }) (λ more. come (t.more ++ more))
+    (talk_took c from (record { source = source; clock = clock; size = input.taken }) source' input.taken _ come t.more (talk_gave c from _ now held' come k g) refl none t.takes t.leaves grows t.within is)
     refl (ap (λ (m : List ℕ). come (m ++ [])) nothing ∙ none)
 
 -- and no take was made
-full_end : (c : Admission) (from : Start) (taken left last taken' left' last' : Option (List ℕ)) (clock : ClockTells) (now : Stand) (held' : Option (List ℕ)) (input new : PieceTaken) (r : Result (Unit {0}) Served) (come : List ℕ → List ConnRequest)
-    → Talks c from (record { taken = taken; left = left; last = last; clock = clock; size = input.taken }) now come → come [] ≡ [] → Gives now.held held' now.waiting [] → (t : TakesNext taken taken' left left' last last' input r new) → t.more ≡ [] → last' ≡ last
-    → Quiet c from (record { taken = taken'; left = left'; last = last'; clock = clock; size = input.taken }) (record { seen = now.seen; held = held'; queue = now.queue; waiting = []; counts = now.counts })
-full_end c from taken left last taken' left' last' clock now held' input new r come k none g t nothing same =
+full_end : (c : Admission) (from : ConnState) (source source' : SourceTells) (clock : ClockTells) (now : Stand) (held' : Option (List ℕ)) (input new : PieceTaken) (r : Result (Unit {0}) Served) (come : List ℕ → List ConnRequest)
+    → Talks c from (record { source = source; clock = clock; size = input.taken }) now come → come [] ≡ [] → Gives now.held held' now.waiting [] → (t : TakesNext source source' input r new) → t.more ≡ [] → source'.last ≡ source.last
+    → Quiet c from (record { source = source'; clock = clock; size = input.taken }) (record { seen = now.seen; held = held'; queue = now.queue; waiting = []; counts = now.counts })
+full_end c from source source' clock now held' input new r come k none g t nothing same =
     let grows : input.taken ≡ input.taken + length t.more = sym (ap (λ (m : List ℕ). input.taken + length m) nothing ∙ add-zero input.taken) in
-    talk_quiet c from (record { taken = taken'; left = left'; last = last'; clock = clock; size = input.taken }) (record { seen = now.seen; held = held'; queue = now.queue; waiting = []; counts = now.counts }) (λ more. come (t.more ++ more))
-    (talk_still c from (record { taken = taken; left = left; last = last; clock = clock; size = input.taken }) taken' left' last' input.taken _ come t.more (talk_gave c from _ now held' come k g) nothing t.takes t.leaves grows same)
+    talk_quiet c from (record { source = source'; clock = clock; size = input.taken }) (record { seen = now.seen; held = held'; queue = now.queue; waiting = []; counts = now.counts }) (λ more. come (t.more ++ more))
+    (talk_still c from (record { source = source; clock = clock; size = input.taken }) source' input.taken _ come t.more (talk_gave c from _ now held' come k g) nothing t.takes t.leaves grows same)
     refl (ap (λ (m : List ℕ). come (m ++ [])) nothing ∙ none)
 
-pub talk_no_piece : (c : Admission) (from : Start) (taken left last taken' left' last' : Option (List ℕ)) (clock : ClockTells) (now : Stand) (held' : Option (List ℕ)) (input new : PieceTaken) (end : Served) (come : List ℕ → List ConnRequest)
-    → input.taken ≤ 2 ^ 40 → Talks c from (record { taken = taken; left = left; last = last; clock = clock; size = input.taken }) now come → come [] ≡ [] → PieceMoves taken taken' left left' last last' now.held held' now.waiting input (Err end) new
-    → Ends c from taken' left' last' clock end now.seen held' now.queue
-talk_no_piece c from taken left last taken' left' last' clock now held' input new answer.WriteFault come le k none (g, same, also, still) =
-    subst (λ (l : Option (List ℕ)). Ends c from taken' left' l clock answer.WriteFault now.seen held' now.queue) (sym still)
-    (subst (λ (l : Option (List ℕ)). Ends c from taken' l last clock answer.WriteFault now.seen held' now.queue) (sym also)
-    (subst (λ (x : Option (List ℕ)). Ends c from x left last clock answer.WriteFault now.seen held' now.queue) (sym same) (talk_failed c from (record { taken = taken; left = left; last = last; clock = clock; size = input.taken }) now held' come le k g)))
-talk_no_piece c from taken left last taken' left' last' clock now held' input new answer.End come le k none (g, t) = (quiet_end c from taken left last taken' left' last' clock now held' input new (Err answer.End) come k none g t t.next.0 t.gave).end t.next.1
-talk_no_piece c from taken left last taken' left' last' clock now held' input new answer.ReadFault come le k none (g, t) = (quiet_end c from taken left last taken' left' last' clock now held' input new (Err answer.ReadFault) come k none g t t.next.0 t.gave).failed t.next.1
-talk_no_piece c from taken left last taken' left' last' clock now held' input new answer.SessionFull come le k none (g, t) = (full_end c from taken left last taken' left' last' clock now held' input new (Err answer.SessionFull) come k none g t t.next.0 t.gave).full t.next.1
-talk_no_piece c from taken left last taken' left' last' clock now held' input new answer.Stopped come le k none (g, t) = absurd t.next
-talk_no_piece c from taken left last taken' left' last' clock now held' input new answer.Exit come le k none (g, t) = absurd t.next
-talk_no_piece c from taken left last taken' left' last' clock now held' input new answer.Die come le k none (g, t) = absurd t.next
-talk_no_piece c from taken left last taken' left' last' clock now held' input new answer.Closed come le k none (g, t) = absurd t.next
-talk_no_piece c from taken left last taken' left' last' clock now held' input new answer.ClockFault come le k none (g, t) = absurd t.next
-talk_no_piece c from taken left last taken' left' last' clock now held' input new answer.OutOfMemory come le k none (g, t) = absurd t.next
+pub talk_no_piece : (c : Admission) (from : ConnState) (source source' : SourceTells) (clock : ClockTells) (now : Stand) (held' : Option (List ℕ)) (input new : PieceTaken) (end : Served) (come : List ℕ → List ConnRequest)
+    → input.taken ≤ 2 ^ 40 → Talks c from (record { source = source; clock = clock; size = input.taken }) now come → come [] ≡ [] → PieceMoves source source' now.held held' now.waiting input (Err end) new
+    → Ends c from (record { seen = now.seen; source = source'; clock = clock; held = held'; queue = now.queue }) end
+talk_no_piece c from source source' clock now held' input new answer.WriteFault come le k none (g, same) =
+    subst (λ (s : SourceTells). Ends c from (record { seen = now.seen; source = s; clock = clock; held = held'; queue = now.queue }) answer.WriteFault) (sym same) (talk_failed c from (record { source = source; clock = clock; size = input.taken }) now held' come le k g)
+talk_no_piece c from source source' clock now held' input new answer.End come le k none (g, t) = (quiet_end c from source source' clock now held' input new (Err answer.End) come k none g t t.next.0 t.gave).end t.next.1
+talk_no_piece c from source source' clock now held' input new answer.ReadFault come le k none (g, t) = (quiet_end c from source source' clock now held' input new (Err answer.ReadFault) come k none g t t.next.0 t.gave).failed t.next.1
+talk_no_piece c from source source' clock now held' input new answer.SessionFull come le k none (g, t) = (full_end c from source source' clock now held' input new (Err answer.SessionFull) come k none g t t.next.0 t.gave).full t.next.1
+talk_no_piece c from source source' clock now held' input new answer.Stopped come le k none (g, t) = absurd t.next
+talk_no_piece c from source source' clock now held' input new answer.Exit come le k none (g, t) = absurd t.next
+talk_no_piece c from source source' clock now held' input new answer.Die come le k none (g, t) = absurd t.next
+talk_no_piece c from source source' clock now held' input new answer.Closed come le k none (g, t) = absurd t.next
+talk_no_piece c from source source' clock now held' input new answer.ClockFault come le k none (g, t) = absurd t.next
+talk_no_piece c from source source' clock now held' input new answer.OutOfMemory come le k none (g, t) = absurd t.next
 
 -- ---- telnet requests that are to come
 

@@ -34,13 +34,19 @@ abbrev pub GaveNext : Option (List ℕ) → Option (List ℕ) → List ℕ → R
 GaveNext last last' more (Err answer.SessionFull) = last' ≡ last
 GaveNext last last' more result = IsLast last' more
 
+-- what a source tells: the bytes that were taken of it and those that are left, and what its last take gave
+pub record SourceTells : Type 0 where
+  pub taken : Option (List ℕ)
+  pub left : Option (List ℕ)
+  pub last : Option (List ℕ)
+
 -- these further bytes were taken
-pub record TakesNext (taken taken' left left' last last' : Option (List ℕ)) (old : PieceTaken) (result : Result (Unit {0}) Served) (new : PieceTaken) : Type 0 where
+pub record TakesNext (source source' : SourceTells) (old : PieceTaken) (result : Result (Unit {0}) Served) (new : PieceTaken) : Type 0 where
   pub more : List ℕ
-  pub takes : Appends taken taken' more
-  pub leaves : Consumes left left' more
+  pub takes : Appends source.taken source'.taken more
+  pub leaves : Consumes source.left source'.left more
   pub count : new.taken ≡ old.taken + length more
   pub most : new.taken ≤ 2 ^ 40
   pub within : length more ≤ longest_piece
-  pub gave : GaveNext last last' more result
-  pub next : NextPiece left' old more result new
+  pub gave : GaveNext source.last source'.last more result
+  pub next : NextPiece source'.left old more result new

@@ -138,15 +138,22 @@ Queues c old before input output times result new after = InEach new (λ h. IsQu
 
 -- ---- the bytes and the moments of a call
 
+-- what the devices of a connection tell: the bytes that were taken of its source and those that are left, those that its sink holds, and the moments that its clock has to give
+pub record ConnTold : Type 0 where
+  pub taken : Option (List ℕ)
+  pub left : Option (List ℕ)
+  pub held : Option (List ℕ)
+  pub moments : Option (List ℕ)
+
 -- these bytes were taken and these given, the clock gave these moments, and so it is of them
-pub record Passes (taken taken' left left' held held' moments moments' : Option (List ℕ)) (P : List ℕ → List ℕ → List ℕ → Type 0) : Type 0 where
+pub record Passes (before after : ConnTold) (P : List ℕ → List ℕ → List ℕ → Type 0) : Type 0 where
   pub input : List ℕ
   pub output : List ℕ
   pub times : List ℕ
-  pub takes : Appends taken taken' input
-  pub leaves : Consumes left left' input
-  pub gives : Appends held held' output
-  pub ticks : Gave moments times moments'
+  pub takes : Appends before.taken after.taken input
+  pub leaves : Consumes before.left after.left input
+  pub gives : Appends before.held after.held output
+  pub ticks : Gave before.moments times after.moments
   pub so : P input output times
 
 abbrev pub ServesBytes : Admission → Seen → Served → Seen → List ℕ → List ℕ → List ℕ → Type 0
@@ -165,17 +172,24 @@ TakesBytes c old last result new last' input output times = InEach new (λ h. An
 
 -- ---- causes
 
--- the source failed only where its count of faults rose, and so with the sink, with stops and with the clock
-abbrev pub HasConnCause : ℕ → ℕ → ℕ → ℕ → ℕ → ℕ → ℕ → ℕ → Served → Type 0
-HasConnCause reads reads' writes writes' stops stops' ticks ticks' answer.ReadFault = Rose reads reads'
-HasConnCause reads reads' writes writes' stops stops' ticks ticks' answer.WriteFault = Rose writes writes'
-HasConnCause reads reads' writes writes' stops stops' ticks ticks' answer.Stopped = Rose stops stops'
-HasConnCause reads reads' writes writes' stops stops' ticks ticks' answer.ClockFault = Rose ticks ticks'
-HasConnCause reads reads' writes writes' stops stops' ticks ticks' other = Unit {0}
+-- how often its source, its sink and its clock failed, and how many steps of its caller were stopped
+pub record ConnFaults : Type 0 where
+  pub reads : ℕ
+  pub writes : ℕ
+  pub stops : ℕ
+  pub ticks : ℕ
 
-pub record ConnCauses (reads reads' writes writes' stops stops' ticks ticks' : ℕ) (result : Served) : Type 0 where
-  pub source : reads ≤ reads'
-  pub sink : writes ≤ writes'
-  pub rows : stops ≤ stops'
-  pub clock : ticks ≤ ticks'
-  pub cause : HasConnCause reads reads' writes writes' stops stops' ticks ticks' result
+-- the source failed only where its count of faults rose, and so with the sink, with stops and with the clock
+abbrev pub HasConnCause : ConnFaults → ConnFaults → Served → Type 0
+HasConnCause before after answer.ReadFault = Rose before.reads after.reads
+HasConnCause before after answer.WriteFault = Rose before.writes after.writes
+HasConnCause before after answer.Stopped = Rose before.stops after.stops
+HasConnCause before after answer.ClockFault = Rose before.ticks after.ticks
+HasConnCause before after other = Unit {0}
+
+pub record ConnCauses (before after : ConnFaults) (result : Served) : Type 0 where
+  pub source : before.reads ≤ after.reads
+  pub sink : before.writes ≤ after.writes
+  pub rows : before.stops ≤ after.stops
+  pub clock : before.ticks ≤ after.ticks
+  pub cause : HasConnCause before after result

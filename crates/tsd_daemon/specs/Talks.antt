@@ -24,7 +24,7 @@ use Rattle.tsd_daemon.specs.ConnRequests.{ConnRequest, closes_conn, conn_request
 use Rattle.tsd_daemon.specs.ConnRequests.ConnRequest.{Telnet, Http}
 use Rattle.tsd_daemon.specs.ConnClocks.{CalledOnce, ClockTells, Gave, Ticked}
 use Rattle.tsd_daemon.specs.ConnReplies.{no_counts}
-use Rattle.tsd_daemon.specs.ConnPieces.{PieceTaken, TakesNext}
+use Rattle.tsd_daemon.specs.ConnPieces.{PieceTaken, SourceTells, TakesNext}
 use Rattle.tsd_daemon.specs.Exchanges.{Exchange, AnsweredBetween, BegunBetween, Ran, counts_of, is_put, moments_in, replies_in, requests_in, rows_in}
 use Rattle.tsd_daemon.specs.LastPieces.{LastTake}
 use Rattle.tsd_daemon.specs.ServedConns.{Fills, IsQueued}
@@ -80,21 +80,17 @@ GivesLast held held' all end result = (Gives held held' all [] × (result ≡ en
 
 -- ---- a connection
 
--- with what a connection began
-pub record Start : Type 0 where
+-- with what a connection begins or ends: what its caller has seen, what its source and its clock tell, the bytes that its sink holds, and its queue
+pub record ConnState : Type 0 where
   pub seen : Seen
-  pub taken : Option (List ℕ)
-  pub left : Option (List ℕ)
-  pub last : Option (List ℕ)
+  pub source : SourceTells
   pub clock : ClockTells
   pub held : Option (List ℕ)
   pub queue : List Stored
 
 -- what its source and its clock tell later, and how many bytes were taken
 pub record Taken : Type 0 where
-  pub taken : Option (List ℕ)
-  pub left : Option (List ℕ)
-  pub last : Option (List ℕ)
+  pub source : SourceTells
   pub clock : ClockTells
   pub size : ℕ
 
@@ -106,6 +102,10 @@ pub record Stand : Type 0 where
   pub waiting : List ℕ
   pub counts : Counts
 
+-- where the connection ends, if it ends here
+abbrev pub state_at : Taken → Stand → ConnState
+state_at t now = record { seen = now.seen; source = t.source; clock = t.clock; held = now.held; queue = now.queue }
+
 -- the requests that are to come of what is kept and more bytes
 abbrev pub telnet_to_come : Unread → List ℕ → List ConnRequest
 telnet_to_come unread more = map Telnet (to_come unread more)
@@ -114,11 +114,11 @@ abbrev pub http_to_come : http.Unread → List ℕ → List ConnRequest
 http_to_come unread more = map Http (calls.to_come unread more)
 
 -- these exchanges were done, the clock gave their moments, their replies were given or wait, and these requests are to come of more bytes
-pub record Told (c : Admission) (from : Start) (t : Taken) (done : List Exchange) (now : Stand) (come : List ℕ → List ConnRequest) : Type 0 where
+pub record Told (c : Admission) (from : ConnState) (t : Taken) (done : List Exchange) (now : Stand) (come : List ℕ → List ConnRequest) : Type 0 where
   pub input : List ℕ
   pub output : List ℕ
-  pub takes : Appends from.taken t.taken input
-  pub leaves : Consumes from.left t.left input
+  pub takes : Appends from.source.taken t.source.taken input
+  pub leaves : Consumes from.source.left t.source.left input
   pub gives : Appends from.held now.held output
   pub ticks : Ticked from.clock (moments_in done) t.clock
   pub size : length input ≡ t.size
@@ -128,56 +128,56 @@ pub record Told (c : Admission) (from : Start) (t : Taken) (done : List Exchange
   pub requests : (more : List ℕ) → conn_requests (input ++ more) ≡ requests_in done ++ come more
   pub queued : HasRows from.queue (rows_in done) now.queue
   pub counted : now.counts ≡ counts_of done
-  pub pieces : LastTake from.last t.last done input output
+  pub pieces : LastTake from.source.last t.source.last done input output
 
 -- the connection goes on
-pub record Talks (c : Admission) (from : Start) (t : Taken) (now : Stand) (come : List ℕ → List ConnRequest) : Type 0 where
+pub record Talks (c : Admission) (from : ConnState) (t : Taken) (now : Stand) (come : List ℕ → List ConnRequest) : Type 0 where
   pub done : List Exchange
   pub told : Told c from t done now come
   pub open_still : list_any closes_conn (requests_in done) ≡ false
 
 -- the connection was served to this end
-pub record Ends (c : Admission) (from : Start) (taken left last : Option (List ℕ)) (clock : ClockTells) (result : Served) (seen : Seen) (held : Option (List ℕ)) (queue : List Stored) : Type 0 where
+pub record Ends (c : Admission) (from to : ConnState) (result : Served) : Type 0 where
   pub input : List ℕ
   pub output : List ℕ
   pub times : List ℕ
-  pub takes : Appends from.taken taken input
-  pub leaves : Consumes from.left left input
-  pub gives : Appends from.held held output
-  pub ticks : Gave from.clock.moments times clock.moments
-  pub called : CalledOnce result from.clock.calls times clock.calls
-  pub since : Since from.seen seen
-  pub served : InEach seen (λ h. IsQueued c h from.seen.caller from.seen.length seen.length input output times result from.queue queue)
-  pub pieces : (h : History) (lawful : IsLawful h) (fits : Fits seen h) → LastTake from.last last (served h lawful fits).served.done input output
+  pub takes : Appends from.source.taken to.source.taken input
+  pub leaves : Consumes from.source.left to.source.left input
+  pub gives : Appends from.held to.held output
+  pub ticks : Gave from.clock.moments times to.clock.moments
+  pub called : CalledOnce result from.clock.calls times to.clock.calls
+  pub since : Since from.seen to.seen
+  pub served : InEach to.seen (λ h. IsQueued c h from.seen.caller from.seen.length to.seen.length input output times result from.queue to.queue)
+  pub pieces : (h : History) (lawful : IsLawful h) (fits : Fits to.seen h) → LastTake from.source.last to.source.last (served h lawful fits).served.done input output
   pub fills : Fills result (length input)
 
-abbrev pub GoesOn : Admission → Start → Taken → Stand → (List ℕ → List ConnRequest) → Option Served → Type 0
+abbrev pub GoesOn : Admission → ConnState → Taken → Stand → (List ℕ → List ConnRequest) → Option Served → Type 0
 GoesOn c from t new come None = Talks c from t new come
-GoesOn c from t new come (Some result) = Ends c from t.taken t.left t.last t.clock result new.seen new.held new.queue
+GoesOn c from t new come (Some result) = Ends c from (state_at t new) result
 
 -- however the connection came here, it goes on or ended so
 abbrev pub Moves : Admission → Stand → (List ℕ → List ConnRequest) → Stand → (List ℕ → List ConnRequest) → Option Served → Type 0
-Moves c old come new come' result = (from : Start) (t : Taken) → t.size ≤ 2 ^ 40 → Talks c from t old come → GoesOn c from t new come' result
+Moves c old come new come' result = (from : ConnState) (t : Taken) → t.size ≤ 2 ^ 40 → Talks c from t old come → GoesOn c from t new come' result
 
 -- the same where the clock may be called, too
 abbrev pub ClockMoves : Admission → ClockTells → Stand → (List ℕ → List ConnRequest) → ClockTells → Stand → (List ℕ → List ConnRequest) → Option Served → Type 0
 ClockMoves c clock old come clock' new come' result =
-    (from : Start) (t : Taken) → t.size ≤ 2 ^ 40 → Talks c from (record t { clock = clock }) old come → GoesOn c from (record t { clock = clock' }) new come' result
+    (from : ConnState) (t : Taken) → t.size ≤ 2 ^ 40 → Talks c from (record t { clock = clock }) old come → GoesOn c from (record t { clock = clock' }) new come' result
 
 -- the same where more was taken, too
 abbrev pub MovesOn : Admission → Taken → Stand → (List ℕ → List ConnRequest) → Taken → Stand → (List ℕ → List ConnRequest) → Type 0
-MovesOn c t old come t' new come' = (from : Start) → Talks c from t old come → Talks c from t' new come'
+MovesOn c t old come t' new come' = (from : ConnState) → Talks c from t old come → Talks c from t' new come'
 
 -- What waited was given, and then the next piece was taken. Where the sink failed nothing was taken.
-abbrev pub PieceMoves : Option (List ℕ) → Option (List ℕ) → Option (List ℕ) → Option (List ℕ) → Option (List ℕ) → Option (List ℕ) → Option (List ℕ) → Option (List ℕ) → List ℕ → PieceTaken → Result (Unit {0}) Served → PieceTaken → Type 0
-PieceMoves taken taken' left left' last last' held held' waiting old (Err answer.WriteFault) new = GivesSome held held' waiting × (taken' ≡ taken) × (left' ≡ left) × (last' ≡ last)
-PieceMoves taken taken' left left' last last' held held' waiting old result new = Gives held held' waiting [] × TakesNext taken taken' left left' last last' old result new
+abbrev pub PieceMoves : SourceTells → SourceTells → Option (List ℕ) → Option (List ℕ) → List ℕ → PieceTaken → Result (Unit {0}) Served → PieceTaken → Type 0
+PieceMoves source source' held held' waiting old (Err answer.WriteFault) new = GivesSome held held' waiting × (source' ≡ source)
+PieceMoves source source' held held' waiting old result new = Gives held held' waiting [] × TakesNext source source' old result new
 
 -- a connection whose first piece was taken was served to an end, however it came there, where this is what bytes ask
-abbrev pub SessionServed : (List ℕ → List ConnRequest) → Admission → Seen → Option (List ℕ) → List Stored → PieceTaken → Option (List ℕ) → Option (List ℕ) → Option (List ℕ) → ClockTells → Served → Seen → Option (List ℕ) → List Stored → Option (List ℕ) → Option (List ℕ) → Option (List ℕ) → ClockTells → Type 0
-SessionServed asks c seen held queue input taken left last clock result seen' held' queue' taken' left' last' clock' =
-    (from : Start) → Talks c from (record { taken = taken; left = left; last = last; clock = clock; size = input.taken }) (record { seen = seen; held = held; queue = queue; waiting = []; counts = no_counts }) (λ more. asks (input.piece ++ more))
-    → Ends c from taken' left' last' clock' result seen' held' queue'
+abbrev pub SessionServed : (List ℕ → List ConnRequest) → Admission → PieceTaken → ConnState → ConnState → Served → Type 0
+SessionServed asks c input before after result =
+    (from : ConnState) → Talks c from (record { source = before.source; clock = before.clock; size = input.taken }) (record { seen = before.seen; held = before.held; queue = before.queue; waiting = []; counts = no_counts }) (λ more. asks (input.piece ++ more))
+    → Ends c from after result
 
 -- this request is the next, whatever more bytes come; behind one that closes none is
 pub record IsNext (request : ConnRequest) (come come' : List ℕ → List ConnRequest) : Type 0 where

@@ -60,7 +60,8 @@ impl ConnInput {
 
     /// Takes the next piece, which has a byte. Else the serving ends: `End`, `ReadFault`, or `SessionFull` where 2^40 bytes were taken.
     pub fn take<S: Source>(&mut self, source: &mut S) -> Result<(), Served>
-        ensures takes { TakesNext (S.taken source.old) (S.taken source.new) (S.left source.old) (S.left source.new) (S.last source.old) (S.last source.new) self.old result self.new }
+        ensures takes { TakesNext (record { taken = S.taken source.old; left = S.left source.old; last = S.last source.old })
+            (record { taken = S.taken source.new; left = S.left source.new; last = S.last source.new }) self.old result self.new }
         ensures later { S.faults source.old ≤ S.faults source.new }
         ensures failed { result ≡ Err Served.ReadFault → Rose (S.faults source.old) (S.faults source.new) }
         ensures number { S.number source.new ≡ S.number source.old }

@@ -44,20 +44,26 @@ pub fn serve_conn<R: Rows + Drop, S: Source, K: Sink, C: Clock>(
     queue: &mut Queue,
 ) -> Served
     // In each lawful history that fits names keep their ids, and queries are answered plainly.
-    ensures headline { Passes (S.taken source.old) (S.taken source.new) (S.left source.old) (S.left source.new) (K.held sink.old) (K.held sink.new) (C.moments clock.old) (C.moments clock.new)
+    ensures headline { Passes (record { taken = S.taken source.old; left = S.left source.old; held = K.held sink.old; moments = C.moments clock.old })
+        (record { taken = S.taken source.new; left = S.left source.new; held = K.held sink.new; moments = C.moments clock.new })
         (λ input output times. InEach (R.seen names.new.rows) (λ h. Headline h (R.seen names.old.rows).length (R.seen names.new.rows).length input output times result)) }
 
-    ensures served { Passes (S.taken source.old) (S.taken source.new) (S.left source.old) (S.left source.new) (K.held sink.old) (K.held sink.new) (C.moments clock.old) (C.moments clock.new)
+    ensures served { Passes (record { taken = S.taken source.old; left = S.left source.old; held = K.held sink.old; moments = C.moments clock.old })
+        (record { taken = S.taken source.new; left = S.left source.new; held = K.held sink.new; moments = C.moments clock.new })
         (ServesBytes (admission config.now rule.now.patterns) (R.seen names.old.rows) result (R.seen names.new.rows)) }
-    ensures queue { Passes (S.taken source.old) (S.taken source.new) (S.left source.old) (S.left source.new) (K.held sink.old) (K.held sink.new) (C.moments clock.old) (C.moments clock.new)
+    ensures queue { Passes (record { taken = S.taken source.old; left = S.left source.old; held = K.held sink.old; moments = C.moments clock.old })
+        (record { taken = S.taken source.new; left = S.left source.new; held = K.held sink.new; moments = C.moments clock.new })
         (QueuesBytes (admission config.now rule.now.patterns) (R.seen names.old.rows) queue.old result (R.seen names.new.rows) queue.new) }
-    ensures calls { Passes (S.taken source.old) (S.taken source.new) (S.left source.old) (S.left source.new) (K.held sink.old) (K.held sink.new) (C.moments clock.old) (C.moments clock.new)
+    ensures calls { Passes (record { taken = S.taken source.old; left = S.left source.old; held = K.held sink.old; moments = C.moments clock.old })
+        (record { taken = S.taken source.new; left = S.left source.new; held = K.held sink.new; moments = C.moments clock.new })
         (AsksBytes (admission config.now rule.now.patterns) (R.seen names.old.rows) (C.calls clock.old) result (R.seen names.new.rows) (C.calls clock.new)) }
     // Before the last take all requests that had come whole were answered, none of which closes, and their replies given.
-    ensures pieces { Passes (S.taken source.old) (S.taken source.new) (S.left source.old) (S.left source.new) (K.held sink.old) (K.held sink.new) (C.moments clock.old) (C.moments clock.new)
+    ensures pieces { Passes (record { taken = S.taken source.old; left = S.left source.old; held = K.held sink.old; moments = C.moments clock.old })
+        (record { taken = S.taken source.new; left = S.left source.new; held = K.held sink.new; moments = C.moments clock.new })
         (TakesBytes (admission config.now rule.now.patterns) (R.seen names.old.rows) (S.last source.old) result (R.seen names.new.rows) (S.last source.new)) }
     ensures end { result ≡ Served.End → IsAtEnd (S.left source.new) }
-    ensures causes { ConnCauses (S.faults source.old) (S.faults source.new) (K.faults sink.old) (K.faults sink.new) (R.stops names.old.rows) (R.stops names.new.rows) (C.faults clock.old) (C.faults clock.new) result }
+    ensures causes { ConnCauses (record { reads = S.faults source.old; writes = K.faults sink.old; stops = R.stops names.old.rows; ticks = C.faults clock.old })
+        (record { reads = S.faults source.new; writes = K.faults sink.new; stops = R.stops names.new.rows; ticks = C.faults clock.new }) result }
     ensures source { S.number source.new ≡ S.number source.old }
     ensures sink { K.number sink.new ≡ K.number sink.old }
 {
@@ -75,10 +81,12 @@ fn serve_requests<R: Rows + Drop, S: Source, K: Sink, C: Clock>(
     clock: &mut C,
     queue: &mut Queue,
 ) -> Served
-    ensures served { Ends (admission config.now rule.now.patterns) (record { seen = R.seen names.old.rows; taken = S.taken source.old; left = S.left source.old; last = S.last source.old; clock = record { moments = C.moments clock.old; calls = C.calls clock.old }; held = K.held sink.old; queue = queue.old })
-        (S.taken source.new) (S.left source.new) (S.last source.new) (record { moments = C.moments clock.new; calls = C.calls clock.new }) result (R.seen names.new.rows) (K.held sink.new) queue.new }
+    ensures served { Ends (admission config.now rule.now.patterns)
+        (record { seen = R.seen names.old.rows; source = record { taken = S.taken source.old; left = S.left source.old; last = S.last source.old }; clock = record { moments = C.moments clock.old; calls = C.calls clock.old }; held = K.held sink.old; queue = queue.old })
+        (record { seen = R.seen names.new.rows; source = record { taken = S.taken source.new; left = S.left source.new; last = S.last source.new }; clock = record { moments = C.moments clock.new; calls = C.calls clock.new }; held = K.held sink.new; queue = queue.new }) result }
     ensures end { result ≡ Served.End → IsAtEnd (S.left source.new) }
-    ensures causes { ConnCauses (S.faults source.old) (S.faults source.new) (K.faults sink.old) (K.faults sink.new) (R.stops names.old.rows) (R.stops names.new.rows) (C.faults clock.old) (C.faults clock.new) result }
+    ensures causes { ConnCauses (record { reads = S.faults source.old; writes = K.faults sink.old; stops = R.stops names.old.rows; ticks = C.faults clock.old })
+        (record { reads = S.faults source.new; writes = K.faults sink.new; stops = R.stops names.new.rows; ticks = C.faults clock.new }) result }
     ensures source { S.number source.new ≡ S.number source.old }
     ensures sink { K.number sink.new ≡ K.number sink.old }
 {

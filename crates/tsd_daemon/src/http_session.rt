@@ -37,10 +37,12 @@ pub fn serve_http<R: Rows + Drop, S: Source, K: Sink, C: Clock>(
     input: &mut ConnInput,
 ) -> Served
     requires { input.old.taken ≤ 2 ^ 40 }
-    ensures served { SessionServed http_asks (admission config.now rule.now.patterns) (R.seen names.old.rows) (K.held sink.old) queue.old input.old (S.taken source.old) (S.left source.old) (S.last source.old) (record { moments = C.moments clock.old; calls = C.calls clock.old })
-        result (R.seen names.new.rows) (K.held sink.new) queue.new (S.taken source.new) (S.left source.new) (S.last source.new) (record { moments = C.moments clock.new; calls = C.calls clock.new }) }
+    ensures served { SessionServed http_asks (admission config.now rule.now.patterns) input.old
+        (record { seen = R.seen names.old.rows; source = record { taken = S.taken source.old; left = S.left source.old; last = S.last source.old }; clock = record { moments = C.moments clock.old; calls = C.calls clock.old }; held = K.held sink.old; queue = queue.old })
+        (record { seen = R.seen names.new.rows; source = record { taken = S.taken source.new; left = S.left source.new; last = S.last source.new }; clock = record { moments = C.moments clock.new; calls = C.calls clock.new }; held = K.held sink.new; queue = queue.new }) result }
     ensures end { result ≡ Served.End → IsAtEnd (S.left source.new) }
-    ensures causes { ConnCauses (S.faults source.old) (S.faults source.new) (K.faults sink.old) (K.faults sink.new) (R.stops names.old.rows) (R.stops names.new.rows) (C.faults clock.old) (C.faults clock.new) result }
+    ensures causes { ConnCauses (record { reads = S.faults source.old; writes = K.faults sink.old; stops = R.stops names.old.rows; ticks = C.faults clock.old })
+        (record { reads = S.faults source.new; writes = K.faults sink.new; stops = R.stops names.new.rows; ticks = C.faults clock.new }) result }
     ensures source { S.number source.new ≡ S.number source.old }
     ensures sink { K.number sink.new ≡ K.number sink.old }
 {

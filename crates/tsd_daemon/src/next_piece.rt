@@ -16,10 +16,12 @@ pub fn next_piece<S: Source, K: Sink>(
     replies: &mut ReplyBuffer,
     input: &mut ConnInput,
 ) -> Result<(), Served>
-    ensures moves { PieceMoves (S.taken source.old) (S.taken source.new) (S.left source.old) (S.left source.new) (S.last source.old) (S.last source.new) (K.held sink.old) (K.held sink.new) replies.old input.old result input.new }
+    ensures moves { PieceMoves (record { taken = S.taken source.old; left = S.left source.old; last = S.last source.old })
+        (record { taken = S.taken source.new; left = S.left source.new; last = S.last source.new }) (K.held sink.old) (K.held sink.new) replies.old input.old result input.new }
     ensures none { OnOk result (replies.new ≡ []) }
     ensures end { result ≡ Err Served.End → IsAtEnd (S.left source.new) }
-    ensures causes { IfErr result (λ end. (stops ticks : ℕ) → ConnCauses (S.faults source.old) (S.faults source.new) (K.faults sink.old) (K.faults sink.new) stops stops ticks ticks end) }
+    ensures causes { IfErr result (λ end. (stops ticks : ℕ) → ConnCauses (record { reads = S.faults source.old; writes = K.faults sink.old; stops = stops; ticks = ticks })
+        (record { reads = S.faults source.new; writes = K.faults sink.new; stops = stops; ticks = ticks }) end) }
     ensures later { (S.faults source.old ≤ S.faults source.new) × (K.faults sink.old ≤ K.faults sink.new) }
     ensures source { S.number source.new ≡ S.number source.old }
     ensures sink { K.number sink.new ≡ K.number sink.old }

@@ -35,10 +35,12 @@ pub fn serve_telnet<R: Rows + Drop, S: Source, K: Sink>(
     input: &mut ConnInput,
 ) -> Served
     requires { input.old.taken ≤ 2 ^ 40 }
-    ensures served { (clock : ClockTells) → SessionServed telnet_asks (admission config.now rule.now.patterns) (R.seen names.old.rows) (K.held sink.old) queue.old input.old (S.taken source.old) (S.left source.old) (S.last source.old) clock
-        result (R.seen names.new.rows) (K.held sink.new) queue.new (S.taken source.new) (S.left source.new) (S.last source.new) clock }
+    ensures served { (clock : ClockTells) → SessionServed telnet_asks (admission config.now rule.now.patterns) input.old
+        (record { seen = R.seen names.old.rows; source = record { taken = S.taken source.old; left = S.left source.old; last = S.last source.old }; clock = clock; held = K.held sink.old; queue = queue.old })
+        (record { seen = R.seen names.new.rows; source = record { taken = S.taken source.new; left = S.left source.new; last = S.last source.new }; clock = clock; held = K.held sink.new; queue = queue.new }) result }
     ensures end { result ≡ Served.End → IsAtEnd (S.left source.new) }
-    ensures causes { (ticks : ℕ) → ConnCauses (S.faults source.old) (S.faults source.new) (K.faults sink.old) (K.faults sink.new) (R.stops names.old.rows) (R.stops names.new.rows) ticks ticks result }
+    ensures causes { (ticks : ℕ) → ConnCauses (record { reads = S.faults source.old; writes = K.faults sink.old; stops = R.stops names.old.rows; ticks = ticks })
+        (record { reads = S.faults source.new; writes = K.faults sink.new; stops = R.stops names.new.rows; ticks = ticks }) result }
     ensures source { S.number source.new ≡ S.number source.old }
     ensures sink { K.number sink.new ≡ K.number sink.old }
 {

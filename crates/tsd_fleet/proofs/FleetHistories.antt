@@ -15,15 +15,14 @@ use Rattle.cell_model.specs.Seen.{Seen, Saw, IsOwn, Fits}
 use Rattle.step_count.specs.CounterRule.{AreDifferent, opening}
 use Rattle.step_count.proofs.CallerLemmas.{none_different}
 use Rattle.region_locks.specs.CallerViews.{numbers_of}
-use Rattle.point_put.specs.Admissions.{Admission}
 use Rattle.tsd_daemon.specs.declared.served.Served.{Served}
 use Rattle.row_compactors.specs.Upkeep.{brings_new}
-use Rattle.conn_workers.specs.ServedLinks.{IsWithin, OnlyServed, ServedInTurn, ServedLink}
+use Rattle.conn_workers.specs.ServedLinks.{IsWithin, OnlyServed, ServedInTurn, ServedLink, ServingTerms}
 use Rattle.conn_workers.specs.ServedLinks.ServedInTurn.{none_yet, then_served}
 use Rattle.link_workers.specs.Returns.{AllEnd}
 use Rattle.site_workers.specs.GatheredLinks.{CallerLinks, Gathered, GivenBack, callers_of, links_of}
 use Rattle.site_workers.proofs.CallerLemmas.{none_end}
-use Rattle.tsd_fleet.specs.Devices.{DoorsTold, FleetDevices, Terms}
+use Rattle.tsd_fleet.specs.Devices.{DoorsTold, FleetDevices, Terms, returns_told, served_by}
 use Rattle.fleet_threads.specs.WorkedSites.{SiteWorked}
 use Rattle.fleet_threads.proofs.CallerLemmas.{own_number}
 use Rattle.tsd_fleet.specs.FleetStands.{FleetStands, MadeServing}
@@ -76,7 +75,7 @@ within_or_behind n m = at (nat_le n m) refl
     at false t = inr (search (rules, t))
 
 -- an entry that brings something new is within the lengths of a connection
-serves_one : {T U : Type 0} {c : Admission} {moments : Option (List ℕ)} {h : History} {caller : ℕ} {links : List ServedLink} {last : ℕ} (turns : ServedInTurn T U c moments h caller links last) (place : ℕ) (e : Entry) → place ≤ last → e.caller ≡ caller
+serves_one : {terms : ServingTerms} {h : History} {caller : ℕ} {links : List ServedLink} {last : ℕ} (turns : ServedInTurn terms h caller links last) (place : ℕ) (e : Entry) → place ≤ last → e.caller ≡ caller
     → entry_at h place ≡ Some e → brings_new e.step ≡ true → IsWithin turns place
 serves_one (none_yet last alone) place e le own at new = absurd (true≢false (sym new ∙ ap brings_new (alone place e le own at)))
 serves_one (then_served {before = before} {n = n} {n2 = n2} link earlier up1 up2 up3 none1 none2 served) place e le own at new = ⊎_elim
@@ -98,7 +97,7 @@ none_back terms before after ends law same still none = record {
   store_is = refl;
   callers = [];
   different = none_different;
-  served = All-nil (λ (k : CallerLinks). OnlyServed terms.inlets_tell terms.outlets_tell terms.admission before.clock.moments (Base terms.base) k.caller k.last k.links);
+  served = All-nil (λ (k : CallerLinks). OnlyServed (served_by terms before.clock.moments) (Base terms.base) k.caller k.last k.links);
   given = record { doors = subst (λ (o : Option (List Shut)). AllEnd before.doors.back o []) (sym same) (none_end before.doors.back); ends_are = none; clock_faults = omega (arith, still) };
   nothing_else = λ place e at new. absurd (no_entry e at);
 }
@@ -110,7 +109,7 @@ none_back terms before after ends law same still none = record {
 pub stands : (terms : Terms) (before after : FleetDevices) (opened : List ℕ) (s : Seen) (store : Store) (ends : List Served) (h : History) → IsLawful h → Fits s h → base_of h ≡ terms.base → store ≡ store_after h
     → ((place : ℕ) (e : Entry) → IsOwn s e.caller → entry_at h place ≡ Some e → Saw s place e) → ((caller : ℕ) → IsOwn s caller → (entry_at h caller ≡ Some (opening caller)) × Contains opened caller)
     → ((place : ℕ) (e : Entry) → entry_at h place ≡ Some e → Contains opened e.caller)
-    → SiteWorked terms.inlets_tell terms.outlets_tell terms.admission before.clock.moments opened s before.doors.back after.doors.back before.clock.faults after.clock.faults ends → FleetStands terms before after store ends
+    → SiteWorked (served_by terms before.clock.moments) opened s (returns_told before) (returns_told after) ends → FleetStands terms before after store ends
 stands terms before after opened s store ends h law fits base_is store_is own mine listed w = record {
   history = h;
   lawful = law;
@@ -126,7 +125,7 @@ stands terms before after opened s store ends h law fits base_is store_is own mi
       (Contains-append_cases (callers_of g.callers) w.others e.caller (all_listed (callers_of g.callers ++ w.others) opened w.different within count e.caller (listed place e at)));
 }
   where
-    g : Gathered terms.inlets_tell terms.outlets_tell terms.admission before.clock.moments s (numbers_of s) w.count before.doors.back after.doors.back before.clock.faults after.clock.faults ends
+    g : Gathered (served_by terms before.clock.moments) s (numbers_of s) w.count (returns_told before) (returns_told after) ends
     g = w.gathered
 
     within : (number : ℕ) → Contains (callers_of g.callers ++ w.others) number → Contains opened number
@@ -135,10 +134,10 @@ stands terms before after opened s store ends h law fits base_is store_is own mi
     count : length opened ≡ length (callers_of g.callers ++ w.others)
     count = w.all ∙ sym (length-append (callers_of g.callers) w.others ∙ ap (λ n. n + length w.others) (length-map g.callers (λ (k : CallerLinks). k.caller) ∙ g.count_is))
 
-    serving : (place : ℕ) (e : Entry) → entry_at h place ≡ Some e → brings_new e.step ≡ true → (k : CallerLinks) × Contains g.callers k × (k.caller ≡ e.caller) → MadeServing terms.inlets_tell terms.outlets_tell terms.admission before.clock.moments h g.callers place e
+    serving : (place : ℕ) (e : Entry) → entry_at h place ≡ Some e → brings_new e.step ≡ true → (k : CallerLinks) × Contains g.callers k × (k.caller ≡ e.caller) → MadeServing (served_by terms before.clock.moments) h g.callers place e
     serving place e at new k =
         let low = (own place e (own_number s e.caller (g.among e.caller (subst (Contains (callers_of g.callers)) k.2 (in_map (λ (k : CallerLinks). k.caller) g.callers k.0 k.1)))) at).0 in
-        let turns = (all_in (λ (k : CallerLinks). OnlyServed terms.inlets_tell terms.outlets_tell terms.admission before.clock.moments h k.caller k.last k.links) k.0 g.callers (g.served h law fits) k.1).in_turn in
+        let turns = (all_in (λ (k : CallerLinks). OnlyServed (served_by terms before.clock.moments) h k.caller k.last k.links) k.0 g.callers (g.served h law fits) k.1).in_turn in
         (k.0, k.1, sym k.2, (turns, serves_one turns place e (g.none_behind k.0 k.1 h fits place e low (sym k.2) at) (sym k.2) at new))
 
 -- the same over another name of the base, where the doors were otherwise before
@@ -152,6 +151,6 @@ stands_from terms b before after d store ends same still f = record {
   callers = f.callers;
   different = f.different;
   served = f.served;
-  given = subst (λ (o : Option (List Shut)). GivenBack o after.doors.back before.clock.faults after.clock.faults ends (links_of f.callers)) still f.given;
+  given = subst (λ (o : Option (List Shut)). GivenBack (record { back = o; clock_faults = before.clock.faults }) (returns_told after) ends (links_of f.callers)) still f.given;
   nothing_else = f.nothing_else;
 }

@@ -36,7 +36,7 @@ use Rattle.tsd_daemon.specs.declared.served.Served.{Served}
 use Rattle.tsd_fleet.specs.declared.fleet_end.FleetEnd.{FleetEnd}
 use Rattle.tsd_fleet.specs.declared.fleet_end.FleetEnd.TheVariants as end
 use Rattle.site_workers.specs.GatheredLinks.{SiteCounts}
-use Rattle.tsd_fleet.specs.Devices.{DoorsTold, FleetDevices, NoneFalls, Terms}
+use Rattle.tsd_fleet.specs.Devices.{DoorsTold, FleetDevices, NoneFalls, Terms, returns_told}
 use Rattle.fleet_threads.specs.WorkedSites.{SiteWorked}
 use Rattle.tsd_fleet.specs.FleetStands.{FleetStands}
 use Rattle.tsd_fleet.specs.FleetServes.{AsksAccepts, BeginsToListen, BindsAsked, CountsLinks, FleetDoes, FleetKeeps, HasFleetReason, HasListened, IsListenFault, IsTally, KeepsRows, Listens, Outcome, ServesKept, is_die, listening_line, outcome_none}
@@ -230,13 +230,13 @@ empty_tally tally ids rows cells = record {
 -- the site's history is one in which all was served
 fleet_stands : (terms : Terms) (before after : FleetDevices) (opened : List ℕ) (s : Seen) (name given : Named) (c : Admission) (moments : Option (List ℕ)) (d : DividedStore) (ends : List Served)
     → given ≡ name → terms.base ≡ store_in given → terms.admission ≡ c → before.clock.moments ≡ moments → EndsAt name opened s d
-    → SiteWorked terms.inlets_tell terms.outlets_tell c moments opened s before.doors.back after.doors.back before.clock.faults after.clock.faults ends → FleetStands terms before after d.content ends
+    → SiteWorked (record { admission = c; moments = moments; inlets_tell = terms.inlets_tell; outlets_tell = terms.outlets_tell }) opened s (returns_told before) (returns_told after) ends → FleetStands terms before after d.content ends
 fleet_stands terms before after opened s name given c moments d ends same base admits gave e w =
     stands terms before after opened s d.content ends e.history e.lawful e.fits (e.base_is ∙ sym (base ∙ ap store_in same)) e.store_is e.own e.mine e.callers
     (subst (λ (m : Option (List ℕ)). Worked terms.admission m) (sym gave) (subst (λ (a : Admission). Worked a moments) (sym admits) w))
   where
     Worked : Admission → Option (List ℕ) → Type 0
-    Worked a m = SiteWorked terms.inlets_tell terms.outlets_tell a m opened s before.doors.back after.doors.back before.clock.faults after.clock.faults ends
+    Worked a m = SiteWorked (record { admission = a; moments = m; inlets_tell = terms.inlets_tell; outlets_tell = terms.outlets_tell }) opened s (returns_told before) (returns_told after) ends
 
 -- ---- all of it
 
@@ -244,7 +244,7 @@ module _ {H : Type 0} (answers : H → Bool → H → Type 0) where
   -- a site's workers served connections
   pub serves_kept : (terms : Terms) (before after : FleetDevices) (old new : H) (o : Outcome) (opened : List ℕ) (s : Seen) (name given : Named) (c : Admission) (moments : Option (List ℕ)) (d : DividedStore) (e : AcceptEnd) (ends : List Served) (rows : Option DividedStore)
       → given ≡ name → terms.base ≡ store_in given → terms.admission ≡ c → before.clock.moments ≡ moments → EndsAt name opened s d
-      → SiteWorked terms.inlets_tell terms.outlets_tell c moments opened s before.doors.back after.doors.back before.clock.faults after.clock.faults o.ends → IsTally d.content o.tally → ends ≡ o.ends
+      → SiteWorked (record { admission = c; moments = moments; inlets_tell = terms.inlets_tell; outlets_tell = terms.outlets_tell }) opened s (returns_told before) (returns_told after) o.ends → IsTally d.content o.tally → ends ≡ o.ends
       → (o.end ≡ end.Closed → (e ≡ accept_end.NoneLeft) × (list_any is_die ends ≡ Bool.false)) → (o.end ≡ end.Died → (e ≡ accept_end.NoneLeft) × (list_any is_die ends ≡ Bool.true))
       → (o.end ≡ end.Stopped → e ≡ accept_end.Stopped) → (e ≡ accept_end.Stopped → o.end ≡ end.Stopped) → (e ≡ accept_end.OutOfMemory → o.end ≡ end.OutOfMemory) → (o.end ≡ end.DoorFault → e ≡ accept_end.DoorFault) → o.end ≢ end.WriteFault
       → SiteCounts e o.links (length o.ends) before.doors.counts after.doors.counts → HasReason e before.doors.waiting after.doors.waiting before.stops after.stops before.doors.faults after.doors.faults

@@ -1,21 +1,20 @@
 -- What the connections of a fleet were served in: one history, which the store that is left comes of.
-use Rattle.std.specs.Prelude.{◌≡◌, ℕ, true, List, Contains, Option, Some}
+use Rattle.std.specs.Prelude.{◌≡◌, ℕ, true, List, Contains, Some}
 use Rattle.cell_model.specs.Store.{Store}
 use Rattle.cell_model.specs.declared.events.Entry.{Entry}
 use Rattle.cell_model.specs.History.{History, base_of, entry_at, store_after}
 use Rattle.cell_model.specs.Lawful.{IsLawful}
 use Rattle.step_count.specs.CounterRule.{AreDifferent}
-use Rattle.point_put.specs.Admissions.{Admission}
 use Rattle.tsd_daemon.specs.declared.served.Served.{Served}
 use Rattle.row_compactors.specs.Upkeep.{brings_new}
-use Rattle.conn_workers.specs.ServedLinks.{IsWithin, ServedInTurn}
+use Rattle.conn_workers.specs.ServedLinks.{IsWithin, ServedInTurn, ServingTerms}
 use Rattle.site_workers.specs.GatheredLinks.{AllInTurn, CallerLinks, GivenBack, callers_of, links_of}
-use Rattle.tsd_fleet.specs.Devices.{FleetDevices, Terms}
+use Rattle.tsd_fleet.specs.Devices.{FleetDevices, Terms, returns_told, served_by}
 
 -- one of these callers made the entry at this place within the lengths of a connection that it served
-abbrev pub MadeServing : Type 0 → Type 0 → Admission → Option (List ℕ) → History → List CallerLinks → ℕ → Entry → Type 0
-MadeServing inlets_tell outlets_tell c moments h callers place e =
-    (k : CallerLinks) × Contains callers k × (e.caller ≡ k.caller) × ((turns : ServedInTurn inlets_tell outlets_tell c moments h k.caller k.links k.last) × IsWithin turns place)
+abbrev pub MadeServing : ServingTerms → History → List CallerLinks → ℕ → Entry → Type 0
+MadeServing terms h callers place e =
+    (k : CallerLinks) × Contains callers k × (e.caller ≡ k.caller) × ((turns : ServedInTurn terms h k.caller k.links k.last) × IsWithin turns place)
 
 -- Over one lawful history over the base connections were served, each by one of some callers, of which no two are one and all opened in it, and this is the store after
 -- it. So no two connections share a place of the history, whoever served them. Those that were given back are as told; for want of memory the others may not be.
@@ -28,6 +27,6 @@ pub record FleetStands (terms : Terms) (before after : FleetDevices) (store : St
   pub store_is : store ≡ store_after history
   pub callers : List CallerLinks
   pub different : AreDifferent (callers_of callers)
-  pub served : AllInTurn terms.inlets_tell terms.outlets_tell terms.admission before.clock.moments history callers
-  pub given : GivenBack before.doors.back after.doors.back before.clock.faults after.clock.faults ends (links_of callers)
-  pub nothing_else : (place : ℕ) (e : Entry) → entry_at history place ≡ Some e → brings_new e.step ≡ true → MadeServing terms.inlets_tell terms.outlets_tell terms.admission before.clock.moments history callers place e
+  pub served : AllInTurn (served_by terms before.clock.moments) history callers
+  pub given : GivenBack (returns_told before) (returns_told after) ends (links_of callers)
+  pub nothing_else : (place : ℕ) (e : Entry) → entry_at history place ≡ Some e → brings_new e.step ≡ true → MadeServing (served_by terms before.clock.moments) history callers place e

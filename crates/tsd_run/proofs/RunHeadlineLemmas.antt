@@ -20,14 +20,13 @@ use Rattle.cell_laws.proofs.CallerLemmas.{empty_base, no_cell}
 use Rattle.list_lemmas.proofs.BoolTests.{not_Some}
 use Rattle.list_lemmas.proofs.ListMembers.{all_in}
 use Rattle.list_lemmas.proofs.ListParts.{all_of}
-use Rattle.point_put.specs.Admissions.{Admission}
 use Rattle.tsd_daemon.specs.TakenInTurn.{InTurn}
 use Rattle.tsd_daemon.specs.TakenInTurn.InTurn.{none_yet, then_one}
 use Rattle.tsd_daemon.proofs.CallerLemmas.{one_id_each, served_headline}
-use Rattle.conn_workers.specs.ServedLinks.{LinkServed, OnlyServed, ServedInTurn, ServedLink}
+use Rattle.conn_workers.specs.ServedLinks.{LinkServed, OnlyServed, ServedInTurn, ServedLink, ServingTerms}
 use Rattle.conn_workers.specs.ServedLinks.ServedInTurn.{none_yet as none_served, then_served}
 use Rattle.site_workers.specs.GatheredLinks.{AllInTurn, CallerLinks}
-use Rattle.tsd_fleet.specs.Devices.{DoorsTold}
+use Rattle.tsd_fleet.specs.Devices.{DoorsTold, served_by}
 use Rattle.tsd_fleet.specs.FleetServes.{IsTally, listening_line}
 use Rattle.tsd_fleet.specs.declared.fleet_end.FleetEnd.{FleetEnd}
 use Rattle.tsd_fleet.specs.declared.fleet_end.FleetEnd.TheVariants as end
@@ -40,7 +39,7 @@ use Rattle.tsd_run.specs.FleetStatuses.{BeginsWith, LacksStore, ServesFleet, Tak
 use Rattle.tsd_run.specs.RunDevices.{Devices, LoneDevices, fleet, lone}
 use Rattle.tsd_run.specs.RunHeadlines.{BeginsSo, FleetHeadline, IsOwnHistory, LinkHeadline, LoneHeadline, RunHeadline, StdioHeadline}
 use Rattle.tsd_run.specs.RunPromises.{RanAlone, Runs}
-use Rattle.tsd_run.specs.Runs.{RunsAlone, ServesStdio, admission_of}
+use Rattle.tsd_run.specs.Runs.{RunsAlone, ServesStdio}
 use Rattle.batch_run.proofs.PlainBatches.{batch_headline}
 
 -- ---- a store of one's own
@@ -128,8 +127,8 @@ ran_headline before after status asked other same ran = subst (λ (a : Option As
 
 -- ---- a fleet
 
-module _ (inlets_tell outlets_tell : Type 0) (c : Admission) (moments : Option (List ℕ)) (h : History) (lawful : IsLawful h) where
-  link_headline : (caller n n2 : ℕ) (link : ServedLink) → LinkServed inlets_tell outlets_tell c moments h caller n n2 link → LinkHeadline inlets_tell outlets_tell moments h n n2 link
+module _ (terms : ServingTerms) (h : History) (lawful : IsLawful h) where
+  link_headline : (caller n n2 : ℕ) (link : ServedLink) → LinkServed terms h caller n n2 link → LinkHeadline terms.inlets_tell terms.outlets_tell terms.moments h n n2 link
   link_headline caller n n2 link s = record {
     input = s.input;
     output = s.output;
@@ -137,16 +136,16 @@ module _ (inlets_tell outlets_tell : Type 0) (c : Admission) (moments : Option (
     taken = s.taken;
     given = s.given;
     clock = s.clock;
-    headline = served_headline c h caller n n2 s.input s.output s.times link.1 lawful s.served;
+    headline = served_headline terms.admission h caller n n2 s.input s.output s.times link.1 lawful s.served;
   }
 
-  links_headline : (caller : ℕ) {links : List ServedLink} {last : ℕ} → ServedInTurn inlets_tell outlets_tell c moments h caller links last → InTurn (LinkHeadline inlets_tell outlets_tell moments h) 0 links last
+  links_headline : (caller : ℕ) {links : List ServedLink} {last : ℕ} → ServedInTurn terms h caller links last → InTurn (LinkHeadline terms.inlets_tell terms.outlets_tell terms.moments h) 0 links last
   links_headline caller (none_served last alone) = none_yet (omega arith)
   links_headline caller (then_served {n = n} {n2 = n2} link before a b d none_before none_behind served) = then_one link (links_headline caller before) a b d (link_headline caller n n2 link served)
 
-  all_headline : (callers : List CallerLinks) → AllInTurn inlets_tell outlets_tell c moments h callers → All (λ (k : CallerLinks). InTurn (LinkHeadline inlets_tell outlets_tell moments h) 0 k.links k.last) callers
-  all_headline callers all = all_of (λ (k : CallerLinks). InTurn (LinkHeadline inlets_tell outlets_tell moments h) 0 k.links k.last) callers
-      (λ k i. links_headline k.caller (all_in (λ (k : CallerLinks). OnlyServed inlets_tell outlets_tell c moments h k.caller k.last k.links) k callers all i).in_turn)
+  all_headline : (callers : List CallerLinks) → AllInTurn terms h callers → All (λ (k : CallerLinks). InTurn (LinkHeadline terms.inlets_tell terms.outlets_tell terms.moments h) 0 k.links k.last) callers
+  all_headline callers all = all_of (λ (k : CallerLinks). InTurn (LinkHeadline terms.inlets_tell terms.outlets_tell terms.moments h) 0 k.links k.last) callers
+      (λ k i. links_headline k.caller (all_in (λ (k : CallerLinks). OnlyServed terms h k.caller k.last k.links) k callers all i).in_turn)
 
 nothing_back : (back : Option (List Shut)) → AllEnd back back []
 nothing_back None = tt
@@ -197,7 +196,7 @@ module _ (s : Serve) (inlets_tell outlets_tell : Type 0) (before after : Devices
         callers = stands.callers;
         begins = store_begins s.image base stands.callers stands.history stands.lawful stands.base_is begins;
         given_back = stands.given.doors;
-        each = all_headline inlets_tell outlets_tell (admission_of s.names s.appends) before.clock.moments stands.history stands.lawful stands.callers stands.served;
+        each = all_headline (served_by (terms_of s inlets_tell outlets_tell base) before.clock.moments) stands.history stands.lawful stands.callers stands.served;
         printed = λ is.
             let all = runs.prints.whole (ended_done ended refused (sym is ∙ status_is)) in
             subst

@@ -8,7 +8,7 @@ use Rattle.tsd_hooks.specs.declared.name_patterns.Patterns.{Patterns}
 use Rattle.point_put.specs.declared.config.Config.{Config}
 use Rattle.point_put.specs.Admissions.{Admission, admission}
 use Rattle.tsd_daemon.specs.declared.served.Served.{Served}
-use Rattle.tsd_daemon.specs.ServedConns.{Passes}
+use Rattle.tsd_daemon.specs.ServedConns.{ConnTold, Passes}
 use Rattle.stdio_job.specs.LoneConnections.{ServesAlone}
 use Rattle.tsd_daemon.specs.declared.served.Served.TheVariants as served
 use Rattle.stdio_job.proofs.CallerLemmas.{none_alone}
@@ -21,7 +21,7 @@ use Rattle.import_job.specs.declared.import_end.ImportEnd.TheVariants as importe
 use Rattle.import_job.proofs.CallerLemmas.{not_begun}
 use Rattle.batch_run.specs.declared.status.Status.{Status}
 use Rattle.batch_run.specs.declared.status.Status.TheVariants.{Memory}
-use Rattle.tsd_run.specs.RunDevices.{LoneDevices}
+use Rattle.tsd_run.specs.RunDevices.{LoneDevices, conn_told}
 use Rattle.batch_run.specs.BatchRuns.{RunsPrinted}
 use Rattle.tsd_run.specs.Runs.{HasStatus, RunsAlone, RunsOver, RunsUnpack, ServesStdio, admission_of}
 use Rattle.batch_run.proofs.CallerLemmas.{unread_printed}
@@ -31,9 +31,9 @@ pub admitted : (s : NameOptions) (appends : Bool) (config : Config) (patterns : 
 admitted s appends config patterns is same = ap (λ (c : Config). admission c patterns) is ∙ ap (admission (admission_of s appends).config) same
 
 -- a connection was served as the words say
-pub served_by : (s : Stdio) (c : Admission) (taken taken' left left' held held' moments moments' : Option (List ℕ)) (result : Served) (status : Status) → c ≡ admission_of s.names s.appends → HasStatus result status
-    → Passes taken taken' left left' held held' moments moments' (ServesAlone s.widths c s.publish result) → Passes taken taken' left left' held held' moments moments' (ServesStdio s status)
-served_by s c taken taken' left left' held held' moments moments' result status is how p = record {
+pub served_by : (s : Stdio) (c : Admission) (before after : ConnTold) (result : Served) (status : Status) → c ≡ admission_of s.names s.appends → HasStatus result status
+    → Passes before after (ServesAlone s.widths c s.publish result) → Passes before after (ServesStdio s status)
+served_by s c before after result status is how p = record {
   input = p.input;
   output = p.output;
   times = p.times;
@@ -44,12 +44,11 @@ served_by s c taken taken' left left' held held' moments moments' result status 
   so = (result, subst (λ (a : Admission). ServesAlone s.widths a s.publish result p.input p.output p.times) is p.so, how);
 }
 
-module _ (taken left held moments : Option (List ℕ)) where
-  -- there was no memory to serve a connection
-  pub unserved : (s : Stdio) (status : Status) → status ≡ Memory → Passes taken taken left left held held moments moments (ServesStdio s status)
-  unserved s status is = served_by s (admission_of s.names s.appends) taken taken left left held held moments moments served.OutOfMemory status refl is
-      (none_alone s.widths (admission_of s.names s.appends) s.publish taken left held moments served.OutOfMemory refl)
+-- there was no memory to serve a connection
+pub unserved : (told : ConnTold) (s : Stdio) (status : Status) → status ≡ Memory → Passes told told (ServesStdio s status)
+unserved told s status is = served_by s (admission_of s.names s.appends) told told served.OutOfMemory status refl is (none_alone s.widths (admission_of s.names s.appends) s.publish told served.OutOfMemory refl)
 
+module _ (taken left held : Option (List ℕ)) where
   -- nor to read a listing
   unread_listing : (Tells : ListingRead → Told → Type 0) (widths : Widths) → RunsOver Tells widths taken taken left left held held Memory
   unread_listing Tells widths = (listing.OutOfMemory, record { bytes = []; takes = Appends-nil taken; leaves = Consumes-nil left; ends = inl refl }, refl)
@@ -63,12 +62,12 @@ module _ (d : LoneDevices) where
   printed_none batch = unread_printed d.input.taken d.input.left d.output.held batch
 
   listing_none : (Tells : ListingRead → Told → Type 0) (widths : Widths) → RunsOver Tells widths d.input.taken d.input.taken d.input.left d.input.left d.output.held d.output.held Memory
-  listing_none Tells widths = unread_listing d.input.taken d.input.left d.output.held d.clock.moments Tells widths
+  listing_none Tells widths = unread_listing d.input.taken d.input.left d.output.held Tells widths
 
   -- there was no memory for the words
   pub runs_unread : (asked : Option Asked) → RunsAlone asked d d Memory
   runs_unread (Some (BatchAsked batch)) = (printed_none (Some batch), refl)
-  runs_unread (Some (StdioAsked s)) = unserved d.input.taken d.input.left d.output.held d.clock.moments s Memory refl
+  runs_unread (Some (StdioAsked s)) = unserved (conn_told d) s Memory refl
   runs_unread (Some (ServeAsked s)) = (printed_none None, refl)
   runs_unread (Some (ImportAsked i)) = ((imported.OutOfMemory, not_begun i.widths i.compact d.input.taken d.input.left d.output.held, refl), refl)
   runs_unread (Some (DumpAsked widths)) = (listing_none Dumped widths, refl)
@@ -76,5 +75,5 @@ module _ (d : LoneDevices) where
   runs_unread (Some (FixAsked widths)) = (listing_none Fixed widths, refl)
   runs_unread (Some (WeaveAsked w)) = (refl, refl, refl, refl)
   runs_unread (Some (PackAsked widths)) = (listing_none Packed widths, refl)
-  runs_unread (Some UnpackAsked) = (unread_image d.input.taken d.input.left d.output.held d.clock.moments, refl)
+  runs_unread (Some UnpackAsked) = (unread_image d.input.taken d.input.left d.output.held, refl)
   runs_unread None = (printed_none None, refl)

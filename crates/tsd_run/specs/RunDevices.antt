@@ -1,5 +1,6 @@
 -- What the devices of a run tell at a moment.
 use Rattle.std.specs.Prelude.{ℕ, List, Option}
+use Rattle.tsd_daemon.specs.ServedConns.{ConnTold}
 use Rattle.tsd_fleet.specs.Devices.{ClockTold, DoorsTold, FleetDevices, OutputTold}
 
 -- an input: the bytes that were taken of it and those that are left, where it tells them, and how often it failed
@@ -26,6 +27,10 @@ pub record Devices : Type 0 where
 -- those that such a command has
 abbrev pub lone : Devices → LoneDevices
 lone d = record { input = d.input; output = d.output; clock = d.clock; stops = d.stops }
+
+-- what they tell of the connection that such a command may serve
+abbrev pub conn_told : LoneDevices → ConnTold
+conn_told d = record { taken = d.input.taken; left = d.input.left; held = d.output.held; moments = d.clock.moments }
 
 -- those that a fleet has
 abbrev pub fleet : Devices → FleetDevices

@@ -22,7 +22,7 @@ use Rattle.batch_run.specs.declared.status.Status.{Status}
 use Rattle.batch_run.specs.declared.status.Status.TheVariants.{Done}
 use Rattle.batch_run.specs.BatchHeadlines.{BatchHeadline}
 use Rattle.tsd_run.specs.FleetStatuses.{TakesStore}
-use Rattle.tsd_run.specs.RunDevices.{Devices, InputTold, LoneDevices, lone}
+use Rattle.tsd_run.specs.RunDevices.{Devices, InputTold, LoneDevices, conn_told, lone}
 use Rattle.tsd_run.specs.Runs.{HasStatus}
 
 -- ---- a store of the run's own
@@ -77,10 +77,8 @@ pub record FleetHeadline (s : Serve) (inlets_tell outlets_tell : Type 0) (before
 
 -- of the commands that wait for nobody
 abbrev pub LoneHeadline : Option Asked → (before after : LoneDevices) → Status → Type 0
-LoneHeadline (Some (BatchAsked batch)) before after status =
-    Passes before.input.taken after.input.taken before.input.left after.input.left before.output.held after.output.held before.clock.moments after.clock.moments (BatchHeadline batch status)
-LoneHeadline (Some (StdioAsked s)) before after status =
-    Passes before.input.taken after.input.taken before.input.left after.input.left before.output.held after.output.held before.clock.moments after.clock.moments (StdioHeadline s.publish status)
+LoneHeadline (Some (BatchAsked batch)) before after status = Passes (conn_told before) (conn_told after) (BatchHeadline batch status)
+LoneHeadline (Some (StdioAsked s)) before after status = Passes (conn_told before) (conn_told after) (StdioHeadline s.publish status)
 LoneHeadline other before after status = Unit {0}
 
 -- of any words

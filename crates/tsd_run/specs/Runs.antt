@@ -23,7 +23,7 @@ use Rattle.listing_print.specs.GivenTexts.{GaveFront}
 use Rattle.weave_script.specs.declared.script_counts.Woven.{Woven}
 use Rattle.weave_script.specs.WovenCounts.{CountsWoven, woven_text}
 use Rattle.batch_run.specs.BatchRuns.{RunsPrinted}
-use Rattle.tsd_run.specs.RunDevices.{LoneDevices}
+use Rattle.tsd_run.specs.RunDevices.{LoneDevices, conn_told}
 
 -- Of each status how the serving of a connection ended.
 abbrev pub HasStatus : Served → Status → Type 0
@@ -93,7 +93,7 @@ Weaves count held held' _ = ⊥
 -- What a command that waits for nobody took and gave, the moments that its clock gives before and after, and its status. Words that are no command print the usage line, and so do those of a fleet, which waits for others.
 abbrev pub RunsAlone : Option Asked → (before after : LoneDevices) → Status → Type 0
 RunsAlone (Some (BatchAsked batch)) before after status = RunsPrinted (Some batch) before.input.taken after.input.taken before.input.left after.input.left before.output.held after.output.held status × (after.clock.moments ≡ before.clock.moments)
-RunsAlone (Some (StdioAsked s)) before after status = Passes before.input.taken after.input.taken before.input.left after.input.left before.output.held after.output.held before.clock.moments after.clock.moments (ServesStdio s status)
+RunsAlone (Some (StdioAsked s)) before after status = Passes (conn_told before) (conn_told after) (ServesStdio s status)
 RunsAlone (Some (ServeAsked s)) before after status = RunsPrinted None before.input.taken after.input.taken before.input.left after.input.left before.output.held after.output.held status × (after.clock.moments ≡ before.clock.moments)
 RunsAlone (Some (ImportAsked i)) before after status = RunsImport i before.input.taken after.input.taken before.input.left after.input.left before.output.held after.output.held status × (after.clock.moments ≡ before.clock.moments)
 RunsAlone (Some (DumpAsked widths)) before after status = RunsOver Dumped widths before.input.taken after.input.taken before.input.left after.input.left before.output.held after.output.held status × (after.clock.moments ≡ before.clock.moments)

@@ -180,7 +180,9 @@ fn serve<S: Source, K: Sink, C: Clock, H: Halt + Drop>(
     clock: &mut C,
     halt: H,
 ) -> Ended<H>
-    ensures serves { Passes (S.taken input.old) (S.taken input.new) (S.left input.old) (S.left input.new) (K.held output.old) (K.held output.new) (C.moments clock.old) (C.moments clock.new) (ServesStdio (plain_stdio stdio.now) result.status) }
+    ensures serves { Passes (record { taken = S.taken input.old; left = S.left input.old; held = K.held output.old; moments = C.moments clock.old })
+        (record { taken = S.taken input.new; left = S.left input.new; held = K.held output.new; moments = C.moments clock.new })
+        (ServesStdio (plain_stdio stdio.now) result.status) }
     ensures causes { HasLoneCauses
         (record {
           input = record { taken = S.taken input.old; left = S.left input.old; faults = S.faults input.old };
@@ -224,7 +226,9 @@ fn serve_by<S: Source, K: Sink, C: Clock, H: Halt + Drop>(
     halt: H,
 ) -> Ended<H>
     requires rule { rule.now.patterns ≡ plain_patterns stdio.now.names.patterns }
-    ensures serves { Passes (S.taken input.old) (S.taken input.new) (S.left input.old) (S.left input.new) (K.held output.old) (K.held output.new) (C.moments clock.old) (C.moments clock.new) (ServesStdio (plain_stdio stdio.now) result.status) }
+    ensures serves { Passes (record { taken = S.taken input.old; left = S.left input.old; held = K.held output.old; moments = C.moments clock.old })
+        (record { taken = S.taken input.new; left = S.left input.new; held = K.held output.new; moments = C.moments clock.new })
+        (ServesStdio (plain_stdio stdio.now) result.status) }
     ensures causes { HasLoneCauses
         (record {
           input = record { taken = S.taken input.old; left = S.left input.old; faults = S.faults input.old };

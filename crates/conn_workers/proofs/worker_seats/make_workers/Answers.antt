@@ -10,8 +10,8 @@ loop-number-init g c = record {
   idle = none_hold c.in_ok-workers.workers.items (λ worker. worker.ends.items ≡ []) c.in_ok-workers.ensures.items;
   begun = none_hold c.in_ok-workers.workers.items
       (λ worker.
-      WorkerServed (AllTell g.D.Inlet.Source.taken) (AllTell g.D.Outlet.Sink.held) g.J.ConnTerms.admission g.J.ConnTerms.moments (admission worker.work.config worker.work.rule.now.patterns) worker.work.names.rows
-      (g.C.Clock.moments worker.work.clock) (g.C.Clock.faults worker.work.clock) [])
+      WorkerServed (record { admission = g.J.ConnTerms.admission; moments = g.J.ConnTerms.moments; inlets_tell = AllTell g.D.Inlet.Source.taken; outlets_tell = AllTell g.D.Outlet.Sink.held }) (admission worker.work.config worker.work.rule.now.patterns) worker.work.names.rows
+      (record { moments = g.C.Clock.moments worker.work.clock; faults = g.C.Clock.faults worker.work.clock }) [])
       c.in_ok-workers.ensures.items;
   opened = search rules;
 }
@@ -22,13 +22,13 @@ loop-number-preserved g c = record {
   idle = one_more_holds c.loop-number.workers.items c.push.new.self.items c.make.result (λ worker. worker.ends.items ≡ []) c.in_ok-push.ensures.items c.loop-number.invariant.idle c.make.ensures.none;
   begun = one_more_holds c.loop-number.workers.items c.push.new.self.items c.make.result
       (λ worker.
-      WorkerServed (AllTell g.D.Inlet.Source.taken) (AllTell g.D.Outlet.Sink.held) g.J.ConnTerms.admission g.J.ConnTerms.moments (admission worker.work.config worker.work.rule.now.patterns) worker.work.names.rows
-      (g.C.Clock.moments worker.work.clock) (g.C.Clock.faults worker.work.clock) [])
+      WorkerServed (record { admission = g.J.ConnTerms.admission; moments = g.J.ConnTerms.moments; inlets_tell = AllTell g.D.Inlet.Source.taken; outlets_tell = AllTell g.D.Outlet.Sink.held }) (admission worker.work.config worker.work.rule.now.patterns) worker.work.names.rows
+      (record { moments = g.C.Clock.moments worker.work.clock; faults = g.C.Clock.faults worker.work.clock }) [])
       c.in_ok-push.ensures.items c.loop-number.invariant.begun
       (same_holds c.in_ok-work.work c.make.result.work
       (λ work.
-      WorkerServed (AllTell g.D.Inlet.Source.taken) (AllTell g.D.Outlet.Sink.held) g.J.ConnTerms.admission g.J.ConnTerms.moments (admission work.config work.rule.now.patterns) work.names.rows
-      (g.C.Clock.moments work.clock) (g.C.Clock.faults work.clock) [])
+      WorkerServed (record { admission = g.J.ConnTerms.admission; moments = g.J.ConnTerms.moments; inlets_tell = AllTell g.D.Inlet.Source.taken; outlets_tell = AllTell g.D.Outlet.Sink.held }) (admission work.config work.rule.now.patterns) work.names.rows
+      (record { moments = g.C.Clock.moments work.clock; faults = g.C.Clock.faults work.clock }) [])
       c.make.ensures.work c.in_ok-work.ensures.begun);
   opened = search rules;
 }

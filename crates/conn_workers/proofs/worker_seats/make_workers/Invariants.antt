@@ -9,8 +9,8 @@ invariant-loop-number g l = record {
   idle : All (λ worker. worker.ends.items ≡ []) l.workers.items;
   begun : All
       (λ worker.
-      WorkerServed (AllTell g.D.Inlet.Source.taken) (AllTell g.D.Outlet.Sink.held) g.J.ConnTerms.admission g.J.ConnTerms.moments (admission worker.work.config worker.work.rule.now.patterns) worker.work.names.rows
-      (g.C.Clock.moments worker.work.clock) (g.C.Clock.faults worker.work.clock) [])
+      WorkerServed (record { admission = g.J.ConnTerms.admission; moments = g.J.ConnTerms.moments; inlets_tell = AllTell g.D.Inlet.Source.taken; outlets_tell = AllTell g.D.Outlet.Sink.held }) (admission worker.work.config worker.work.rule.now.patterns) worker.work.names.rows
+      (record { moments = g.C.Clock.moments worker.work.clock; faults = g.C.Clock.faults worker.work.clock }) [])
       l.workers.items;
   opened : length l.openings ≡ length l.fn.openings + l.number;
 }

@@ -8,5 +8,5 @@ pub returns-clause-worked : goal.returns-clause-worked
 returns-clause-worked g c =
     let made = c.in_ok-rows_to.ensures in let t = c.take_compactors_back.ensures in let p = c.part.ensures in
     let items : length c.compact_beside.new.compactors.items ≡ vec_len c.compact_beside.new.compactors = search rules in
-    worked_by _ _ _ _ c.args.openings.now c.make_compactors.new.openings _ (seen_of (view_of_pass c.in_ok-served.served.pass)) c.of-own.result c.take_compactors_back.new.own (seen_of (view_of_pass c.part.result)) _ _ _ _ _ _ _ _ c.requires.nobody
+    worked_by _ c.args.openings.now c.make_compactors.new.openings _ (seen_of (view_of_pass c.in_ok-served.served.pass)) c.of-own.result c.take_compactors_back.new.own (seen_of (view_of_pass c.part.result)) _ _ _ _ _ _ c.requires.nobody
     made.opened (items ∙ c.compact_beside.ensures.len ∙ made.workers) c.of-own.ensures p.seen p.different t.clock_later (search rules) t.places

@@ -14,11 +14,11 @@ loop-worker-init g c =
       len = search rules;
       served = same_list_holds c.args.workers.items (into_iter_items c.into_iter-worker-iterator.result)
           (λ worker.
-          WorkerServed (AllTell g.D.Inlet.Source.taken) (AllTell g.D.Outlet.Sink.held) g.J.ConnTerms.admission g.J.ConnTerms.moments (admission worker.work.config worker.work.rule.now.patterns) worker.work.names.rows
-          (g.C.Clock.moments worker.work.clock) (g.C.Clock.faults worker.work.clock) (map (λ one. (g.D.Doors.shown one.0, one.1)) worker.ends.items))
+          WorkerServed (record { admission = g.J.ConnTerms.admission; moments = g.J.ConnTerms.moments; inlets_tell = AllTell g.D.Inlet.Source.taken; outlets_tell = AllTell g.D.Outlet.Sink.held }) (admission worker.work.config worker.work.rule.now.patterns) worker.work.names.rows
+          (record { moments = g.C.Clock.moments worker.work.clock; faults = g.C.Clock.faults worker.work.clock }) (map (λ one. (g.D.Doors.shown one.0, one.1)) worker.ends.items))
           items c.requires.served;
       few = same_list_counts c.args.workers.items (into_iter_items c.into_iter-worker-iterator.result) (λ worker. length worker.ends.items) _ items c.requires.few;
-      gathered = λ count back faults before. subst (λ n. Gathered (AllTell g.D.Inlet.Source.taken) (AllTell g.D.Outlet.Sink.held) g.J.ConnTerms.admission g.J.ConnTerms.moments c.args.own.now c.args.own.now.absorbed n back (g.D.Doors.back c.args.doors.now) faults (g.C.Clock.faults c.args.clock.now) c.args.ends.now.items) (none_more count) before;
+      gathered = λ count first before. subst (λ n. Gathered (record { admission = g.J.ConnTerms.admission; moments = g.J.ConnTerms.moments; inlets_tell = AllTell g.D.Inlet.Source.taken; outlets_tell = AllTell g.D.Outlet.Sink.held }) c.args.own.now c.args.own.now.absorbed n first (record { back = g.D.Doors.back c.args.doors.now; clock_faults = g.C.Clock.faults c.args.clock.now }) c.args.ends.now.items) (none_more count) before;
       later = extends_same _;
       made = made_same _;
       stays = λ number own. own;
@@ -34,8 +34,8 @@ pub take_back-all-requires-clause-served : goal.take_back-all-requires-clause-se
 take_back-all-requires-clause-served g c κs within =
     first_holds _ _ c.in-Some.worker
     (λ worker.
-    WorkerServed (AllTell g.D.Inlet.Source.taken) (AllTell g.D.Outlet.Sink.held) g.J.ConnTerms.admission g.J.ConnTerms.moments (admission worker.work.config worker.work.rule.now.patterns) worker.work.names.rows
-    (g.C.Clock.moments worker.work.clock) (g.C.Clock.faults worker.work.clock) (map (λ one. (g.D.Doors.shown one.0, one.1)) worker.ends.items))
+    WorkerServed (record { admission = g.J.ConnTerms.admission; moments = g.J.ConnTerms.moments; inlets_tell = AllTell g.D.Inlet.Source.taken; outlets_tell = AllTell g.D.Outlet.Sink.held }) (admission worker.work.config worker.work.rule.now.patterns) worker.work.names.rows
+    (record { moments = g.C.Clock.moments worker.work.clock; faults = g.C.Clock.faults worker.work.clock }) (map (λ one. (g.D.Doors.shown one.0, one.1)) worker.ends.items))
     c.in-Some.ensures.steps.0 c.loop-worker.invariant.served
 
 pub take_back-all-requires-clause-few : goal.take_back-all-requires-clause-few
@@ -53,12 +53,12 @@ loop-worker-preserved g c =
       len = search rules;
       served = others_hold _ _ c.in-Some.worker
           (λ worker.
-          WorkerServed (AllTell g.D.Inlet.Source.taken) (AllTell g.D.Outlet.Sink.held) g.J.ConnTerms.admission g.J.ConnTerms.moments (admission worker.work.config worker.work.rule.now.patterns) worker.work.names.rows
-          (g.C.Clock.moments worker.work.clock) (g.C.Clock.faults worker.work.clock) (map (λ one. (g.D.Doors.shown one.0, one.1)) worker.ends.items))
+          WorkerServed (record { admission = g.J.ConnTerms.admission; moments = g.J.ConnTerms.moments; inlets_tell = AllTell g.D.Inlet.Source.taken; outlets_tell = AllTell g.D.Outlet.Sink.held }) (admission worker.work.config worker.work.rule.now.patterns) worker.work.names.rows
+          (record { moments = g.C.Clock.moments worker.work.clock; faults = g.C.Clock.faults worker.work.clock }) (map (λ one. (g.D.Doors.shown one.0, one.1)) worker.ends.items))
           c.in-Some.ensures.steps.0 c.loop-worker.invariant.served;
       few = omega (arith, sum, c.loop-worker.invariant.few, e.returned.few);
-      gathered = λ count back faults before. subst (λ n. Gathered (AllTell g.D.Inlet.Source.taken) (AllTell g.D.Outlet.Sink.held) g.J.ConnTerms.admission g.J.ConnTerms.moments c.take_back-all.new.own c.take_back-all.new.own.absorbed n back (g.D.Doors.back c.take_back-all.new.doors) faults (g.C.Clock.faults c.take_back-all.new.clock) c.take_back-all.new.ends.items) (one_more_caller count c.loop-worker.yielded c.in-Some.worker)
-          (e.gathered (count + length c.loop-worker.yielded) back faults (c.loop-worker.invariant.gathered count back faults before));
+      gathered = λ count first before. subst (λ n. Gathered (record { admission = g.J.ConnTerms.admission; moments = g.J.ConnTerms.moments; inlets_tell = AllTell g.D.Inlet.Source.taken; outlets_tell = AllTell g.D.Outlet.Sink.held }) c.take_back-all.new.own c.take_back-all.new.own.absorbed n first (record { back = g.D.Doors.back c.take_back-all.new.doors; clock_faults = g.C.Clock.faults c.take_back-all.new.clock }) c.take_back-all.new.ends.items) (one_more_caller count c.loop-worker.yielded c.in-Some.worker)
+          (e.gathered (count + length c.loop-worker.yielded) first (c.loop-worker.invariant.gathered count first before));
       later = extends_more _ _ _ c.loop-worker.invariant.later e.later;
       made = made_more c.args.own.now c.loop-worker.own c.take_back-all.new.own e.later c.loop-worker.invariant.made e.made c.loop-worker.invariant.stays;
       stays = λ number own. e.stays number (c.loop-worker.invariant.stays number own);
@@ -71,9 +71,9 @@ loop-worker-preserved g c =
     }
 
 pub returns-clause-gathered : goal.returns-clause-gathered
-returns-clause-gathered g c = λ count back faults before.
+returns-clause-gathered g c = λ count first before.
     let none : length (into_iter_items c.loop-worker.worker-iterator) ≡ 0 = search rules in
     let parts : length c.args.workers.items ≡ length c.loop-worker.yielded + length (into_iter_items c.loop-worker.worker-iterator) = ap length c.loop-worker.invariant.whole ∙ length-append c.loop-worker.yielded _ in
     let all : length c.loop-worker.yielded ≡ length c.args.workers.items = omega (arith, none, parts) in
-    subst (λ n. Gathered (AllTell g.D.Inlet.Source.taken) (AllTell g.D.Outlet.Sink.held) g.J.ConnTerms.admission g.J.ConnTerms.moments c.loop-worker.own c.loop-worker.own.absorbed (count + n) back (g.D.Doors.back c.loop-worker.doors) faults (g.C.Clock.faults c.loop-worker.clock) c.loop-worker.ends.items) all
-    (c.loop-worker.invariant.gathered count back faults before)
+    subst (λ n. Gathered (record { admission = g.J.ConnTerms.admission; moments = g.J.ConnTerms.moments; inlets_tell = AllTell g.D.Inlet.Source.taken; outlets_tell = AllTell g.D.Outlet.Sink.held }) c.loop-worker.own c.loop-worker.own.absorbed (count + n) first (record { back = g.D.Doors.back c.loop-worker.doors; clock_faults = g.C.Clock.faults c.loop-worker.clock }) c.loop-worker.ends.items) all
+    (c.loop-worker.invariant.gathered count first before)

@@ -1,13 +1,12 @@
-use Rattle.std.proofs.Common.{◌≡◌, ◌≤◌, ◌+◌, ℕ, All, List, ◌++◌, Option, length, map}
+use Rattle.std.proofs.Common.{◌≡◌, ◌≤◌, ◌+◌, ℕ, All, ◌++◌, length, map}
 use Rattle.std.specs.List.{sum_by}
 use Rattle.std.specs.Vec.Iter.{into_iter_items, into_iter_len}
-use Rattle.tsd_doors.specs.Links.{Shut}
 use Rattle.cell_model.specs.Seen.{IsOwn}
 use Rattle.cell_model.specs.Deeds.{Extends}
 use Rattle.region_locks.specs.CallerViews.{MadeNoMore}
 use Rattle.point_put.specs.Admissions.{admission}
 use Rattle.conn_workers.specs.ServedLinks.{AllTell, WorkerServed}
-use Rattle.site_workers.specs.GatheredLinks.{Gathered, TakenBack}
+use Rattle.site_workers.specs.GatheredLinks.{Gathered, ReturnsTold, TakenBack}
 use Rattle.site_workers.proofs.worker_return.take_all_back.Given as goal
 
 abbrev pub invariant-loop-worker : goal.invariant-loop-worker
@@ -16,13 +15,13 @@ invariant-loop-worker g l = record {
   len : into_iter_len l.worker-iterator ≡ length (into_iter_items l.worker-iterator);
   served : All
       (λ worker.
-      WorkerServed (AllTell g.D.Inlet.Source.taken) (AllTell g.D.Outlet.Sink.held) g.J.ConnTerms.admission g.J.ConnTerms.moments (admission worker.work.config worker.work.rule.now.patterns) worker.work.names.rows
-      (g.C.Clock.moments worker.work.clock) (g.C.Clock.faults worker.work.clock) (map (λ one. (g.D.Doors.shown one.0, one.1)) worker.ends.items))
+      WorkerServed (record { admission = g.J.ConnTerms.admission; moments = g.J.ConnTerms.moments; inlets_tell = AllTell g.D.Inlet.Source.taken; outlets_tell = AllTell g.D.Outlet.Sink.held }) (admission worker.work.config worker.work.rule.now.patterns) worker.work.names.rows
+      (record { moments = g.C.Clock.moments worker.work.clock; faults = g.C.Clock.faults worker.work.clock }) (map (λ one. (g.D.Doors.shown one.0, one.1)) worker.ends.items))
       (into_iter_items l.worker-iterator);
   few : sum_by (λ worker. length worker.ends.items) (into_iter_items l.worker-iterator) ≤ (g.D.Doors.counts l.doors).out;
-  gathered : (count : ℕ) (back : Option (List Shut)) (faults : ℕ)
-      → Gathered (AllTell g.D.Inlet.Source.taken) (AllTell g.D.Outlet.Sink.held) g.J.ConnTerms.admission g.J.ConnTerms.moments l.fn.own l.fn.own.absorbed count back (g.D.Doors.back l.fn.doors) faults (g.C.Clock.faults l.fn.clock) l.fn.ends.items
-      → Gathered (AllTell g.D.Inlet.Source.taken) (AllTell g.D.Outlet.Sink.held) g.J.ConnTerms.admission g.J.ConnTerms.moments l.own l.own.absorbed (count + length l.yielded) back (g.D.Doors.back l.doors) faults (g.C.Clock.faults l.clock) l.ends.items;
+  gathered : (count : ℕ) (first : ReturnsTold)
+      → Gathered (record { admission = g.J.ConnTerms.admission; moments = g.J.ConnTerms.moments; inlets_tell = AllTell g.D.Inlet.Source.taken; outlets_tell = AllTell g.D.Outlet.Sink.held }) l.fn.own l.fn.own.absorbed count first (record { back = g.D.Doors.back l.fn.doors; clock_faults = g.C.Clock.faults l.fn.clock }) l.fn.ends.items
+      → Gathered (record { admission = g.J.ConnTerms.admission; moments = g.J.ConnTerms.moments; inlets_tell = AllTell g.D.Inlet.Source.taken; outlets_tell = AllTell g.D.Outlet.Sink.held }) l.own l.own.absorbed (count + length l.yielded) first (record { back = g.D.Doors.back l.doors; clock_faults = g.C.Clock.faults l.clock }) l.ends.items;
   later : Extends l.fn.own l.own;
   made : MadeNoMore l.fn.own l.own;
   stays : (number : ℕ) → IsOwn l.fn.own number → IsOwn l.own number;

@@ -22,4 +22,4 @@ returns-in-Ok-clause-served g c =
 pub returns-in-Err-clause-served : goal.returns-in-Err-clause-served
 returns-in-Err-clause-served g c =
     let s = g.S.Source in
-    none_alone c.args.widths (admission c.args.config.now c.args.rule.now.patterns) None (s.taken c.args.source.now) (s.left c.args.source.now) (g.K.Sink.held c.args.sink.now) (g.C.Clock.moments c.args.clock.now) _ refl
+    none_alone c.args.widths (admission c.args.config.now c.args.rule.now.patterns) None (record { taken = s.taken c.args.source.now; left = s.left c.args.source.now; held = g.K.Sink.held c.args.sink.now; moments = g.C.Clock.moments c.args.clock.now }) _ refl

@@ -12,9 +12,9 @@ invariant-loop-session g l =
     let held = g.K.Sink.held in
     let s = g.S.Source in
     record {
-      talks : MovesOn (admission l.config l.rule.patterns) (record { taken = s.taken l.fn.source; left = s.left l.fn.source; last = s.last l.fn.source; clock = record { moments = g.C.Clock.moments l.fn.clock; calls = g.C.Clock.calls l.fn.clock }; size = l.fn.input.taken })
+      talks : MovesOn (admission l.config l.rule.patterns) (record { source = record { taken = s.taken l.fn.source; left = s.left l.fn.source; last = s.last l.fn.source }; clock = record { moments = g.C.Clock.moments l.fn.clock; calls = g.C.Clock.calls l.fn.clock }; size = l.fn.input.taken })
           (record { seen = seen l.fn.names.rows; held = held l.fn.sink; queue = l.fn.queue; waiting = []; counts = no_counts }) (λ more. http_asks (l.fn.input.piece ++ more))
-          (record { taken = s.taken l.source; left = s.left l.source; last = s.last l.source; clock = record { moments = g.C.Clock.moments l.clock; calls = g.C.Clock.calls l.clock }; size = l.input.taken })
+          (record { source = record { taken = s.taken l.source; left = s.left l.source; last = s.last l.source }; clock = record { moments = g.C.Clock.moments l.clock; calls = g.C.Clock.calls l.clock }; size = l.input.taken })
           (record { seen = seen l.names.rows; held = held l.sink; queue = l.queue; waiting = l.session.replies; counts = l.session.counts }) (λ more. http_to_come l.calls (l.input.piece ++ more));
       quiet : l.session.replies ≡ [];
       most : l.input.taken ≤ 2 ^ 40;

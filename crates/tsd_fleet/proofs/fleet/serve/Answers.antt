@@ -1,4 +1,4 @@
-use Rattle.std.proofs.Common.{rules, ◌≡◌, ◌∙◌, ap, refl, sym, subst, arith}
+use Rattle.std.proofs.Common.{rules, ◌≡◌, ◌∙◌, ap, refl, sym, subst}
 use Rattle.row_key.specs.Made.{three}
 use Rattle.row_key.proofs.CallerLemmas.{has_three}
 use Rattle.cell_model.specs.Sound.{IsBase}
