@@ -33,7 +33,7 @@ PATH = [
     ("tsd_daemon", "ServedConns", "ConnTold Passes"),
     ("tsd_daemon", "ConnClocks", "Gave"),
     ("conn_workers", "ServedLinks", "ServedLink GaveSome AllTell"),
-    ("site_workers", "GatheredLinks", "CallerLinks links_of returned_by"),
+    ("worker_returns", "GatheredLinks", "CallerLinks links_of returned_by"),
     ("link_workers", "Returns", "AllEnd"),
     ("tsd_fleet", "FleetServes", "IsTally"),
     ("tsd_run", "Runs", "HasStatus"),

@@ -9,8 +9,8 @@ use Rattle.region_locks.specs.CallerViews.{numbers_of}
 use Rattle.tsd_daemon.specs.declared.served.Served.{Served}
 use Rattle.row_compactors.specs.Upkeep.{TakesPlaces}
 use Rattle.conn_workers.specs.ServedLinks.{ServingTerms}
-use Rattle.site_workers.specs.GatheredLinks.{Gathered, ReturnsTold, callers_of}
-use Rattle.site_workers.proofs.CallerLemmas.{gathered_later}
+use Rattle.worker_returns.specs.GatheredLinks.{Gathered, ReturnsTold, callers_of}
+use Rattle.worker_returns.proofs.CallerLemmas.{gathered_later}
 use Rattle.fleet_threads.specs.WorkedSites.{SiteWorked}
 use Rattle.fleet_threads.proofs.CallerLemmas.{own_number}
 

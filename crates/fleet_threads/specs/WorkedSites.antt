@@ -6,7 +6,7 @@ use Rattle.region_locks.specs.CallerViews.{numbers_of}
 use Rattle.tsd_daemon.specs.declared.served.Served.{Served}
 use Rattle.row_compactors.specs.Upkeep.{BroughtNothing}
 use Rattle.conn_workers.specs.ServedLinks.{ServingTerms}
-use Rattle.site_workers.specs.GatheredLinks.{Gathered, ReturnsTold, callers_of}
+use Rattle.worker_returns.specs.GatheredLinks.{Gathered, ReturnsTold, callers_of}
 
 -- Of the callers that opened, so many served connections, and the others brought nothing new. One caller has the places of all, and has seen this.
 pub record SiteWorked (terms : ServingTerms) (opened : List ℕ) (s : Seen) (before after : ReturnsTold) (ends : List Served) : Type 0 where

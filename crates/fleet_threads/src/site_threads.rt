@@ -4,7 +4,7 @@ ghost use Rattle.step_count.specs.Tokens.{view_of_pass};
 ghost use Rattle.region_locks.specs.CallerViews.{numbers_of, seen_of};
 ghost use Rattle.point_put.specs.Admissions.{admission};
 ghost use Rattle.conn_workers.specs.ServedLinks.{AllTell};
-ghost use Rattle.site_workers.specs.GatheredLinks.{Gathered};
+ghost use Rattle.worker_returns.specs.GatheredLinks.{Gathered};
 ghost use Rattle.site_workers.specs.ServedSites.{SiteLeft};
 ghost use Rattle.fleet_threads.specs.WorkedSites.{SiteWorked};
 

@@ -1,2 +1,1 @@
-mod GatheringLemmas
-pub mod CallerLemmas
+mod SiteLemmas

@@ -1,2 +1,1 @@
-pub mod GatheredLinks
 pub mod ServedSites

@@ -2,4 +2,3 @@
 #![tactic(auto)]
 
 pub mod site_service;
-mod worker_return;

@@ -5,10 +5,9 @@ ghost use Rattle.step_count.specs.Tokens.{counter_of_pass, view_of_pass};
 ghost use Rattle.region_locks.specs.CallerViews.{IsCaller, numbers_of, seen_of};
 ghost use Rattle.point_put.specs.Admissions.{admission};
 ghost use Rattle.conn_workers.specs.ServedLinks.{AllTell, WorkerServed};
-ghost use Rattle.site_workers.specs.GatheredLinks.{Gathered, TakenBack};
+ghost use Rattle.worker_returns.specs.GatheredLinks.{Gathered, TakenBack};
 ghost use Rattle.site_workers.specs.ServedSites.{SiteLeft};
 
-use crate::worker_return::take_all_back;
 use cell_store::{Openings, Site, SitePass};
 use compactor::queue::Queue;
 use conn_workers::conn_service::serve_rows;
@@ -32,6 +31,7 @@ use tsd_doors::doors::Doors;
 use tsd_hooks::UidRule;
 use tsd_io::clock::Clock;
 use tsd_io::halt::Halt;
+use worker_returns::worker_return::take_all_back;
 
 /// What is left where all workers of a site have ended.
 #[derive(Drop)]

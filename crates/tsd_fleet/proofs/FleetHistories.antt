@@ -20,8 +20,8 @@ use Rattle.row_compactors.specs.Upkeep.{brings_new}
 use Rattle.conn_workers.specs.ServedLinks.{IsWithin, OnlyServed, ServedInTurn, ServedLink, ServingTerms}
 use Rattle.conn_workers.specs.ServedLinks.ServedInTurn.{none_yet, then_served}
 use Rattle.link_workers.specs.Returns.{AllEnd}
-use Rattle.site_workers.specs.GatheredLinks.{CallerLinks, Gathered, GivenBack, callers_of, links_of}
-use Rattle.site_workers.proofs.CallerLemmas.{none_end}
+use Rattle.worker_returns.specs.GatheredLinks.{CallerLinks, Gathered, GivenBack, callers_of, links_of}
+use Rattle.worker_returns.proofs.CallerLemmas.{none_end}
 use Rattle.tsd_fleet.specs.Devices.{DoorsTold, FleetDevices, Terms, returns_told, served_by}
 use Rattle.fleet_threads.specs.WorkedSites.{SiteWorked}
 use Rattle.fleet_threads.proofs.CallerLemmas.{own_number}

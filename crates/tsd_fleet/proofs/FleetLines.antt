@@ -35,7 +35,7 @@ use Rattle.point_put.specs.Admissions.{Admission}
 use Rattle.tsd_daemon.specs.declared.served.Served.{Served}
 use Rattle.tsd_fleet.specs.declared.fleet_end.FleetEnd.{FleetEnd}
 use Rattle.tsd_fleet.specs.declared.fleet_end.FleetEnd.TheVariants as end
-use Rattle.site_workers.specs.GatheredLinks.{SiteCounts}
+use Rattle.site_workers.specs.ServedSites.{SiteCounts}
 use Rattle.tsd_fleet.specs.Devices.{DoorsTold, FleetDevices, NoneFalls, Terms, returns_told}
 use Rattle.fleet_threads.specs.WorkedSites.{SiteWorked}
 use Rattle.tsd_fleet.specs.FleetStands.{FleetStands}

@@ -3,7 +3,7 @@ use Rattle.std.specs.Prelude.{ℕ, ◌≤◌, List, Option}
 use Rattle.cell_model.specs.Store.{Store}
 use Rattle.point_put.specs.Admissions.{Admission}
 use Rattle.conn_workers.specs.ServedLinks.{ServingTerms}
-use Rattle.site_workers.specs.GatheredLinks.{ReturnsTold}
+use Rattle.worker_returns.specs.GatheredLinks.{ReturnsTold}
 pub use Rattle.conn_workers.specs.ServedLinks.{ClockTold}
 pub use Rattle.site_workers.specs.ServedSites.{DoorsTold}
 

@@ -8,7 +8,7 @@ use Rattle.step_count.specs.CounterRule.{AreDifferent}
 use Rattle.tsd_daemon.specs.declared.served.Served.{Served}
 use Rattle.row_compactors.specs.Upkeep.{brings_new}
 use Rattle.conn_workers.specs.ServedLinks.{IsWithin, ServedInTurn, ServingTerms}
-use Rattle.site_workers.specs.GatheredLinks.{AllInTurn, CallerLinks, GivenBack, callers_of, links_of}
+use Rattle.worker_returns.specs.GatheredLinks.{AllInTurn, CallerLinks, GivenBack, callers_of, links_of}
 use Rattle.tsd_fleet.specs.Devices.{FleetDevices, Terms, returns_told, served_by}
 
 -- one of these callers made the entry at this place within the lengths of a connection that it served

@@ -25,7 +25,7 @@ use Rattle.tsd_daemon.specs.TakenInTurn.InTurn.{none_yet, then_one}
 use Rattle.tsd_daemon.proofs.CallerLemmas.{one_id_each, served_headline}
 use Rattle.conn_workers.specs.ServedLinks.{LinkServed, OnlyServed, ServedInTurn, ServedLink, ServingTerms}
 use Rattle.conn_workers.specs.ServedLinks.ServedInTurn.{none_yet as none_served, then_served}
-use Rattle.site_workers.specs.GatheredLinks.{AllInTurn, CallerLinks}
+use Rattle.worker_returns.specs.GatheredLinks.{AllInTurn, CallerLinks}
 use Rattle.tsd_fleet.specs.Devices.{DoorsTold, served_by}
 use Rattle.tsd_fleet.specs.FleetServes.{IsTally, listening_line}
 use Rattle.tsd_fleet.specs.declared.fleet_end.FleetEnd.{FleetEnd}

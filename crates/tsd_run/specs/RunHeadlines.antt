@@ -15,7 +15,7 @@ use Rattle.tsd_daemon.specs.ServedConns.{Passes}
 use Rattle.tsd_daemon.specs.TakenInTurn.{InTurn}
 use Rattle.tsd_daemon.specs.Headline.{Headline, OneIdEach}
 use Rattle.conn_workers.specs.ServedLinks.{GaveSome, ServedLink}
-use Rattle.site_workers.specs.GatheredLinks.{CallerLinks, links_of}
+use Rattle.worker_returns.specs.GatheredLinks.{CallerLinks, links_of}
 use Rattle.tsd_fleet.specs.FleetServes.{IsTally}
 use Rattle.serve_job.specs.FleetRuns.{last_lines}
 use Rattle.batch_run.specs.declared.status.Status.{Status}

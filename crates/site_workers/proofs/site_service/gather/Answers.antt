@@ -3,8 +3,8 @@ use Rattle.std.specs.List.{sum_by}
 use Rattle.cell_model.specs.Deeds.{Extends}
 use Rattle.region_locks.specs.CallerViews.{MadeNoMore, numbers_of}
 use Rattle.conn_workers.specs.ServedLinks.{AllTell}
-use Rattle.site_workers.specs.GatheredLinks.{Gathered, ReturnsTold}
-use Rattle.site_workers.proofs.GatheringLemmas.{absorbed_own, extends_same, from_none, gathered_either, made_same, none_gathered, one_taken, own_new, taken_from_none}
+use Rattle.worker_returns.specs.GatheredLinks.{Gathered, ReturnsTold}
+use Rattle.worker_returns.proofs.CallerLemmas.{absorbed_own, extends_same, from_none, gathered_either, made_same, none_gathered, one_taken, own_new, taken_from_none}
 use Rattle.site_workers.proofs.site_service.gather.Goals as goal
 
 pub returns-clause-gathered : goal.returns-clause-gathered

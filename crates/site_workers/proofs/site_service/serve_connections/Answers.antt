@@ -4,8 +4,8 @@ use Rattle.step_count.specs.Tokens.{view_of_pass}
 use Rattle.region_locks.specs.CallerViews.{numbers_of, seen_of}
 use Rattle.point_put.specs.Admissions.{admission}
 use Rattle.conn_workers.specs.ServedLinks.{AllTell, WorkerServed}
-use Rattle.site_workers.specs.GatheredLinks.{Gathered}
-use Rattle.site_workers.proofs.GatheringLemmas.{callers_counted, counted_links, front_holds, last_holds, reasons}
+use Rattle.worker_returns.specs.GatheredLinks.{Gathered}
+use Rattle.site_workers.proofs.SiteLemmas.{callers_counted, counted_links, front_holds, last_holds, reasons}
 use Rattle.site_workers.proofs.site_service.serve_connections.Goals as goal
 
 pub serve_rows-accepted-requires-clause-idle : goal.serve_rows-accepted-requires-clause-idle

@@ -1,21 +1,18 @@
 -- Connections that are given back worker by worker.
 use Rattle.std.proofs.Common.{◌≡◌, ◌≢◌, ℕ, ◌+◌, ◌-◌, ◌^◌, ◌≤◌, Bool, true, false, ◌&&◌, List, [], ◌∷◌, ◌++◌, length, ◌⊎◌, inl, inr, ⊎_elim, refl, sym, subst, ap, ◌∙◌, append_assoc, append-nil, length-append, arith}
 use Rattle.std.specs.List.{sum_by}
-use Rattle.std.specs.Prelude.{Option, None, Some, Result, Ok, Err, IfOk, IfSome, OnErr, is_ok, option_to_list, min, filter, All, Contains, map}
+use Rattle.std.specs.Prelude.{Option, None, Some, Result, Ok, Err, IfOk, OnErr, is_ok, min, filter, All, Contains, map}
 use Rattle.std.proofs.lemmas.Bool.{true≢false}
-use Rattle.std.proofs.lemmas.List.Elements.{All-head, All-nil, All-pop, All-push, All-tail, Contains-append_cases, Contains-append_left, Contains-append_right, filter-append}
+use Rattle.std.proofs.lemmas.List.Elements.{All-head, All-nil, All-push, All-tail, Contains-append_cases, Contains-append_left, Contains-append_right, filter-append}
 use Rattle.std.proofs.lemmas.List.Sums.{sum_by-cons, sum_by_push}
 use Rattle.std.proofs.lemmas.Grind.{flat_map-append}
 use mathlib.Core.List.{map-append, map-map}
 use lib.ListN.{length-map}
 use Rattle.list_lemmas.proofs.ListMembers.{here, there, in_map, not_in, pairs_in, pairs_tail, split}
 use Rattle.list_lemmas.proofs.ListParts.{length_push, pairs_front, pairs_push}
-use Rattle.tsd_io.specs.Causes.{Rose, joined}
+use Rattle.tsd_io.specs.Causes.{joined}
 use Rattle.tsd_doors.specs.Links.{Counts, Shut}
-use Rattle.link_acceptor.specs.declared.accept_loop.AcceptEnd.{AcceptEnd}
-use Rattle.link_acceptor.specs.declared.accept_loop.AcceptEnd.TheVariants as accept_end
-use Rattle.link_acceptor.specs.Accepting.{HasReason, IsNoneLeft, links_between, lost_by}
-use Rattle.link_workers.specs.Returns.{AccountsFor, AllEnd, many_returned}
+use Rattle.link_workers.specs.Returns.{AllEnd, many_returned}
 use Rattle.cell_model.specs.declared.events.Entry.{Entry}
 use Rattle.cell_model.specs.History.{History, entry_at}
 use Rattle.cell_model.specs.Seen.{Seen, Fits, InEach, IsOwn}
@@ -26,7 +23,7 @@ use Rattle.region_locks.specs.CallerViews.{MadeNoMore, numbers_of}
 use Rattle.point_put.specs.Admissions.{Admission}
 use Rattle.tsd_daemon.specs.declared.served.Served.{Served}
 use Rattle.conn_workers.specs.ServedLinks.{ClockTold, OnlyServed, ServedLink, ServingTerms, WorkerServed, clock_fault_count, is_clock_fault}
-use Rattle.site_workers.specs.GatheredLinks.{CallerLinks, Gathered, GivenBack, ReturnsTold, SiteCounts, TakenBack, callers_of, links_of, returned_by}
+use Rattle.worker_returns.specs.GatheredLinks.{CallerLinks, Gathered, GivenBack, ReturnsTold, TakenBack, callers_of, links_of, returned_by}
 
 -- a list that is told, and then more
 ends_more : (a b c : Option (List Shut)) (xs ys : List Shut) → AllEnd a b xs → AllEnd b c ys → AllEnd a c (xs ++ ys)
@@ -222,9 +219,6 @@ from_none n = omega arith
 pub one_more_caller : {X : Type 0} (count : ℕ) (xs : List X) (x : X) → count + length xs + 1 ≡ count + length (xs ++ x ∷ [])
 one_more_caller count xs x = let one = length_push xs x in omega (arith, one)
 
-pub callers_counted : (old now all workers front left : ℕ) → now ≡ old + all → workers ≡ all → workers ≡ front + 1 → left ≡ front → now ≡ old + (left + 1)
-callers_counted old now all workers front left more whole popped same = omega (arith, more, whole, popped, same)
-
 -- none was to be given back
 pub none_taken : (ends : ℕ) (counts : Counts) → TakenBack true 0 ends ends counts counts
 none_taken ends counts = record { port = refl; accepted = refl; few = omega arith; told = refl; each = λ all. omega arith }
@@ -274,13 +268,6 @@ first_holds xs rest x P are all = All-head P x rest (subst (All P) are all)
 pub others_hold : {X : Type 0} (xs rest : List X) (x : X) (P : X → Type 0) → xs ≡ x ∷ rest → All P xs → All P rest
 others_hold xs rest x P are all = All-tail P x rest (subst (All P) are all)
 
--- those in front of the last, and the last
-pub front_holds : {X : Type 0} (xs front : List X) (r : Option X) (P : X → Type 0) → xs ≡ front ++ option_to_list r → All P xs → All P front
-front_holds xs front r P are all = (All-pop P xs front r are all).0
-
-pub last_holds : {X : Type 0} (xs front : List X) (r : Option X) (x : X) (P : X → Type 0) → xs ≡ front ++ option_to_list r → r ≡ Some x → All P xs → P x
-last_holds {X = X} xs front r x P are is all = subst (λ (o : Option X). IfSome o P) is (All-pop P xs front r are all).1
-
 -- the same list
 pub same_list_holds : {X : Type 0} (xs ys : List X) (P : X → Type 0) → ys ≡ xs → All P xs → All P ys
 same_list_holds xs ys P same all = subst (All P) (sym same) all
@@ -319,53 +306,3 @@ extends_more s t u first then_ = record {
 -- some were taken back where no end was told before, and then more
 pub taken_from_none : (a b : Bool) (k j e e1 e2 : ℕ) (x y z : Counts) → e ≡ 0 → TakenBack a k e e1 x y → TakenBack b j e1 e2 y z → TakenBack (a && b) (k + j) 0 e2 x z
 taken_from_none a b k j e e1 e2 x y z none first then_ = more_taken a b k j 0 e1 e2 x y z (subst (λ (n : ℕ). TakenBack a k n e1 x y) none first) then_
-
--- ---- a site's connections
-
-lost : (end : AcceptEnd) → end ≡ accept_end.OutOfMemory → lost_by end ≡ 0 → ⊥
-lost end is none = let one : lost_by end ≡ 1 = ap lost_by is in omega (arith, one, none)
-
-pub counted_links : (all : Bool) (end end' : AcceptEnd) (links ends k : ℕ) (x y z : Counts) → ((all ≡ true) × (end' ≡ end)) ⊎ (end' ≡ accept_end.OutOfMemory) → links ≡ links_between x y → AccountsFor end x y k → TakenBack all k 0 ends y z → SiteCounts end' links ends x z
-counted_links all end end' links ends k x y z how are a t = record {
-  port = t.port ∙ a.port;
-  links_are = are ∙ between a.returned t.accepted;
-  returned = returned a.returned t.told;
-  all = λ none. every how none;
-}
-  where
-    between : y.returned ≡ x.returned → z.returned + z.out ≡ y.returned + y.out → links_between x y ≡ min ((z.returned + z.out) - (x.returned + x.out)) (2 ^ 64 - 1)
-    between r o = let same : y.out - x.out ≡ (z.returned + z.out) - (x.returned + x.out) = omega (arith, r, o) in ap (λ n. min n (2 ^ 64 - 1)) same
-
-    returned : y.returned ≡ x.returned → ends + y.returned ≡ 0 + z.returned → z.returned ≡ x.returned + ends
-    returned r told = omega (arith, r, told)
-
-    sum : y.returned ≡ x.returned → y.out ≡ x.out + k → z.returned + z.out ≡ y.returned + y.out → ends + y.returned ≡ 0 + z.returned → z.returned ≡ y.returned + k → z.returned + z.out ≡ x.returned + x.out + ends
-    sum r o acc told each = omega (arith, r, o, acc, told, each)
-
-    every : ((all ≡ true) × (end' ≡ end)) ⊎ (end' ≡ accept_end.OutOfMemory) → lost_by end' ≡ 0 → z.returned + z.out ≡ x.returned + x.out + ends
-    every (inl both) none = sum a.returned (a.each (sym (ap lost_by both.1) ∙ none)) t.accepted t.told (t.each both.0)
-    every (inr out) none = absurd (lost end' out none)
-
--- an end that was given up for want of memory has no other reason
-pub reasons : (all : Bool) (end end' : AcceptEnd) (w w' w'' : Option (List (List ℕ))) (s s' f f' f'' : ℕ) → ((all ≡ true) × (end' ≡ end)) ⊎ (end' ≡ accept_end.OutOfMemory) → w'' ≡ w' → f'' ≡ f' → HasReason end w w' s s' f f' → HasReason end' w w'' s s' f f''
-reasons all end end' w w' w'' s s' f f' f'' (inl both) ws fs r = record {
-  none = λ is. subst (IsNoneLeft w) (sym ws) (r.none (sym both.1 ∙ is));
-  stopped = λ is. r.stopped (sym both.1 ∙ is);
-  heeded = λ no_stop enough. r.heeded (λ is. no_stop (both.1 ∙ is)) (λ is. enough (both.1 ∙ is));
-  fault = λ is. subst (Rose f) (sym fs) (r.fault (sym both.1 ∙ is));
-}
-reasons all end end' w w' w'' s s' f f' f'' (inr out) ws fs r = record {
-  none = λ is. absurd (other (sym is ∙ out));
-  stopped = λ is. absurd (other_stop (sym is ∙ out));
-  heeded = λ no_stop enough. absurd (enough out);
-  fault = λ is. absurd (other_fault (sym is ∙ out));
-}
-  where
-    other : accept_end.NoneLeft ≡ accept_end.OutOfMemory → ⊥
-    other is = let one : 0 ≡ 1 = ap lost_by is in omega (arith, one)
-
-    other_stop : accept_end.Stopped ≡ accept_end.OutOfMemory → ⊥
-    other_stop is = let one : 0 ≡ 1 = ap lost_by is in omega (arith, one)
-
-    other_fault : accept_end.DoorFault ≡ accept_end.OutOfMemory → ⊥
-    other_fault is = let one : 0 ≡ 1 = ap lost_by is in omega (arith, one)

@@ -1,8 +1,6 @@
 -- What the workers of one site served, caller by caller, and what their connections were given back as.
 use Rattle.std.specs.Prelude.{◌≡◌, Bool, true, cond, ℕ, ◌+◌, ◌-◌, ◌^◌, ◌≤◌, min, All, Contains, List, [], length, map, flat_map, Option, Some}
-use Rattle.tsd_doors.specs.Links.{Counts, Shut, accepted}
-use Rattle.link_acceptor.specs.declared.accept_loop.AcceptEnd.{AcceptEnd}
-use Rattle.link_acceptor.specs.Accepting.{lost_by}
+use Rattle.tsd_doors.specs.Links.{Counts, Shut}
 use Rattle.link_workers.specs.Returns.{AllEnd}
 use Rattle.cell_model.specs.declared.events.Entry.{Entry}
 use Rattle.cell_model.specs.History.{History, entry_at}
@@ -67,10 +65,3 @@ pub record TakenBack (all : Bool) (count ends ends' : ℕ) (before now : Counts)
   pub few : before.out ≤ now.out + count
   pub told : ends' + before.returned ≡ ends + now.returned
   pub each : all ≡ true → now.returned ≡ before.returned + count
-
--- So many connections were accepted, up to the last u64. As many were given back as there are ends, and unless memory ran out these were all.
-pub record SiteCounts (end : AcceptEnd) (links ends : ℕ) (before now : Counts) : Type 0 where
-  pub port : now.port ≡ before.port
-  pub links_are : links ≡ min (accepted now - accepted before) (2 ^ 64 - 1)
-  pub returned : now.returned ≡ before.returned + ends
-  pub all : lost_by end ≡ 0 → accepted now ≡ accepted before + ends

@@ -6,8 +6,8 @@ use Rattle.cell_model.specs.Deeds.{Extends}
 use Rattle.region_locks.specs.CallerViews.{MadeNoMore}
 use Rattle.point_put.specs.Admissions.{admission}
 use Rattle.conn_workers.specs.ServedLinks.{AllTell, WorkerServed}
-use Rattle.site_workers.specs.GatheredLinks.{Gathered, ReturnsTold, TakenBack}
-use Rattle.site_workers.proofs.worker_return.take_all_back.Given as goal
+use Rattle.worker_returns.specs.GatheredLinks.{Gathered, ReturnsTold, TakenBack}
+use Rattle.worker_returns.proofs.worker_return.take_all_back.Given as goal
 
 abbrev pub invariant-loop-worker : goal.invariant-loop-worker
 invariant-loop-worker g l = record {

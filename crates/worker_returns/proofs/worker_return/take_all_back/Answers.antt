@@ -2,9 +2,9 @@ use Rattle.std.proofs.Common.{rules, ◌≡◌, ◌+◌, ◌∙◌, subst, ◌++
 use Rattle.std.specs.Vec.Iter.{into_iter_items}
 use Rattle.point_put.specs.Admissions.{admission}
 use Rattle.conn_workers.specs.ServedLinks.{AllTell, WorkerServed}
-use Rattle.site_workers.specs.GatheredLinks.{Gathered}
-use Rattle.site_workers.proofs.GatheringLemmas.{extends_more, extends_same, first_counted, first_holds, made_more, made_same, more_taken_as, none_more, none_taken, one_more_caller, one_more_counted, others_hold, same_list_counts, same_list_holds}
-use Rattle.site_workers.proofs.worker_return.take_all_back.Goals as goal
+use Rattle.worker_returns.specs.GatheredLinks.{Gathered}
+use Rattle.worker_returns.proofs.GatheringLemmas.{extends_more, extends_same, first_counted, first_holds, made_more, made_same, more_taken_as, none_more, none_taken, one_more_caller, one_more_counted, others_hold, same_list_counts, same_list_holds}
+use Rattle.worker_returns.proofs.worker_return.take_all_back.Goals as goal
 
 pub loop-worker-init : goal.loop-worker-init
 loop-worker-init g c =

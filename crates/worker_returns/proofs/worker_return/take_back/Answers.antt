@@ -1,5 +1,5 @@
-use Rattle.site_workers.proofs.GatheringLemmas.{absorbed_new, absorbed_own, gathered_either, one_taken, own_stays}
-use Rattle.site_workers.proofs.worker_return.take_back.Goals as goal
+use Rattle.worker_returns.proofs.GatheringLemmas.{absorbed_new, absorbed_own, gathered_either, one_taken, own_stays}
+use Rattle.worker_returns.proofs.worker_return.take_back.Goals as goal
 
 pub returns-clause-gathered : goal.returns-clause-gathered
 returns-clause-gathered g c = λ count first before.

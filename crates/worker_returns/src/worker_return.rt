@@ -8,7 +8,7 @@ ghost use Rattle.step_count.specs.CounterRule.{AreDifferent};
 ghost use Rattle.region_locks.specs.CallerViews.{MadeNoMore, numbers_of};
 ghost use Rattle.point_put.specs.Admissions.{admission};
 ghost use Rattle.conn_workers.specs.ServedLinks.{AllTell, WorkerServed};
-ghost use Rattle.site_workers.specs.GatheredLinks.{Gathered, ReturnsTold, TakenBack};
+ghost use Rattle.worker_returns.specs.GatheredLinks.{Gathered, ReturnsTold, TakenBack};
 
 use cell_store::SitePass;
 use conn_workers::conn_terms::ConnTerms;
@@ -25,14 +25,7 @@ use tsd_io::clock::Clock;
 /// Takes a worker's place and its clock back, gives its connections back to the doors and adds their ends to those of the workers before it.
 ///
 /// False says that there was no memory for their ends. Then none of its connections was given back, and yet they were served.
-pub(crate) fn take_back<
-    'a,
-    J: StepNames + ConnTerms,
-    G: Gate + Drop,
-    T: Wait,
-    C: Clock + Drop,
-    D: Doors,
->(
+fn take_back<'a, J: StepNames + ConnTerms, G: Gate + Drop, T: Wait, C: Clock + Drop, D: Doors>(
     own: &mut SitePass<'a, J, G, T>,
     clock: &mut C,
     doors: &mut D,
@@ -68,7 +61,7 @@ pub(crate) fn take_back<
 }
 
 /// Takes all workers back, in order. False says that there was no memory for the ends of one. Then none of its connections was given back.
-pub(crate) fn take_all_back<
+pub fn take_all_back<
     'a,
     J: StepNames + ConnTerms,
     G: Gate + Drop,

@@ -1,0 +1,2 @@
+mod GatheringLemmas
+pub mod CallerLemmas
